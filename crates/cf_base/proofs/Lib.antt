@@ -1,0 +1,10 @@
+pub mod DigitLaws
+pub mod FirstLaws
+pub mod LineLaws
+pub mod TextParts
+pub mod TokenLaws
+mod Capped
+mod Marks
+mod Rounding
+mod Rows
+mod Sizes

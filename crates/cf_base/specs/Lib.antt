@@ -1,0 +1,13 @@
+pub mod Count
+pub mod Digits
+pub mod Events
+pub mod Fail
+pub mod FileId
+pub mod Fixed
+pub mod Lines
+pub mod Padded
+pub mod Rgb
+pub mod Sink
+pub mod Text
+pub mod Timing
+pub mod Tokens

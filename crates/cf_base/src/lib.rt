@@ -1,0 +1,34 @@
+//! The types that the crates of the conform station share: texts, numbers, timing, edit lists, lines and tokens of a
+//! text, names of files, and the sink that takes output.
+#![tactic(auto)]
+
+mod digits;
+mod event;
+mod fail;
+mod file;
+mod fixed;
+mod inline;
+mod key;
+mod lines;
+mod pixel;
+mod reel;
+mod sink;
+#[cfg(test)]
+mod tests;
+mod text;
+mod timing;
+mod tokens;
+
+pub use digits::{frame_file_name, last_digits};
+pub use event::{EventList, EventRec, EventRows, Transition};
+pub use fail::{Fail, Never};
+pub use file::{FileId, is_same_file};
+pub use fixed::{Fixed, FixedFault, read_fixed};
+pub use key::Key;
+pub use lines::{LineSpan, Span, line_at, lines_in_turn};
+pub use pixel::Rgb;
+pub use reel::{ReelEntry, ReelRows};
+pub use sink::{MemorySink, Put, Sink, StreamSink};
+pub use text::{Name, PathText, TitleText};
+pub use timing::{FrameNo, Mode, Rate, day};
+pub use tokens::{TokenSpan, is_blank, token_from};
