@@ -1,0 +1,4 @@
+pub mod Files
+pub mod Heads
+mod Lookup
+mod Rows

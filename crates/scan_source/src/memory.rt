@@ -1,0 +1,117 @@
+//! Source files in memory.
+ghost use Rattle.std.specs.Prelude.{◌≡◌, ◌≤◌, ◌↔◌, Some, None, IsTrue, IsFalse, MatchOption, Contains, map, refl};
+ghost use Rattle.cf_base.specs.Count.{HasRisen};
+ghost use Rattle.scan_source.specs.Plan.{one_more};
+ghost use Rattle.scan_source.specs.World.{world_of, file_at};
+
+use crate::{Head, Loaded, Scans, head_of};
+use cf_base::PathText;
+
+/// Files in memory, which the scan tells. Chosen calls fail. A look-up goes through the files in their order.
+#[derive(Drop)]
+pub struct MemoryScans {
+    files: Vec<(PathText, Vec<u8>)>,
+    fails: Vec<u64>,
+    calls: u64,
+    faults: u64,
+    loads: u64,
+    heads: u64,
+}
+
+impl MemoryScans {
+    /// The files by path, of which the first of two equal paths counts. Calls of both kinds are numbered together from
+    /// 1, and those whose numbers are in `fails` fail. Takes no memory.
+    pub fn new(files: Vec<(PathText, Vec<u8>)>, fails: Vec<u64>) -> Self
+        ensures world { ⟦<MemoryScans as Scans>⟧.world result ≡ Some (world_of (map (λ f. (f.0, f.1.items)) files.items)) }
+        ensures plan { ⟦<MemoryScans as Scans>⟧.plan result ≡ Some (record { calls = 0; fails = fails.items }) }
+        ensures faults { ⟦<MemoryScans as Scans>⟧.faults result ≡ 0 }
+        ensures loads { ⟦<MemoryScans as Scans>⟧.loads result ≡ 0 }
+        ensures heads { ⟦<MemoryScans as Scans>⟧.heads result ≡ 0 }
+    {
+        MemoryScans {
+            files,
+            fails,
+            calls: 0,
+            faults: 0,
+            loads: 0,
+            heads: 0,
+        }
+    }
+
+    /// Whether this call is one that fails. It counts the call, and the fault.
+    fn fails_now(&mut self) -> bool
+        ensures planned { IsTrue result ↔ Contains self.old.fails.items (one_more self.old.calls) }
+        ensures changed { self.new ≡ record self.old { calls = one_more self.old.calls; faults = self.new.faults } }
+        ensures failed { IsTrue result → HasRisen self.old.faults self.new.faults }
+        ensures steady { IsFalse result → self.new.faults ≡ self.old.faults }
+        ensures later { self.old.faults ≤ self.new.faults }
+    {
+        self.calls = self.calls.saturating_add(1);
+        let fails = self.fails.contains(&self.calls);
+        if fails {
+            self.faults = self.faults.saturating_add(1);
+        }
+        fails
+    }
+}
+
+/// The bytes of the first file with this path.
+fn bytes_at<'a>(files: &'a [(PathText, Vec<u8>)], path: &PathText) -> Option<&'a [u8]>
+    ensures { MatchOption result
+        (file_at (world_of (map (λ f. (f.0, f.1.items)) files.now)) path.now ≡ None)
+        (λ bytes. file_at (world_of (map (λ f. (f.0, f.1.items)) files.now)) path.now ≡ Some bytes.now) }
+{
+    for file in files {
+        if path.bytes() == file.0.bytes() {
+            return Some(file.1.as_slice());
+        }
+    }
+    None
+}
+
+impl Scans for MemoryScans {
+    ghost world = { λ scan. Some (world_of (map (λ f. (f.0, f.1.items)) scan.files.items)) };
+
+    ghost faults = { λ scan. scan.faults };
+
+    ghost loads = { λ scan. scan.loads };
+
+    ghost heads = { λ scan. scan.heads };
+
+    ghost plan = { λ scan. Some (record { calls = scan.calls; fails = scan.fails.items }) };
+
+    fn load(&mut self, path: &PathText, most: u64, into: &mut Vec<u8>) -> Loaded {
+        into.clear();
+        self.loads = self.loads.saturating_add(1);
+        if self.fails_now() {
+            return Loaded::Failed;
+        }
+        let Some(bytes) = bytes_at(&self.files, path) else {
+            return Loaded::Absent;
+        };
+        let len = bytes.len() as u64;
+        let front = &bytes[..len.min(most) as usize];
+        match into.extend_from_slice(front) {
+            Ok(()) => Loaded::Got { len },
+            Err(_) => Loaded::NoMemory,
+        }
+    }
+
+    fn head(&mut self, path: &PathText, into: &mut [u8; 2048]) -> Head {
+        self.heads = self.heads.saturating_add(1);
+        if self.fails_now() {
+            return Head::Failed;
+        }
+        let Some(bytes) = bytes_at(&self.files, path) else {
+            return Head::Absent;
+        };
+        *into = head_of(bytes);
+        Head::Found {
+            len: bytes.len() as u64,
+        }
+    }
+
+    ghost same_refl = { λ _. tt };
+
+    ghost same_trans = { λ _ _ _ _ _. tt };
+}

@@ -1,0 +1,191 @@
+//! Source files of the file system.
+ghost use Rattle.std.specs.Prelude.{◌≡◌, ◌≤◌, [], None, IfOk, IfSome, length, min, vec_len, refl};
+
+use crate::{Head, Loaded, Scans};
+use cf_base::PathText;
+use std::fs::{self, OpenFile};
+use std::io::{ErrorKind, Read};
+use std::rt::Files;
+use std::str;
+
+/// How many bytes of a file are read at once.
+const PIECE: usize = 65536;
+
+/// Files by paths that start at the current folder. The scan tells nothing. It counts each error of the system other
+/// than "not found": a folder in a file's place, a path through a file, a file that can't be read.
+#[derive(Drop)]
+pub struct FileScans<R: Files> {
+    rt: R,
+    faults: u64,
+    loads: u64,
+    heads: u64,
+}
+
+impl<R: Files + Drop> FileScans<R> {
+    /// Over the runtime that it is given, which it keeps. Takes no memory.
+    pub fn new(rt: R) -> Self
+        ensures world { ⟦<FileScans<R> as Scans>⟧.world result ≡ None }
+        ensures plan { ⟦<FileScans<R> as Scans>⟧.plan result ≡ None }
+        ensures faults { ⟦<FileScans<R> as Scans>⟧.faults result ≡ 0 }
+        ensures loads { ⟦<FileScans<R> as Scans>⟧.loads result ≡ 0 }
+        ensures heads { ⟦<FileScans<R> as Scans>⟧.heads result ≡ 0 }
+    {
+        FileScans {
+            rt,
+            faults: 0,
+            loads: 0,
+            heads: 0,
+        }
+    }
+}
+
+impl<R: Files + Drop> Scans for FileScans<R> {
+    ghost world = { λ _. None };
+
+    ghost faults = { λ scan. scan.faults };
+
+    ghost loads = { λ scan. scan.loads };
+
+    ghost heads = { λ scan. scan.heads };
+
+    fn load(&mut self, path: &PathText, most: u64, into: &mut Vec<u8>) -> Loaded {
+        self.loads = self.loads.saturating_add(1);
+        into.clear();
+        let trouble = match load_file(&self.rt, path, most, into) {
+            Ok(len) => return Loaded::Got { len },
+            Err(trouble) => trouble,
+        };
+        into.clear();
+        match trouble {
+            Trouble::Absent => Loaded::Absent,
+            Trouble::NoMemory => Loaded::NoMemory,
+            Trouble::Failed => {
+                self.faults = self.faults.saturating_add(1);
+                Loaded::Failed
+            }
+        }
+    }
+
+    fn head(&mut self, path: &PathText, into: &mut [u8; 2048]) -> Head {
+        self.heads = self.heads.saturating_add(1);
+        match load_head(&self.rt, path, into) {
+            Ok(len) => Head::Found { len },
+            Err(Trouble::Absent) => Head::Absent,
+            Err(_) => {
+                self.faults = self.faults.saturating_add(1);
+                Head::Failed
+            }
+        }
+    }
+
+    ghost same_refl = { λ _. tt };
+
+    ghost same_trans = { λ _ _ _ _ _. tt };
+}
+
+/// Why a file wasn't read.
+#[derive(Clone, Copy)]
+enum Trouble {
+    Absent,
+    Failed,
+    NoMemory,
+}
+
+/// Reads the first `most` bytes, and tells the file's length. After an error `into` has some of them.
+fn load_file<R: Files>(
+    rt: &R,
+    path: &PathText,
+    most: u64,
+    into: &mut Vec<u8>,
+) -> Result<u64, Trouble>
+    requires { into.old.items ≡ [] }
+    ensures { IfOk result (λ len. vec_len into.new ≡ min len most) }
+{
+    let (mut file, len) = open(rt, path)?;
+    if into.reserve(len.min(most) as usize).is_err() {
+        return Err(Trouble::NoMemory);
+    }
+    read_front(&mut file, most, into)?;
+    let read = into.len() as u64;
+    if read < most {
+        Ok(read)
+    } else {
+        Ok(len.max(most))
+    }
+}
+
+/// Reads the first 2048 bytes, with zeros behind them, and tells the file's length.
+fn load_head<R: Files>(rt: &R, path: &PathText, into: &mut [u8; 2048]) -> Result<u64, Trouble> {
+    let (mut file, len) = open(rt, path)?;
+    *into = [0; 2048];
+    let read = fill(&mut file, into)?;
+    if read < into.len() {
+        Ok(read as u64)
+    } else {
+        Ok(len.max(read as u64))
+    }
+}
+
+/// The file at a path, and its length as the system tells it.
+fn open<R: Files>(rt: &R, path: &PathText) -> Result<(R::File, u64), Trouble> {
+    let Ok(text) = str::from_utf8(path.bytes()) else {
+        return Err(Trouble::Failed);
+    };
+    let file = match fs::open(rt, text) {
+        Ok(file) => file,
+        Err(error) if error.kind() == ErrorKind::NotFound => return Err(Trouble::Absent),
+        Err(_) => return Err(Trouble::Failed),
+    };
+    match file.metadata() {
+        Ok(metadata) => Ok((file, metadata.len())),
+        Err(_) => Err(Trouble::Failed),
+    }
+}
+
+/// Appends what is left of the file, up to `most` bytes in all.
+fn read_front<F: Read>(file: &mut F, most: u64, into: &mut Vec<u8>) -> Result<(), Trouble>
+    requires { vec_len into.old ≤ most }
+    ensures { vec_len into.new ≤ most }
+{
+    let mut piece = [0; PIECE];
+    while (into.len() as u64) < most {
+        let wanted = (most - into.len() as u64).min(PIECE as u64) as usize;
+        let count = fill(file, &mut piece[..wanted])?;
+        if into.extend_from_slice(&piece[..count]).is_err() {
+            return Err(Trouble::NoMemory);
+        }
+        if count < wanted {
+            break;
+        }
+    }
+    Ok(())
+}
+
+/// Reads until the buffer is full or the file ends, and tells how many bytes came.
+fn fill<F: Read>(file: &mut F, into: &mut [u8]) -> Result<usize, Trouble>
+    ensures { IfOk result (λ count. count ≤ length into.new) }
+{
+    let mut filled = 0;
+    while filled < into.len() {
+        let count = read_some(file, &mut into[filled..])?;
+        if count == 0 {
+            break;
+        }
+        filled += count;
+    }
+    Ok(filled)
+}
+
+/// One read, which is tried again where it is interrupted.
+fn read_some<F: Read>(file: &mut F, into: &mut [u8]) -> Result<usize, Trouble>
+    ensures { IfOk result (λ count. count ≤ length into.new) }
+{
+    for _ in 0..u64::MAX {
+        match file.read(into) {
+            Ok(count) => return Ok(count),
+            Err(error) if error.kind() == ErrorKind::Interrupted => {}
+            Err(_) => return Err(Trouble::Failed),
+        }
+    }
+    Err(Trouble::Failed)
+}
