@@ -1,0 +1,5 @@
+mod Choice
+pub mod Header
+pub mod ReadBack
+mod Rows
+mod Table

@@ -1,0 +1,3 @@
+pub mod Front
+mod Lines
+mod Rows
