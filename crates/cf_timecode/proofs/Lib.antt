@@ -1,0 +1,5 @@
+pub mod Laws
+pub mod Parsed
+pub mod Shape
+pub mod Rows
+pub mod Spelled

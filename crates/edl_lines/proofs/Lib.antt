@@ -1,0 +1,4 @@
+pub mod Rows
+pub mod DigitLaws
+pub mod PictureLaws
+pub mod SpeedLaws

@@ -1,0 +1,8 @@
+-- A dissolve of d frames, at its frame k, between the codes a and b of one channel: this project's own rule.
+--
+-- The frame's centre lies (2k + 1) / (2d) of the way through, so the new side has that weight and the
+-- old side the rest. The sum is rounded to the nearest whole code, a half upward.
+use Rattle.std.specs.Prelude.{ℕ, ◌+◌, ◌-◌, ◌*◌, ◌/◌}
+
+abbrev pub mixed_code : (a b k d : ℕ) → ℕ
+mixed_code a b k d = (a * (2 * d - 2 * k - 1) + b * (2 * k + 1) + d) / (2 * d)

@@ -1,0 +1,119 @@
+//! Dissolves and wipes: what a transition makes of one pixel of each side.
+//!
+//! A transition of `d` frames has its frames numbered by `k` from 0. A channel's code is a number from 0 to 1023. Columns
+//! and lines are counted from 0 at the top left corner. The weights and the shapes are this project's own; CMX 3600 has
+//! the codes. Nothing here takes memory.
+#![tactic(auto)]
+
+ghost use Rattle.std.specs.Prelude.{◌≡◌, ◌^◌, ◌<◌, ◌≤◌, IsTrue};
+ghost use Rattle.cf_base.specs.Events.{is_known_wipe};
+ghost use Rattle.trans_mix.specs.Mix.{mixed_code};
+ghost use Rattle.trans_mix.specs.Wipe.{has_passed, is_incoming, HaveShapes};
+
+/// The longest transition, in frames: a day at 30 frames per second.
+pub const LONGEST: u32 = 2_592_000;
+
+/// The greatest width and height, in pixels.
+pub const LARGEST: u32 = 4096;
+
+/// The code of a dissolve's frame `k` of `d`, between the old side's code `a` and the new side's `b`: at the frame's
+/// centre the new side has the weight (2k + 1) / 2d, and the code is rounded to the nearest.
+pub fn mix(a: u16, b: u16, k: u32, d: u32) -> u16
+    requires old { a ≤ 1023 }
+    requires new { b ≤ 1023 }
+    requires frame { k < d }
+    requires duration { d ≤ LONGEST }
+    ensures mixed { result ≡ mixed_code a b k d }
+    ensures code { result ≤ 1023 }
+{
+    let (d, k) = (u64::from(d), u64::from(k));
+    let sum = u64::from(a) * (2 * d - 2 * k - 1) + u64::from(b) * (2 * k + 1) + d;
+    (sum / (2 * d)) as u16
+}
+
+/// Whether the three digits of a wipe are one of the eleven codes that have a shape.
+pub fn known_wipe(code: u16) -> bool
+    ensures known { result ≡ is_known_wipe code }
+    ensures shapes { HaveShapes code }
+{
+    matches!(code, 1..=6 | 21 | 22 | 41 | 101 | 102)
+}
+
+/// Whether a wipe's frame `k` of `d` shows the incoming side at column `x` and line `y` of a picture of `w` by `h` pixels.
+pub fn shows_incoming(code: u16, x: u32, y: u32, w: u32, h: u32, k: u32, d: u32) -> bool
+    requires known { IsTrue (is_known_wipe code) }
+    requires column { x < w }
+    requires line { y < h }
+    requires width { w ≤ LARGEST }
+    requires height { h ≤ LARGEST }
+    requires frame { k < d }
+    requires duration { d ≤ LONGEST }
+    ensures incoming { result ≡ is_incoming code x y w h k d }
+{
+    let (across, along) = (u64::from(2 * x + 1), u64::from(2 * y + 1));
+    let (w, h) = (u64::from(w), u64::from(h));
+    let (from_middle, from_centre) = (across.abs_diff(w), along.abs_diff(h));
+    match code {
+        1 => passed(k, d, across, w),
+        2 => passed(k, d, along, h),
+        3 => passed(k, d, across, w) && passed(k, d, along, h),
+        4 => passed(k, d, 2 * w - across, w) && passed(k, d, along, h),
+        5 => passed(k, d, 2 * w - across, w) && passed(k, d, 2 * h - along, h),
+        6 => passed(k, d, across, w) && passed(k, d, 2 * h - along, h),
+        21 => passed(k, d, from_middle * 2, w),
+        22 => passed(k, d, from_centre * 2, h),
+        41 => passed(k, d, across * h + along * w, 2 * w * h),
+        101 => passed(k, d, from_middle * 2, w) && passed(k, d, from_centre * 2, h),
+        102 => passed(k, d, from_middle * h + from_centre * w, w * h),
+        _ => false,
+    }
+}
+
+/// Whether the shape has passed what lies at a distance of its whole way.
+fn passed(k: u32, d: u32, distance: u64, reach: u64) -> bool
+    requires frame { k < d }
+    requires duration { d ≤ LONGEST }
+    requires distance { distance ≤ 2 ^ 27 }
+    requires reach { reach ≤ 2 ^ 25 }
+    ensures { result ≡ has_passed k d distance reach }
+{
+    distance * u64::from(d) < (2 * u64::from(k) + 1) * reach
+}
+
+#[cfg(test)]
+mod tests {
+    use super::*;
+
+    #[test]
+    fn a_dissolve_of_four_frames(rt: HostRuntime) {
+        for (k, code) in [(0, 113), (1, 138), (2, 163), (3, 188)] {
+            assert_eq!(rt; mix(100, 200, k, 4), code, "at {k}");
+        }
+    }
+
+    #[test]
+    fn wipes_show_their_shapes(rt: HostRuntime) {
+        assert!(rt; !known_wipe(7) && !known_wipe(999));
+        // The pixels that show the incoming side, in lines of columns.
+        let rows: [(u16, u32, u32, u32, u32, &[u8]); 5] = [
+            (1, 4, 1, 0, 2, b"x..."),
+            (1, 4, 1, 1, 2, b"xxx."),
+            (102, 2, 2, 0, 1, b"...."),
+            (41, 2, 2, 0, 2, b"...."),
+            (41, 2, 2, 1, 2, b"xxx."),
+        ];
+        for (code, w, h, k, d, shows) in rows {
+            assert!(rt; known_wipe(code));
+            for y in 0..h {
+                for x in 0..w {
+                    let wanted = shows.get((y * w + x) as usize) == Some(&b'x');
+                    assert_eq!(rt;
+                        shows_incoming(code, x, y, w, h, k, d),
+                        wanted,
+                        "wipe {code} at {x}, {y}"
+                    );
+                }
+            }
+        }
+    }
+}
