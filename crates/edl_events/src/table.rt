@@ -1,0 +1,169 @@
+//! The table of open lines: the last run of event lines with one number, by their reels.
+//!
+//! A motion line asks for one reel alone, so that a list is read in time that grows with its length, whatever its runs.
+ghost use Rattle.std.specs.Prelude.{◌≡◌, ℕ, List, OnOk, Some};
+ghost use Rattle.std.specs.BTreeMap.{IsEmpty};
+ghost use Rattle.edl_events.specs.Table.{count_of, place_of, goes_on, kept_count, kept_place, with_line, with_place, with_motion};
+
+use cf_base::Name;
+use std::alloc::AllocError;
+use std::cmp::Ordering;
+use std::collections::BTreeMap;
+
+/// The name of a reel as a key, in the order of its bytes.
+#[derive(Clone, Copy)]
+pub struct ReelKey(pub Name);
+
+impl PartialEq for ReelKey {
+    ghost use Rattle.std.specs.Prelude.{nat_eq};
+    ghost use Rattle.std.specs.Cmp.{partial_equiv_from_equiv};
+    ghost use Rattle.std.specs.Cmp.Lexicographic.{pointwise};
+    ghost use Rattle.std.specs.Ordering.{on};
+    ghost use Rattle.std.proofs.lemmas.Cmp.{on_equiv, nat_list_eq_equiv};
+
+    ghost eq = { on (λ key. key.0) (pointwise nat_eq) };
+
+    ghost laws = { partial_equiv_from_equiv (on_equiv (λ key. key.0) nat_list_eq_equiv) };
+
+    fn eq(&self, other: &ReelKey) -> bool {
+        self.0.bytes() == other.0.bytes()
+    }
+}
+
+impl Eq for ReelKey {
+    ghost use Rattle.std.proofs.lemmas.Cmp.{on_equiv, nat_list_eq_equiv};
+
+    ghost laws = { on_equiv (λ key. key.0) nat_list_eq_equiv };
+}
+
+impl PartialOrd for ReelKey {
+    ghost use Rattle.std.proofs.Common.{rules};
+    ghost use Rattle.std.specs.Cmp.{partial_order_from_own_ties};
+    ghost use Rattle.std.specs.Cmp.Rules.{comparing};
+    ghost use Rattle.std.specs.Cmp.Lexicographic.{slice_cmp};
+    ghost use Rattle.std.specs.Ordering.{on, nat_cmp, as_partial_cmp};
+
+    ghost partial_cmp = { as_partial_cmp (on (λ key. key.0) (slice_cmp nat_cmp)) };
+
+    ghost laws = { partial_order_from_own_ties (Prim.search (comparing, rules)) (Prim.search (comparing, rules)) };
+
+    fn partial_cmp(&self, other: &ReelKey) -> Option<Ordering> {
+        Some(self.cmp(other))
+    }
+}
+
+impl Ord for ReelKey {
+    ghost use Rattle.std.proofs.Common.{rules};
+    ghost use Rattle.std.specs.Cmp.Rules.{comparing};
+    ghost use Rattle.std.specs.Cmp.Lexicographic.{slice_cmp};
+    ghost use Rattle.std.specs.Ordering.{on, nat_cmp};
+
+    ghost cmp = { on (λ key. key.0) (slice_cmp nat_cmp) };
+
+    ghost total = { Prim.search (comparing, rules) };
+
+    ghost matches_partial_cmp = { Prim.search (comparing, rules) };
+
+    ghost matches_eq = { Prim.search (comparing, rules) };
+
+    fn cmp(&self, other: &ReelKey) -> Ordering {
+        self.0.bytes().cmp(other.0.bytes())
+    }
+}
+
+/// How many event lines, and how many motion lines, of a reel stand in the run.
+#[derive(Clone, Copy)]
+pub struct Count {
+    /// Event lines of the run.
+    pub lines: u32,
+    /// Motion lines since the run's first line.
+    pub moved: u32,
+}
+
+/// The last run of event lines with one number.
+#[derive(Drop)]
+pub struct Table {
+    /// Their number, once an event line has come.
+    pub number: Option<u32>,
+    /// How often each reel stands in the run, and has moved since the run's first line.
+    pub counts: BTreeMap<ReelKey, Count>,
+    /// The place of each line of the run, by its reel and by how many lines of that reel stand before it in the run.
+    pub places: BTreeMap<(ReelKey, u32), u32>,
+}
+
+impl Table {
+    /// What the run has of a reel.
+    fn count_of(&self, reel: &Name) -> Count
+        ensures count { result ≡ count_of self.now.counts reel.now }
+    {
+        self.counts
+            .get(&ReelKey(*reel))
+            .copied()
+            .unwrap_or(Count { lines: 0, moved: 0 })
+    }
+
+    /// The place of the line to which a motion line of the reel belongs: that of the reel's first line without one.
+    pub fn owner(&self, reel: &Name) -> Option<u32>
+        ensures owner { result ≡ place_of self.now.places reel.now (count_of self.now.counts reel.now).moved }
+    {
+        let moved = self.count_of(reel).moved;
+        self.places.get(&(ReelKey(*reel), moved)).copied()
+    }
+
+    /// A motion line of the reel stands behind the run.
+    pub fn take_motion(&mut self, reel: &Name) -> Result<(), AllocError>
+        ensures number { OnOk result (self.new.number ≡ self.old.number) }
+        ensures counts { OnOk result ((q : List ℕ) → count_of self.new.counts q ≡ with_motion (count_of self.old.counts) reel.now q) }
+        ensures places { OnOk result ((q : List ℕ) (nth : ℕ) → place_of self.new.places q nth ≡ place_of self.old.places q nth) }
+    {
+        let Count { lines, moved } = self.count_of(reel);
+        // A text has far too few lines for the count to stop.
+        let count = Count {
+            lines,
+            moved: moved.saturating_add(1),
+        };
+        self.counts.insert(ReelKey(*reel), count)?;
+        Ok(())
+    }
+
+    /// An event line goes on with the run of its number, or begins one.
+    pub fn add(&mut self, number: u32, place: u32, reel: &Name) -> Result<(), AllocError>
+        ensures number { OnOk result (self.new.number ≡ Some number) }
+        ensures counts { OnOk result ((q : List ℕ) → count_of self.new.counts q ≡ with_line (kept_count (goes_on self.old.number number) (count_of self.old.counts)) reel.now q) }
+        ensures places { OnOk result ((q : List ℕ) (nth : ℕ) → place_of self.new.places q nth ≡ with_place (kept_count (goes_on self.old.number number) (count_of self.old.counts)) (kept_place (goes_on self.old.number number) (place_of self.old.places)) place reel.now q nth) }
+    {
+        self.begin(number);
+        self.put(place, reel)?;
+        Ok(())
+    }
+
+    /// The run of a number: the one that is open, or a new one.
+    fn begin(&mut self, number: u32)
+        ensures number { self.new.number ≡ Some number }
+        ensures counts { (q : List ℕ) → count_of self.new.counts q ≡ kept_count (goes_on self.old.number number) (count_of self.old.counts) q }
+        ensures places { (q : List ℕ) (nth : ℕ) → place_of self.new.places q nth ≡ kept_place (goes_on self.old.number number) (place_of self.old.places) q nth }
+    {
+        if self.number != Some(number) {
+            self.counts.clear();
+            self.places.clear();
+        }
+        self.number = Some(number);
+    }
+
+    /// An event line stands at the run's end.
+    fn put(&mut self, place: u32, reel: &Name) -> Result<(), AllocError>
+        ensures number { OnOk result (self.new.number ≡ self.old.number) }
+        ensures counts { OnOk result ((q : List ℕ) → count_of self.new.counts q ≡ with_line (count_of self.old.counts) reel.now q) }
+        ensures places { OnOk result ((q : List ℕ) (nth : ℕ) → place_of self.new.places q nth ≡ with_place (count_of self.old.counts) (place_of self.old.places) place reel.now q nth) }
+    {
+        let Count { lines, moved } = self.count_of(reel);
+        self.places.insert((ReelKey(*reel), lines), place)?;
+        // A text has far too few lines for the count to stop.
+        let count = Count {
+            lines: lines.saturating_add(1),
+            moved,
+        };
+        self.counts.insert(ReelKey(*reel), count)?;
+        Ok(())
+    }
+}
