@@ -1,0 +1,13 @@
+pub mod Calls
+pub mod CrashLaws
+pub mod Entries
+pub mod Images
+pub mod LaidOver
+pub mod Moments
+pub mod NameLaws
+pub mod Picks
+mod Rows
+pub mod Sparing
+pub mod Steps
+pub mod Walks
+pub mod WholeRead

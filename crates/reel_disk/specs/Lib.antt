@@ -1,0 +1,6 @@
+pub mod Crash
+pub mod Disk
+pub mod Memory
+pub mod MemoryDisk
+pub mod Names
+pub mod Runs

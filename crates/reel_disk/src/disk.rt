@@ -1,0 +1,151 @@
+//! A disk as the layers above see it: what a read answers, what a crash may still change, and each moment so far.
+ghost use Rattle.std.specs.Prelude.{◌≡◌, ◌≢◌, ℕ, ◌+◌, ◌≤◌, Bool, true, length};
+ghost use Rattle.cf_base.specs.Count.{HasCause};
+ghost use Rattle.reel_disk.specs.Disk.{History, view_of, HasLength, HasRead, IsStill, IsWithin, HasWrittenWhole, HasWrittenAt, HasSynced, IsInFile};
+
+use cf_base::FileId;
+
+/// A part of the folder that a crash may still change.
+#[derive(Clone, Copy, Debug, PartialEq, Eq)]
+pub enum Place {
+    /// The whole file: a crash may leave any bytes of any length there, or no file.
+    Whole(FileId),
+    /// `len` bytes of the file, from byte `start` on: a crash may leave any bytes there.
+    Range { id: FileId, start: u64, len: u64 },
+}
+
+/// The disk failed.
+#[derive(Clone, Copy, Debug, PartialEq, Eq)]
+pub struct DiskFault;
+
+/// How long a file is.
+#[derive(Clone, Copy, Debug, PartialEq, Eq)]
+pub enum Length {
+    /// The file is there, and has that many bytes.
+    There(u64),
+    /// No such file is there.
+    Absent,
+    /// The disk failed.
+    Failed,
+}
+
+/// What a read gave.
+#[derive(Clone, Copy, Debug, PartialEq, Eq)]
+pub enum Got {
+    /// That many bytes were read.
+    Bytes(usize),
+    /// No such file is there.
+    Absent,
+    /// The disk failed: what was read is not known.
+    Failed,
+}
+
+/// How a write or a sync ended.
+#[derive(Clone, Copy, Debug, PartialEq, Eq)]
+pub enum Did {
+    /// It was done.
+    Done,
+    /// The disk failed.
+    Failed,
+}
+
+/// The files of one reel folder, which a crash may catch at any moment.
+///
+/// A write leaves its place loose: until a sync of that file a crash may change it. Each call may fail, and says so by
+/// its count of faults, which rises in a call that fails and in no other. A disk need not be `Drop`: who takes one hands
+/// it back.
+pub trait Disk {
+    /// Whether disks of this type tell what they hold.
+    ghost tells: { Bool };
+
+    /// Each moment until now: what a read answered then, and what was loose. It counts where `tells` is true.
+    ghost history: { Self → History };
+
+    /// How often the disk has failed. The count never falls, and stands still at 2^64 - 1.
+    ghost faults: { Self → ℕ };
+
+    /// A disk that is lent stays the same loan in each call. It holds of any two disks that are not lent.
+    ghost same: { Self → Self → Type 0 };
+
+    /// The length of a file in bytes. `Absent` exactly where the view has no such file and the call did not fail.
+    fn length(&mut self, id: FileId) -> Length
+        ensures answer { tells ≡ true → HasLength (view_of (history self.old) id) result }
+        ensures time { tells ≡ true → IsStill (history self.old) (history self.new) }
+        ensures same { same self.old self.new }
+        ensures cause { HasCause (faults self.old) (faults self.new) (result ≡ Length.Failed) }
+        ensures steady { result ≢ Length.Failed → faults self.new ≡ faults self.old };
+
+    /// Reads a file from byte `start` on, as much as it has there and `into` takes: `Bytes(n)` says how many bytes.
+    /// `Absent` exactly where the view has no such file and the call did not fail.
+    fn read(&mut self, id: FileId, start: u64, into: &mut [u8]) -> Got
+        ensures bound { IsWithin (length into.old) result }
+        ensures answer { tells ≡ true → HasRead (view_of (history self.old) id) start into.new result }
+        ensures time { tells ≡ true → IsStill (history self.old) (history self.new) }
+        ensures same { same self.old self.new }
+        ensures cause { HasCause (faults self.old) (faults self.new) (result ≡ Got.Failed) }
+        ensures steady { result ≢ Got.Failed → faults self.new ≡ faults self.old };
+
+    /// Gives a file these bytes and no others. Until a sync of the file, a crash may leave anything there.
+    fn write_whole(&mut self, id: FileId, bytes: &[u8]) -> Did
+        ensures told { tells ≡ true → HasWrittenWhole (history self.old) (history self.new) id bytes.now result }
+        ensures same { same self.old self.new }
+        ensures cause { HasCause (faults self.old) (faults self.new) (result ≡ Did.Failed) }
+        ensures steady { result ≡ Did.Done → faults self.new ≡ faults self.old };
+
+    /// Writes over a part of a file that is there, from byte `start` on. Until a sync of the file, a crash may leave any
+    /// bytes in this part.
+    fn write_at(&mut self, id: FileId, start: u64, bytes: &[u8]) -> Did
+        requires { tells ≡ true → IsInFile (view_of (history self.old) id) start (length bytes.now) }
+        ensures told { tells ≡ true → HasWrittenAt (history self.old) (history self.new) id start bytes.now result }
+        ensures same { same self.old self.new }
+        ensures cause { HasCause (faults self.old) (faults self.new) (result ≡ Did.Failed) }
+        ensures steady { result ≡ Did.Done → faults self.new ≡ faults self.old };
+
+    /// After it a crash leaves the file, or its absence, as a read answers it.
+    fn sync(&mut self, id: FileId) -> Did
+        ensures told { tells ≡ true → HasSynced (history self.old) (history self.new) id result }
+        ensures same { same self.old self.new }
+        ensures cause { HasCause (faults self.old) (faults self.new) (result ≡ Did.Failed) }
+        ensures steady { result ≡ Did.Done → faults self.new ≡ faults self.old };
+
+    ghost same_itself: { (d : Self) → same d d };
+
+    ghost same_along: { (a b c : Self) → same a b → same b c → same a c };
+}
+
+/// A disk that is lent: the calls of the lender are those of the disk.
+impl<D: Disk> Disk for &mut D {
+    ghost use Rattle.std.proofs.Common.{refl, ◌∙◌};
+
+    ghost tells = { D.tells };
+
+    ghost history = { λ d. D.history d.now };
+
+    ghost faults = { λ d. D.faults d.now };
+
+    ghost same = { λ d e. (e.ghost_name ≡ d.ghost_name) × (e.ref_ptr ≡ d.ref_ptr) };
+
+    ghost same_itself = { λ d. (refl, refl) };
+
+    ghost same_along = { λ a b c first second. (second.0 ∙ first.0, second.1 ∙ first.1) };
+
+    fn length(&mut self, id: FileId) -> Length {
+        Disk::length(&mut **self, id)
+    }
+
+    fn read(&mut self, id: FileId, start: u64, into: &mut [u8]) -> Got {
+        Disk::read(&mut **self, id, start, into)
+    }
+
+    fn write_whole(&mut self, id: FileId, bytes: &[u8]) -> Did {
+        Disk::write_whole(&mut **self, id, bytes)
+    }
+
+    fn write_at(&mut self, id: FileId, start: u64, bytes: &[u8]) -> Did {
+        Disk::write_at(&mut **self, id, start, bytes)
+    }
+
+    fn sync(&mut self, id: FileId) -> Did {
+        Disk::sync(&mut **self, id)
+    }
+}

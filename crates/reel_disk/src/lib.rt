@@ -1,0 +1,20 @@
+//! The files of one reel folder on a disk that a crash may catch at any moment: what a disk promises, a disk in memory
+//! that is as hostile as the promise lets it be, and the folder of a real file system.
+#![tactic(auto)]
+
+mod crash;
+mod disk;
+#[cfg(test)]
+mod disk_tests;
+mod folder;
+#[cfg(test)]
+mod folder_tests;
+mod memory;
+#[cfg(test)]
+mod memory_tests;
+mod names;
+mod store;
+
+pub use disk::{Did, Disk, DiskFault, Got, Length, Place};
+pub use folder::FolderDisk;
+pub use memory::MemoryDisk;
