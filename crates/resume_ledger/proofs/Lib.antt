@@ -1,0 +1,8 @@
+pub mod Acking
+pub mod Attaching
+pub mod Bodies
+pub mod Looking
+pub mod LawProofs
+pub mod Making
+pub mod RunLaws
+mod Rows

@@ -1,0 +1,18 @@
+use Rattle.std.proofs.Common.{◌∙◌, ap, sym}
+use Rattle.std.specs.Prelude.{Some}
+use Rattle.resume_ledger.proofs.Attaching.{never_other, unread, judged, judged_known}
+use Rattle.resume_ledger.proofs.sealed.open_sealed.Goals as goal
+
+pub returns-in-Err-clause-known : goal.returns-in-Err-clause-known
+returns-in-Err-clause-known g c = never_other c.args.digest c.args.count c.in-Err.fault c.in-Err.ensures.never_other
+
+pub returns-in-Err-clause-answer : goal.returns-in-Err-clause-answer
+returns-in-Err-clause-answer g c told = unread _ _ _ _ c.in-Err.fault (c.requires.sealed told) (c.read_body.ensures.look told).narrows (c.in-Err.ensures.answer told)
+
+pub returns-in-Ok-clause-known : goal.returns-in-Ok-clause-known
+returns-in-Ok-clause-known g c = judged_known c.args.digest c.args.count c.deref.result.now c.judge.result c.judge.ensures
+
+pub returns-in-Ok-clause-answer : goal.returns-in-Ok-clause-answer
+returns-in-Ok-clause-answer g c told =
+    let read = c.in-Ok.ensures.answer told in
+    judged _ _ _ _ c.deref.result.now c.judge.result (c.requires.sealed told) (c.requires.firm told) (c.read_body.ensures.look told).narrows read.0 (read.1 ∙ ap Some (sym c.deref.ensures.value)) c.judge.ensures

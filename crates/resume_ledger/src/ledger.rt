@@ -1,0 +1,117 @@
+//! The ledger of a job: one gate for each frame.
+ghost use Rattle.std.specs.Prelude.{◌≡◌, ◌≢◌, ◌↔◌, ℕ, ◌+◌, ◌<◌, ◌≤◌, [], ◌∷◌, true, false, length, set, slice_index_or, OnOk, OnErr, IsErr, count_by};
+ghost use Rattle.cf_base.specs.Count.{HasCause};
+ghost use Rattle.cf_base.specs.declared.file.FileId.TheVariants.{Body};
+ghost use Rattle.reel_disk.specs.Disk.{moment_of, view_of, with_range};
+ghost use Rattle.reel_disk.specs.Runs.{Extends, NeverForgets, Surely, Spares};
+ghost use Rattle.resume_ledger.specs.Ledger.{Acks, Agrees, IsLedger};
+ghost use Rattle.resume_ledger.specs.Sound.{Reel, IsReel, IsStored, IsRun, AddsAtMost};
+
+use cf_base::FileId;
+use reel_disk::{Did, Disk, DiskFault};
+use std::marker::Model;
+
+/// Which frames of a job are acknowledged: the file of an acknowledged frame is on the disk, and a crash keeps it there.
+///
+/// Contracts see the job's digest of 32 bytes, a flag for each of its 1 to 262,144 frames, and whether the ledger is
+/// closed: a fault closes it, and no frame is acknowledged through it from then on.
+#[derive(Drop)]
+pub struct Ledger {
+    digest: [u8; 32],
+    gates: Vec<bool>,
+    closed: bool,
+}
+
+impl Model for Ledger {
+    ghost use Rattle.resume_ledger.specs.Ledger.{LedgerState, IsLedger};
+
+    ghost Value = { LedgerState };
+
+    ghost view = { λ l. record { digest = l.digest; gates = l.gates.items; closed = l.closed } };
+
+    ghost invariant = { λ l. IsLedger l.digest l.gates.items };
+}
+
+impl Ledger {
+    /// An open ledger with these gates.
+    pub(crate) fn of(digest: [u8; 32], gates: Vec<bool>) -> Ledger
+        requires some { 1 ≤ length gates.items }
+        requires most { length gates.items ≤ 262144 }
+        ensures { result ≡ record { digest = digest; gates = gates.items; closed = false } }
+    {
+        Ledger {
+            digest,
+            gates,
+            closed: false,
+        }
+    }
+
+    /// Whether a frame is acknowledged. Frames are numbered from 0, below the job's count.
+    pub fn is_acked(&self, i: u32) -> bool
+        requires { i < length self.now.gates }
+        ensures { result ≡ slice_index_or self.now.gates i false }
+    {
+        self.gates[i as usize]
+    }
+
+    /// How many frames are acknowledged.
+    pub fn acked(&self) -> u32
+        ensures count { result ≡ count_by (λ gate. gate) self.now.gates }
+        ensures valid { IsLedger self.now.digest self.now.gates }
+    {
+        self.gates.iter().filter(|gate| **gate).count() as u32
+    }
+
+    /// Whether a fault has closed the ledger.
+    pub fn is_closed(&self) -> bool
+        ensures { result ≡ self.now.closed }
+    {
+        self.closed
+    }
+
+    /// Acknowledges a frame whose file is stored: writes `A` to its gate, byte `64 + i` of the body, and syncs the body.
+    /// At `Ok` each crash from now on finds the frame acknowledged. `DiskFault` comes only where the disk's count of
+    /// faults rose; the ledger is closed then, and a crash may find the frame acknowledged or not.
+    pub fn ack<D: Disk>(&mut self, disk: &mut D, i: u32) -> Result<(), DiskFault>
+        requires is_open { self.old.closed ≡ false }
+        requires agrees { D.tells ≡ true → Agrees (moment_of (D.history disk.old)) self.old }
+        requires within { i < length self.old.gates }
+        requires fresh { slice_index_or self.old.gates i false ≡ false }
+
+        ensures past { D.tells ≡ true → Extends (D.history disk.old) (D.history disk.new) }
+
+        // A crash at any moment of the call leaves a folder whose acknowledged frames are the reel's.
+        ensures run { D.tells ≡ true → (reel : Reel) → IsReel (length self.old.gates) reel
+            → IsStored (moment_of (D.history disk.old)) reel i
+            → IsRun self.old.digest (length self.old.gates) reel (D.history disk.old) (D.history disk.new) }
+
+        // No acknowledgement is lost, whatever the reel is.
+        ensures none_lost { D.tells ≡ true → (k : ℕ) → NeverForgets (D.history disk.old) (D.history disk.new) (Acks self.old.digest (length self.old.gates) k) }
+
+        // All other frames stay as they were, also after a fault.
+        ensures others { D.tells ≡ true → AddsAtMost i self.old.digest (length self.old.gates) (D.history disk.old) (D.history disk.new) }
+        ensures spares { D.tells ≡ true → Spares (D.history disk.old) (D.history disk.new) (λ q. q ≡ Body) }
+
+        ensures acked { OnOk result (D.tells ≡ true → Surely (moment_of (D.history disk.new)) (Acks self.old.digest (length self.old.gates) i)) }
+        ensures written { OnOk result (D.tells ≡ true → view_of (D.history disk.new) Body ≡ with_range (view_of (D.history disk.old) Body) (64 + i) (65 ∷ [])) }
+        ensures agrees { OnOk result (D.tells ≡ true → Agrees (moment_of (D.history disk.new)) self.new) }
+        ensures ledger { OnOk result (self.new ≡ record self.old { gates = set self.old.gates i true }) }
+        ensures closed { OnErr result (self.new ≡ record self.old { closed = true }) }
+
+        ensures same { D.same disk.old disk.new }
+        ensures cause { HasCause (D.faults disk.old) (D.faults disk.new) (IsErr result) }
+        ensures steady { OnOk result (D.faults disk.new ≡ D.faults disk.old) }
+    {
+        let at = 64 + i as u64;
+        let Did::Done = disk.write_at(FileId::Body, at, &[b'A']) else {
+            self.closed = true;
+            return Err(DiskFault);
+        };
+        let Did::Done = disk.sync(FileId::Body) else {
+            self.closed = true;
+            return Err(DiskFault);
+        };
+        self.gates[i as usize] = true;
+        Ok(())
+    }
+}
