@@ -1,0 +1,4 @@
+mod Laws
+mod Projects
+mod RgbLaws
+mod Rows
