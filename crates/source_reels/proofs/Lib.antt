@@ -1,0 +1,5 @@
+pub mod Heads
+pub mod KeyLaws
+mod Faults
+mod Paths
+mod Rows

@@ -1,0 +1,58 @@
+//! What the head of a source frame's file says.
+ghost use Rattle.std.specs.Prelude.{◌≡◌, ◌≢◌, ◌≤◌, None, IfSome, MatchOption};
+ghost use Rattle.cf_base.specs.Count.{HasRisen};
+ghost use Rattle.scan_source.specs.Plan.{FollowsPlan, one_more};
+ghost use Rattle.scan_source.specs.World.{file_at};
+ghost use Rattle.source_reels.specs.Seen.{IsSeen, IsSeenFrame, IsSeenIn};
+
+use cf_base::PathText;
+use dpx_header::{DpxFault, FrameInfo, read_header};
+use scan_source::{Head, Scans};
+
+/// What a file says of its pixels (SMPTE 268M).
+#[derive(Clone, Copy, Debug, PartialEq, Eq)]
+pub enum Seen {
+    /// Where its pixels lie.
+    Info(FrameInfo),
+    /// There is no file at the path.
+    Absent,
+    /// Its header is refused, 8.1 to 8.13.
+    Bad(DpxFault),
+    /// The scan failed, which it counts as a fault.
+    Fault,
+}
+
+/// What the file at a path says of its pixels, by one call of `head`. Takes no memory.
+pub fn inspect<S: Scans>(scans: &mut S, path: &PathText) -> Seen
+    ensures told { IfSome (S.world scans.old) (λ files. IsSeen result (file_at files path.now)) }
+    ensures frame { IsSeenFrame result }
+
+    ensures failed { result ≡ Seen.Fault → HasRisen (S.faults scans.old) (S.faults scans.new) }
+    ensures steady { result ≢ Seen.Fault → S.faults scans.new ≡ S.faults scans.old }
+    ensures later { S.faults scans.old ≤ S.faults scans.new }
+    ensures plan { MatchOption (S.plan scans.old) (S.plan scans.new ≡ None) (λ p. FollowsPlan p (S.plan scans.new) (result ≡ Seen.Fault)) }
+
+    ensures heads { S.heads scans.new ≡ one_more (S.heads scans.old) }
+    ensures loads { S.loads scans.new ≡ S.loads scans.old }
+    ensures world { S.world scans.new ≡ S.world scans.old }
+    ensures same { S.same scans.old scans.new }
+{
+    let mut head = [0; 2048];
+    match scans.head(path, &mut head) {
+        Head::Found { len } => seen_of(&head, len),
+        Head::Absent => Seen::Absent,
+        Head::Failed => Seen::Fault,
+    }
+}
+
+/// What a file of that many bytes with that head says.
+fn seen_of(head: &[u8; 2048], len: u64) -> Seen
+    ensures seen { IsSeenIn result head.now len }
+    ensures frame { IsSeenFrame result }
+    ensures found { result ≢ Seen.Fault }
+{
+    match read_header(head, len) {
+        Ok(info) => Seen::Info(info),
+        Err(fault) => Seen::Bad(fault),
+    }
+}
