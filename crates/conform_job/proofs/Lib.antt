@@ -1,0 +1,9 @@
+mod Asking
+mod Growing
+mod Heads
+mod Judging
+mod KeyOrder
+mod Needed
+mod Placed
+mod Rows
+mod Turns

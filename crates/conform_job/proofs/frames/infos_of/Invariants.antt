@@ -1,0 +1,20 @@
+use Rattle.std.proofs.Common.{◌≡◌, ◌-◌, length, ◌≤◌, [], IfSome}
+use Rattle.scan_source.specs.World.{file_at}
+use Rattle.record_timeline.specs.Accepted.{frame_count}
+use Rattle.conform_job.specs.Asks.{asks_of, asks_from}
+use Rattle.conform_job.specs.Refusals.{asks_refusal}
+use Rattle.conform_job.specs.Answers.{Grows, HeadsGrow}
+use Rattle.conform_job.proofs.frames.infos_of.Given as goal
+
+-- the first refusal of all asks is that of those that are left, and the infos have the keys of those that were
+abbrev pub invariant-loop-i : goal.invariant-loop-i
+invariant-loop-i g l = record {
+  within : l.i ≤ frame_count l.parts.timeline.events;
+  world : g.S.Scans.world l.scans ≡ g.S.Scans.world l.fn.scans;
+  steady : g.S.Scans.faults l.scans ≡ g.S.Scans.faults l.fn.scans;
+  same : g.S.Scans.same l.fn.scans l.scans;
+  heads : HeadsGrow (g.S.Scans.heads l.fn.scans) (g.S.Scans.heads l.scans) 0 (length l.infos);
+  loads : g.S.Scans.loads l.scans ≡ g.S.Scans.loads l.fn.scans;
+  rest : IfSome (g.S.Scans.world l.fn.scans) (λ world. asks_refusal l.parts (file_at world) (asks_of l.parts.timeline) ≡ asks_refusal l.parts (file_at world) (asks_from l.parts.timeline l.i (frame_count l.parts.timeline.events - l.i)));
+  grows : Grows l.parts (g.S.Scans.world l.fn.scans) (asks_from l.parts.timeline 0 l.i) [] l.infos;
+}

@@ -1,0 +1,27 @@
+use Rattle.std.proofs.Common.{◌≡◌, None, length, sym, ◌∙◌, ap, is_some}
+use Rattle.conform_job.proofs.Asking.{seen_told, on_both, none_by}
+use Rattle.conform_job.proofs.Heads.{heads_same, heads_one}
+use Rattle.conform_job.proofs.Growing.{grown_set}
+use Rattle.conform_job.specs.Keys.{info_at}
+use Rattle.conform_job.proofs.frames.inspect_frame.Goals as goal
+use Rattle.conform_job.proofs.frames.inspect_frame.Given as given
+
+pub returns-then-is_some-clause-told : goal.returns-then-is_some-clause-told
+returns-then-is_some-clause-told g c = seen_told c.args.parts.now (g.S.Scans.world c.args.scans.now) c.args.ask c.named_of-named.result c.in-Some.key c.args.infos.now
+    (ap is_some (sym c.get.ensures) ∙ sym c.is_some.ensures ∙ c.if-is_some.true) c.named_of-named.ensures (sym c.in-Some.is ∙ c.key_of.ensures.key) c.requires.each
+
+pub returns-then-is_some-clause-heads : goal.returns-then-is_some-clause-heads
+returns-then-is_some-clause-heads g c = heads_same (length c.args.infos.now) (g.S.Scans.heads c.args.scans.now)
+
+new : (g : given.Over) (c : goal.After-keep g) → info_at c.args.infos.now c.in-Some.key ≡ None
+new g c = none_by (info_at c.args.infos.now c.in-Some.key) (ap is_some (sym c.get.ensures) ∙ sym c.is_some.ensures ∙ c.if-is_some.false)
+
+pub returns-in-Ok-clause-grows : goal.returns-in-Ok-clause-grows
+returns-in-Ok-clause-grows g c = on_both c.keep.result _ _ _
+    (λ set once. grown_set c.args.parts.now (g.S.Scans.world c.args.scans.now) c.args.ask c.in-Some.key c.args.infos.now c.keep.new.infos c.in-Ok.info (sym c.key_of.ensures.key ∙ c.in-Some.is) set c.in-Ok.ensures.info c.requires.each (once (new g c)))
+    c.keep.ensures.set c.keep.ensures.once
+
+pub returns-in-Ok-clause-heads : goal.returns-in-Ok-clause-heads
+returns-in-Ok-clause-heads g c = on_both c.keep.result _ _ _
+    (λ len set. heads_one (length c.args.infos.now) (length c.keep.new.infos) (g.S.Scans.heads c.args.scans.now) (g.S.Scans.heads c.inspect_key.new.scans) (len (new g c)) c.in-Ok.ensures.heads)
+    c.keep.ensures.len c.keep.ensures.set

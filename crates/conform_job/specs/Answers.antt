@@ -1,0 +1,83 @@
+-- What the steps of a plan answer.
+use Rattle.std.specs.Prelude.{◌≡◌, ◌≤◌, ◌-◌, ℕ, zero, suc, ◌||◌, List, All, is_some, Option, Some, None, IsSome, IfSome, IsSomeAnd, Result, Ok, Err}
+use Rattle.std.specs.List.{list_any}
+use Rattle.cf_base.specs.declared.key.Key.{Key}
+use Rattle.dpx_header.specs.Frame.{IsFrame}
+use Rattle.dpx_header.specs.declared.info.FrameInfo.{FrameInfo}
+use Rattle.scan_source.specs.Plan.{one_more}
+use Rattle.scan_source.specs.World.{World, file_at}
+use Rattle.source_reels.specs.Seen.{info_of_file}
+use Rattle.source_reels.specs.declared.seen.Seen.{Seen}
+use Rattle.source_reels.specs.declared.seen.Seen.TheVariants as seen
+use Rattle.conform_job.specs.declared.frames.Named.{Named}
+use Rattle.conform_job.specs.declared.frames.Ask.{Ask}
+use Rattle.conform_job.specs.Infos.{HasEachOnce}
+use Rattle.conform_job.specs.Keys.{key_of_ask, keys_of_asks, info_at, is_key}
+use Rattle.conform_job.specs.Refusals.{file_of_key, info_refusal}
+use Rattle.conform_job.specs.declared.parts.JobParts.{JobParts}
+use Rattle.conform_job.specs.declared.parts.JobFault.{JobFault}
+use Rattle.conform_job.specs.declared.parts.JobFault.TheVariants as fault
+
+-- a refusal is the first that the definition has; a fault of the scan and want of memory may come at any place
+abbrev pub IsRefusal : JobFault → Option JobFault → Type 0
+IsRefusal fault.SourceFault first = Unit {0}
+IsRefusal fault.NoMemory first = Unit {0}
+IsRefusal (fault.UnknownReel line) first = first ≡ Some (fault.UnknownReel line)
+IsRefusal (fault.MissingFrame line reel source) first = first ≡ Some (fault.MissingFrame line reel source)
+IsRefusal (fault.BadFrame line reel source bad) first = first ≡ Some (fault.BadFrame line reel source bad)
+IsRefusal (fault.Geometry line reel source) first = first ≡ Some (fault.Geometry line reel source)
+
+abbrev pub IsStep : {A : Type 0} → Result A JobFault → Option JobFault → Type 0
+IsStep (Ok a) first = first ≡ None
+IsStep (Err why) first = IsRefusal why first
+
+-- a refusal by its reel comes from the lines alone, whatever the scan tells
+abbrev pub IsOfFrames : JobFault → Type 0
+IsOfFrames fault.SourceFault = Unit {0}
+IsOfFrames fault.NoMemory = Unit {0}
+IsOfFrames (fault.UnknownReel line) = ⊥
+IsOfFrames (fault.MissingFrame line reel source) = Unit {0}
+IsOfFrames (fault.BadFrame line reel source bad) = Unit {0}
+IsOfFrames (fault.Geometry line reel source) = Unit {0}
+
+-- what a job has for a key: of the project's size, and of the key's file where the world is told
+pub record IsInfoOf (p : JobParts) (told : Option World) (key : Key) (info : FrameInfo) : Type 0 where
+  pub frame : IsFrame info
+  pub width : info.width ≡ p.project.width
+  pub height : info.height ≡ p.project.height
+  pub file : IfSome told (λ world. IsSomeAnd (file_of_key p.reels (file_at world) key) (λ bytes. info_of_file bytes ≡ Ok info))
+
+unfoldable pub AreInfosOf : JobParts → Option World → List (Key × FrameInfo) → Type 0
+AreInfosOf p told infos = (key : Key) (info : FrameInfo) → info_at infos key ≡ Some info → IsInfoOf p told key info
+
+-- the infos have come to have the keys of these asks, which all have one
+pub record Grows (p : JobParts) (told : Option World) (asks : List Ask) (before after : List (Key × FrameInfo)) : Type 0 where
+  pub keys : (q : Key) → is_some (info_at after q) ≡ (is_some (info_at before q) || list_any (is_key q) (keys_of_asks p.reels p.timeline.events asks))
+  pub each : AreInfosOf p told after
+  pub once : HasEachOnce before → HasEachOnce after
+  pub found : All (λ (ask : Ask). IsSome (key_of_ask p.reels p.timeline.events ask)) asks
+
+-- a count of heads after so many more
+abbrev pub heads_after : ℕ → ℕ → ℕ
+heads_after zero heads = heads
+heads_after (suc more) heads = one_more (heads_after more heads)
+
+-- one head for each info that has come, from `few` infos to `many`
+abbrev pub HeadsGrow : ℕ → ℕ → ℕ → ℕ → Type 0
+HeadsGrow before now few many = (few ≤ many) × (now ≡ heads_after (many - few) before)
+
+-- what is made of a file that was inspected
+abbrev pub IsKept : FrameInfo → ℕ → ℕ → Result FrameInfo JobFault → Type 0
+IsKept info width height (Ok kept) = (kept ≡ info) × (info.width ≡ width) × (info.height ≡ height)
+IsKept info width height (Err why) = Unit {0}
+
+-- the value, unless it is refused
+abbrev pub unless : {A : Type 0} → A → Option JobFault → Result A JobFault
+unless a None = Ok a
+unless a (Some why) = Err why
+
+abbrev pub IsJudged : Named → ℕ → ℕ → Seen → Result FrameInfo JobFault → Type 0
+IsJudged n width height (seen.Info info) result = (result ≡ unless info (info_refusal n width height (Ok info))) × IsKept info width height result
+IsJudged n width height (seen.Bad bad) result = result ≡ Err (fault.BadFrame n.line n.reel n.source bad)
+IsJudged n width height seen.Absent result = result ≡ Err (fault.MissingFrame n.line n.reel n.source)
+IsJudged n width height seen.Fault result = result ≡ Err fault.SourceFault

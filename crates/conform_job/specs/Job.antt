@@ -1,0 +1,79 @@
+-- A job.
+--     JobData      what contracts see of it: its parts, and what the file of each needed key says
+--     IsJob p infos      what holds of every job, whatever its scan told
+--     need_at job i      the keys that record frame i needs, with their infos
+use Rattle.std.specs.Prelude.{◌≡◌, ℕ, ◌≤◌, true, List, [], Option, Some, None, IsSome, option_and_then}
+use Rattle.std.specs.Option.{option_map}
+use Rattle.std.specs.List.{list_any}
+use Rattle.cf_base.specs.declared.key.Key.{Key}
+use Rattle.dpx_header.specs.declared.info.FrameInfo.{FrameInfo}
+use Rattle.record_timeline.specs.declared.Side.{Side}
+use Rattle.record_timeline.specs.declared.Side.TheVariants.{Black, Frame}
+use Rattle.record_timeline.specs.declared.Shot.{Shot}
+use Rattle.record_timeline.specs.declared.Shot.TheVariants.{Gap, One, Two}
+use Rattle.conform_job.specs.Answers.{Grows}
+use Rattle.conform_job.specs.Asks.{asks_of, shot_of_frame}
+use Rattle.conform_job.specs.Keys.{key_of_ask, keys_of_asks, is_key, info_at}
+use Rattle.conform_job.specs.Refusals.{unknown_of}
+use Rattle.conform_job.specs.declared.need.Need.{Need}
+use Rattle.conform_job.specs.declared.parts.JobParts.{JobParts}
+use Rattle.conform_job.specs.declared.parts.JobFault.{JobFault}
+use Rattle.conform_job.specs.declared.parts.JobFault.TheVariants as fault
+
+pub record JobData : Type 0 where
+  pub parts : JobParts
+  pub infos : List (Key × FrameInfo)
+
+-- what is asked of the parts
+pub record ArePlanned (p : JobParts) : Type 0 where
+  pub reels : p.reels ≡ p.project.reels
+  pub rate : p.timeline.rate ≡ p.project.rate
+  pub some_width : 1 ≤ p.project.width
+  pub most_width : p.project.width ≤ 4096
+  pub some_height : 1 ≤ p.project.height
+  pub most_height : p.project.height ≤ 4096
+  pub some_bands : 1 ≤ p.project.bands
+  pub most_bands : p.project.bands ≤ 64
+
+pub record IsJob (p : JobParts) (infos : List (Key × FrameInfo)) : Type 0 where
+  pub planned : ArePlanned p
+  pub known : unknown_of p.reels p.timeline.events ≡ None
+  pub filled : Grows p None (asks_of p.timeline) [] infos
+
+-- a record frame asks for the key
+abbrev pub IsNeeded : JobParts → Key → Type 0
+IsNeeded p key = list_any (is_key key) (keys_of_asks p.reels p.timeline.events (asks_of p.timeline)) ≡ true
+
+-- which of the answers are told by the lines alone
+abbrev pub IsByLines : JobFault → Option JobFault → Type 0
+IsByLines fault.NoMemory first = Unit {0}
+IsByLines (fault.UnknownReel line) first = first ≡ Some (fault.UnknownReel line)
+IsByLines fault.SourceFault first = first ≡ None
+IsByLines (fault.MissingFrame line reel source) first = first ≡ None
+IsByLines (fault.BadFrame line reel source bad) first = first ≡ None
+IsByLines (fault.Geometry line reel source) first = first ≡ None
+
+abbrev pub info_of_key : List (Key × FrameInfo) → Key → Option (Key × FrameInfo)
+info_of_key infos key = option_map (λ (info : FrameInfo). (key, info)) (info_at infos key)
+
+abbrev pub need_of_side : JobParts → List (Key × FrameInfo) → Side → Option (Key × FrameInfo)
+need_of_side p infos Black = None
+need_of_side p infos (Frame event source) = option_and_then (info_of_key infos) (key_of_ask p.reels p.timeline.events (record { event = event; source = source }))
+
+abbrev pub need_of_shot : JobParts → List (Key × FrameInfo) → Shot → Need
+need_of_shot p infos Gap = record { old = None; new = None }
+need_of_shot p infos (One side) = record { old = None; new = need_of_side p infos side }
+need_of_shot p infos (Two old new transition k d) = record { old = need_of_side p infos old; new = need_of_side p infos new }
+
+abbrev pub need_at : JobData → ℕ → Need
+need_at job i = need_of_shot job.parts job.infos (shot_of_frame job.parts.timeline i)
+
+-- each side that is a source frame has what it needs
+abbrev pub IsMet : Side → Option (Key × FrameInfo) → Type 0
+IsMet Black need = Unit {0}
+IsMet (Frame event source) need = IsSome need
+
+abbrev pub AreMet : Shot → Need → Type 0
+AreMet Gap need = Unit {0}
+AreMet (One side) need = IsMet side need.new
+AreMet (Two old new transition k d) need = IsMet old need.old × IsMet new need.new

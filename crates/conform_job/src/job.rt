@@ -1,0 +1,205 @@
+//! A job, and how it is planned.
+ghost use Rattle.std.specs.Prelude.{◌≡◌, ◌≢◌, ◌+◌, ◌<◌, ◌≤◌, [], length, None, Some, Err, IfSome, IfOk, IfErr, MatchResult};
+ghost use Rattle.cf_base.specs.Count.{HasRisen};
+ghost use Rattle.scan_source.specs.World.{file_at};
+ghost use Rattle.record_timeline.specs.Accepted.{first_frame, frame_count};
+ghost use Rattle.record_timeline.specs.Shots.{IsShotIn};
+ghost use Rattle.source_reels.specs.Reels.{path_of_key};
+ghost use Rattle.conform_job.specs.Answers.{IsStep, Grows, HeadsGrow};
+ghost use Rattle.conform_job.specs.Asks.{asks_of, shot_of_frame};
+ghost use Rattle.conform_job.specs.Infos.{HasEachOnce};
+ghost use Rattle.conform_job.specs.Job.{ArePlanned, IsByLines, IsNeeded};
+ghost use Rattle.conform_job.specs.Lines.{places_of, IsPlacedUnless};
+ghost use Rattle.conform_job.specs.Refusals.{first_refusal, unknown_of};
+
+use crate::frames::{events_of, frame_of, infos_of, path_of_key, shot_of};
+use crate::infos::Infos;
+use crate::lines::places_of;
+use crate::need::need_of_shot;
+use crate::{JobFault, JobParts, Need};
+use cf_base::{FileId, Key, PathText};
+use project_file::Project;
+use record_timeline::{Shot, Timeline};
+use scan_source::Scans;
+use source_reels::ReelTable;
+use std::alloc::Global;
+use std::marker::Model;
+
+/// A job that was accepted. Contracts see its parts, and what the file of each needed key says of its pixels.
+#[derive(Drop)]
+pub struct Job {
+    parts: JobParts,
+    /// The place of each event's reel, so that no name is looked up for a frame.
+    places: Vec<Option<u16>>,
+    infos: Infos,
+}
+
+impl Model for Job {
+    ghost use Rattle.std.specs.Prelude.{◌≡◌};
+    ghost use Rattle.conform_job.specs.Job.{JobData, IsJob};
+    ghost use Rattle.conform_job.specs.Lines.{places_of};
+
+    ghost Value = { JobData };
+
+    ghost view = { λ j. record { parts = j.parts; infos = j.infos } };
+
+    ghost invariant = { λ j. IsJob j.parts j.infos × (j.places.items ≡ places_of j.parts.reels j.parts.timeline.events) };
+}
+
+impl Job {
+    ghost use Rattle.std.specs.Prelude.{Option};
+    ghost use Rattle.conform_job.specs.Job.{need_at, AreMet, IsJob};
+
+    /// The job of these parts, or the first refusal; the parts are given up on a refusal.
+    ///
+    /// First comes 15.1, for the first event whose reel is neither `BL` nor in the table. Then the record frames are taken in
+    /// order, and of a frame the old side before the new. Each source frame is tested where it is first asked for, and
+    /// inspected there, once: 15.2 where the reel doesn't have it or there is no file, 15.3 where the file's header is refused,
+    /// 15.4 where its size isn't the project's. `SourceFault` and `NoMemory` end the plan where they come.
+    pub fn plan<S: Scans>(alloc: Global, parts: JobParts, scans: &mut S) -> Result<Job, JobFault>
+        requires { ArePlanned parts }
+
+        // What is accepted and refused, and 15.1 also where the scan tells nothing.
+        ensures told { IfSome (S.world scans.old) (λ world. IsStep result (first_refusal parts (file_at world))) }
+        ensures lines { MatchResult result (λ _. unknown_of parts.reels parts.timeline.events ≡ None) (λ why. IsByLines why (unknown_of parts.reels parts.timeline.events)) }
+
+        // The job has these parts, and one info for each needed key, which was inspected once.
+        ensures job { IfOk result (λ job. (job.parts ≡ parts) × Grows parts (S.world scans.old) (asks_of parts.timeline) [] job.infos) }
+        ensures once { IfOk result (λ job. HasEachOnce job.infos) }
+        ensures heads { IfOk result (λ job. HeadsGrow (S.heads scans.old) (S.heads scans.new) 0 (length job.infos)) }
+
+        ensures failed { result ≡ Err JobFault.SourceFault → HasRisen (S.faults scans.old) (S.faults scans.new) }
+        ensures steady { result ≢ Err JobFault.SourceFault → S.faults scans.new ≡ S.faults scans.old }
+        ensures later { S.faults scans.old ≤ S.faults scans.new }
+
+        ensures loads { S.loads scans.new ≡ S.loads scans.old }
+        ensures world { S.world scans.new ≡ S.world scans.old }
+        ensures same { S.same scans.old scans.new }
+    {
+        let places = match places_in(alloc, &parts) {
+            Ok(places) => places,
+            Err(fault) => return Err(fault),
+        };
+        match infos_of(alloc, &parts, &places, scans) {
+            Ok(infos) => Ok(Job {
+                parts,
+                places,
+                infos,
+            }),
+            Err(fault) => Err(fault),
+        }
+    }
+
+    /// The digest of the texts that the parts were read from. Takes no memory, as all readers.
+    pub fn digest(&self) -> [u8; 32]
+        ensures { result ≡ self.now.parts.digest }
+    {
+        self.parts.digest
+    }
+
+    /// How many record frames there are, and what holds of every job.
+    pub fn count(&self) -> u32
+        ensures count { result ≡ frame_count self.now.parts.timeline.events }
+        ensures job { IsJob self.now.parts self.now.infos }
+    {
+        self.parts.timeline.count()
+    }
+
+    /// Pixels in a line, 1 to 4096.
+    pub fn width(&self) -> u32
+        ensures { result ≡ self.now.parts.project.width }
+    {
+        self.parts.project.width
+    }
+
+    /// Lines of a frame, 1 to 4096.
+    pub fn height(&self) -> u32
+        ensures { result ≡ self.now.parts.project.height }
+    {
+        self.parts.project.height
+    }
+
+    /// How many bands a frame is rendered in, 1 to 64.
+    pub fn bands(&self) -> u32
+        ensures { result ≡ self.now.parts.project.bands }
+    {
+        self.parts.project.bands
+    }
+
+    /// The project.
+    pub fn project(&self) -> &Project
+        ensures { result.now ≡ self.now.parts.project }
+    {
+        &self.parts.project
+    }
+
+    /// The table of the project's reels.
+    pub fn reels(&self) -> &ReelTable
+        ensures { result.now ≡ self.now.parts.reels }
+    {
+        &self.parts.reels
+    }
+
+    /// The timeline of the project's list.
+    pub fn timeline(&self) -> &Timeline
+        ensures { result.now ≡ self.now.parts.timeline }
+    {
+        &self.parts.timeline
+    }
+
+    /// The path of the file of a key that a record frame needs.
+    pub fn path_of(&self, key: Key) -> PathText
+        requires { IsNeeded self.now.parts key }
+        ensures { Some result ≡ path_of_key self.now.parts.reels key }
+    {
+        path_of_needed(&self.parts, key)
+    }
+
+    /// The file that record frame `i`, from 0, is written to: record reel 1, and the frame's number.
+    pub fn file_of(&self, i: u32) -> FileId
+        requires { i < frame_count self.now.parts.timeline.events }
+        ensures { result ≡ FileId.Frame 1 (first_frame self.now.parts.timeline.events + i) }
+    {
+        FileId::Frame {
+            reel: 1,
+            frame: frame_of(&self.parts.timeline, i).0,
+        }
+    }
+
+    /// What record frame `i`, from 0, shows.
+    pub fn shot(&self, i: u32) -> Shot
+        requires { i < frame_count self.now.parts.timeline.events }
+        ensures shot { result ≡ shot_of_frame self.now.parts.timeline i }
+        ensures fits { IsShotIn self.now.parts.timeline.events result }
+    {
+        shot_of(&self.parts.timeline, i)
+    }
+
+    /// What record frame `i`, from 0, needs: each of its sides that is a source frame has its need.
+    pub fn need(&self, i: u32) -> Need
+        requires { i < frame_count self.now.parts.timeline.events }
+        ensures need { result ≡ need_at self.now i }
+        ensures met { AreMet (shot_of_frame self.now.parts.timeline i) result }
+    {
+        need_of_shot(&self.parts, &self.places, &self.infos, self.shot(i))
+    }
+}
+
+/// The path of the file of a key that a record frame needs.
+fn path_of_needed(parts: &JobParts, key: Key) -> PathText
+    requires { IsNeeded parts.now key }
+    ensures { Some result ≡ path_of_key parts.now.reels key }
+{
+    let Some(path) = path_of_key(&parts.reels, key) else {
+        unreachable!()
+    };
+    path
+}
+
+/// The place of each event's reel.
+fn places_in(alloc: Global, parts: &JobParts) -> Result<Vec<Option<u16>>, JobFault>
+    ensures none { IfOk result (λ places. (unknown_of parts.now.reels parts.now.timeline.events ≡ None) × (places.items ≡ places_of parts.now.reels parts.now.timeline.events)) }
+    ensures refused { IfErr result (IsPlacedUnless parts.now.reels parts.now.timeline.events) }
+{
+    places_of(alloc, &parts.reels, events_of(parts))
+}
