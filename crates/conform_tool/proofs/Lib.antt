@@ -1,0 +1,5 @@
+mod Answering
+mod Frames
+mod Lists
+mod Replies
+mod Tables

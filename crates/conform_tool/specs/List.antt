@@ -1,0 +1,26 @@
+-- The command `list`: what it comes to, and the table that it puts.
+use Rattle.std.specs.Prelude.{◌≡◌, ℕ, List, Option, None, Err, IsOk, IsOkAnd, IsSomeAnd}
+use Rattle.cf_base.specs.declared.timing.Rate.{Rate}
+use Rattle.edl_events.specs.Lists.{list_of}
+use Rattle.conform_tool.specs.Table.{event_table}
+use Rattle.conform_tool.specs.declared.outcome.Outcome.{Outcome}
+use Rattle.conform_tool.specs.declared.outcome.Outcome.TheVariants.{Done, Usage, Refused as IsRefused, SourceFault, SinkFault, NoMemory}
+use Rattle.conform_tool.specs.declared.outcome.Refused.TheVariants as refused
+use Rattle.conform_tool.specs.declared.outcome.Which.TheVariants as which
+
+-- the table that is put for the list at the path
+abbrev pub IsListForm : Rate → Option (List ℕ) → List ℕ → Type 0
+IsListForm rate file output = IsSomeAnd file (λ text. IsOkAnd (list_of rate text) (λ events. output ≡ event_table rate events))
+
+-- The case in which the command comes to an outcome, by the file at the path, if there is one. A fault of the scan and want
+-- of memory may come in any.
+abbrev pub IsListCase : Rate → Option (List ℕ) → Outcome → Type 0
+IsListCase rate file Done = IsSomeAnd file (λ text. IsOk (list_of rate text))
+IsListCase rate file Usage = ⊥
+IsListCase rate file (IsRefused (refused.NoFile which.List)) = file ≡ None
+IsListCase rate file (IsRefused (refused.NoFile which.Frame)) = ⊥
+IsListCase rate file (IsRefused (refused.List refusal)) = IsSomeAnd file (λ text. list_of rate text ≡ Err refusal)
+IsListCase rate file (IsRefused (refused.Frame fault)) = ⊥
+IsListCase rate file SourceFault = Unit {0}
+IsListCase rate file (SinkFault instead) = ⊥
+IsListCase rate file NoMemory = Unit {0}

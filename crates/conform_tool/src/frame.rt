@@ -1,0 +1,108 @@
+//! The command `frame`.
+ghost use Rattle.std.specs.Prelude.{◌≡◌, ◌+◌, ◌*◌, ◌≤◌, ◌++◌, min, length, IfOk, IfErr, IsOkAnd, Err, MatchResult};
+ghost use Rattle.std.specs.List.{flat_map};
+ghost use Rattle.byteorder.specs.Endian.{big_bytes};
+ghost use Rattle.dpx_header.specs.Frame.{IsFrame, need_of};
+ghost use Rattle.dpx_header.specs.Writing.{header_of};
+ghost use Rattle.dpx_pack.specs.Pixels.{pixels};
+ghost use Rattle.conform_tool.specs.Frame.{frame_head, frame_form};
+ghost use Rattle.conform_tool.specs.Reply.{IsReply};
+ghost use Rattle.conform_tool.specs.Output.{line_of};
+ghost use Rattle.conform_tool.specs.declared.command.Command.TheVariants as commands;
+ghost use Rattle.scan_source.specs.Answers.{first_bytes};
+ghost use Rattle.dpx_header.specs.Reading.{info_of};
+ghost use Rattle.conform_tool.specs.Faults.{IfFault};
+
+use crate::outcome::{Outcome, Refused, Which};
+use cf_base::{Fail, PathText, TitleText};
+use dpx_header::{DpxFault, FrameInfo, OutHead, read_header, write_header};
+use dpx_pack::{pack, unpack};
+use scan_source::{Loaded, Scans, head_of};
+use std::alloc::{AllocError, Global};
+
+/// The bytes of the largest file that is taken: the greatest offset, and 4096 lines of 4096 pixels with the greatest
+/// padding after each but the last.
+const MOST: u64 = 84_914_180;
+
+/// The pixels of the file at a path, under a new header: the whole file that is put, or the outcome that was reached.
+pub fn frame<S: Scans>(alloc: Global, path: &PathText, scan: &mut S) -> Result<Vec<u8>, Outcome>
+    ensures reply { MatchResult result
+        (λ file. IsReply (commands.Frame path.now) (record { world = S.world scan.old; faults = S.faults scan.old; loads = S.loads scan.old; heads = S.heads scan.old }) (record { world = S.world scan.new; faults = S.faults scan.new; loads = S.loads scan.new; heads = S.heads scan.new }) Outcome.Done file.items)
+        (λ outcome. IsReply (commands.Frame path.now) (record { world = S.world scan.old; faults = S.faults scan.old; loads = S.loads scan.old; heads = S.heads scan.old }) (record { world = S.world scan.new; faults = S.faults scan.new; loads = S.loads scan.new; heads = S.heads scan.new }) outcome (line_of outcome)) }
+    ensures same { S.same scan.old scan.new }
+{
+    let mut bytes = Vec::new(alloc);
+    match scan.load(path, MOST, &mut bytes) {
+        Loaded::Got { len } => match converted(alloc, &bytes, len) {
+            Ok(file) => Ok(file),
+            Err(Fail::Fault(fault)) => Err(Outcome::Refused(Refused::Frame(fault))),
+            Err(Fail::NoMemory) => Err(Outcome::NoMemory),
+        },
+        Loaded::Absent => Err(Outcome::Refused(Refused::NoFile(Which::Frame))),
+        Loaded::Failed => Err(Outcome::SourceFault),
+        Loaded::NoMemory => Err(Outcome::NoMemory),
+    }
+}
+
+/// The file to put for one of `len` bytes, of which the first are at hand, or the first fault of its header.
+fn converted(alloc: Global, bytes: &[u8], len: u64) -> Result<Vec<u8>, Fail<DpxFault>>
+    requires { length bytes.now ≡ min len MOST }
+    ensures form { IfOk result (λ file. IsOkAnd (info_of (first_bytes 2048 bytes.now) len)
+        (λ info. IsFrame info × (file.items ≡ frame_form info bytes.now))) }
+    ensures fault { IfFault result (λ fault. info_of (first_bytes 2048 bytes.now) len ≡ Err fault) }
+{
+    let info = match read_header(&head_of(bytes), len) {
+        Ok(info) => info,
+        Err(fault) => return Err(Fail::Fault(fault)),
+    };
+    match new_file(alloc, &info, bytes) {
+        Ok(file) => Ok(file),
+        Err(_) => Err(Fail::NoMemory),
+    }
+}
+
+/// The file's pixels in big-endian words, under a new header.
+#[tactic(auto, unfolding(crate::specs::Frame::frame_form))]
+fn new_file(alloc: Global, info: &FrameInfo, bytes: &[u8]) -> Result<Vec<u8>, AllocError>
+    requires frame { IsFrame info.now }
+    requires whole { need_of info.now ≤ length bytes.now }
+    ensures { IfOk result (λ file. file.items ≡ frame_form info.now bytes.now) }
+{
+    let count = info.width as usize * info.height as usize;
+    let mut words = vec![in alloc; 0; count]?;
+    unpack(info, bytes, &mut words);
+    let mut file = vec![in alloc; 0; 2048 + 4 * count]?;
+    fill_file(info, &words, &mut file);
+    Ok(file)
+}
+
+/// The header, then the words.
+fn fill_file(info: &FrameInfo, words: &[u32], file: &mut [u8])
+    requires frame { IsFrame info.now }
+    requires size { length file.old ≡ 2048 + 4 * length words.now }
+    ensures { file.new ≡ header_of (frame_head info.now) ++ flat_map (big_bytes 4) words.now }
+{
+    let (header, pixels) = file.split_at_mut(2048);
+    header.copy_from_slice(&new_header(info));
+    pack(words, pixels);
+}
+
+/// The header of a frame that stands alone.
+fn new_header(info: &FrameInfo) -> [u8; 2048]
+    requires { IsFrame info.now }
+    ensures { result ≡ header_of (frame_head info.now) }
+{
+    let mut header = [0; 2048];
+    let head = OutHead {
+        width: info.width,
+        height: info.height,
+        reel: 0,
+        frame: 0,
+        position: 0,
+        length: 1,
+        timecode: None,
+        title: TitleText::empty(),
+    };
+    write_header(&head, &mut header);
+    header
+}

@@ -1,0 +1,59 @@
+//! The command `list`.
+ghost use Rattle.std.specs.Prelude.{◌≡◌, ◌≤◌, IfOk, IsOkAnd, Err, MatchResult};
+ghost use Rattle.edl_events.specs.Lists.{list_of};
+ghost use Rattle.conform_tool.specs.Faults.{IfFault};
+ghost use Rattle.conform_tool.specs.Output.{line_of};
+ghost use Rattle.conform_tool.specs.Reply.{IsReply};
+ghost use Rattle.conform_tool.specs.Table.{event_table};
+ghost use Rattle.conform_tool.specs.declared.command.Command.TheVariants as commands;
+
+use crate::outcome::{Outcome, Refused, Which};
+use crate::table::event_table;
+use cf_base::{Fail, PathText, Rate};
+use edl_events::{ListRefusal, read_list};
+use scan_source::{Loaded, Scans};
+use std::alloc::Global;
+
+/// One byte more than the longest list has.
+const MOST: u64 = 4_194_305;
+
+/// The event table of the list at a path, or the outcome that was reached.
+pub fn list<S: Scans>(
+    alloc: Global,
+    path: &PathText,
+    rate: Rate,
+    scan: &mut S,
+) -> Result<Vec<u8>, Outcome>
+    ensures reply { MatchResult result
+        (λ table. IsReply (commands.List path.now rate) (record { world = S.world scan.old; faults = S.faults scan.old; loads = S.loads scan.old; heads = S.heads scan.old }) (record { world = S.world scan.new; faults = S.faults scan.new; loads = S.loads scan.new; heads = S.heads scan.new }) Outcome.Done table.items)
+        (λ outcome. IsReply (commands.List path.now rate) (record { world = S.world scan.old; faults = S.faults scan.old; loads = S.loads scan.old; heads = S.heads scan.old }) (record { world = S.world scan.new; faults = S.faults scan.new; loads = S.loads scan.new; heads = S.heads scan.new }) outcome (line_of outcome)) }
+    ensures same { S.same scan.old scan.new }
+{
+    let mut text = Vec::new(alloc);
+    match scan.load(path, MOST, &mut text) {
+        Loaded::Got { .. } => match table_of(alloc, rate, &text) {
+            Ok(table) => Ok(table),
+            Err(Fail::Fault(refusal)) => Err(Outcome::Refused(Refused::List(refusal))),
+            Err(Fail::NoMemory) => Err(Outcome::NoMemory),
+        },
+        Loaded::Absent => Err(Outcome::Refused(Refused::NoFile(Which::List))),
+        Loaded::Failed => Err(Outcome::SourceFault),
+        Loaded::NoMemory => Err(Outcome::NoMemory),
+    }
+}
+
+/// The event table of a list's text, or its first refusal.
+fn table_of(alloc: Global, rate: Rate, text: &[u8]) -> Result<Vec<u8>, Fail<ListRefusal>>
+    ensures form { IfOk result (λ table. IsOkAnd (list_of rate text.now) (λ list. table.items ≡ event_table rate list)) }
+    ensures fault { IfFault result (λ refusal. list_of rate text.now ≡ Err refusal) }
+{
+    let list = match read_list(alloc, rate, text) {
+        Ok(list) => list,
+        Err(Fail::Fault(refusal)) => return Err(Fail::Fault(refusal)),
+        Err(Fail::NoMemory) => return Err(Fail::NoMemory),
+    };
+    match event_table(alloc, rate, &list) {
+        Ok(table) => Ok(table),
+        Err(_) => Err(Fail::NoMemory),
+    }
+}

@@ -1,0 +1,31 @@
+//! The commands over files in memory: what no clause says, with values from outside.
+mod frames;
+mod lists;
+mod outside;
+
+use crate::answer::answer;
+use crate::outcome::Outcome;
+use cf_base::{MemorySink, PathText};
+use scan_source::MemoryScans;
+use std::alloc::Global;
+use std::test::Fail;
+
+/// A scan of one file, whose calls with these numbers fail.
+fn scan_of(alloc: Global, path: &[u8], file: Vec<u8>, fails: &[u64]) -> Result<MemoryScans, Fail> {
+    let mut files = Vec::new(alloc);
+    files.push((PathText::of(path).ok_or("a path")?, file))?;
+    Ok(MemoryScans::new(files, fails.to_vec(alloc)?))
+}
+
+/// What the words come to over one file, and what is put for them.
+fn said(
+    alloc: Global,
+    words: &[&str],
+    path: &[u8],
+    file: Vec<u8>,
+) -> Result<(Outcome, MemorySink), Fail> {
+    let mut scan = scan_of(alloc, path, file, &[])?;
+    let mut out = MemorySink::new(alloc);
+    let outcome = answer(alloc, words, &mut scan, &mut out);
+    Ok((outcome, out))
+}
