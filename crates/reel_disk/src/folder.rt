@@ -36,18 +36,15 @@ fn no_path() -> io::Error {
 fn fill<F: Read>(file: &mut F, into: &mut [u8]) -> io::Result<usize>
     ensures { IfOk result (λ n. n ≤ length into.old) }
 {
-    let most = into.len();
-    let mut filled = 0usize;
-    for _ in 0..most {
-        if filled < most {
-            let n = file.read(&mut into[filled..])?;
-            if n == 0 {
-                break;
-            }
-            filled = filled.saturating_add(n);
+    let mut filled = 0;
+    while filled < into.len() {
+        let count = file.read(&mut into[filled..])?;
+        if count == 0 {
+            break;
         }
+        filled += count;
     }
-    Ok(filled.min(most))
+    Ok(filled)
 }
 
 impl<R: Files + Drop> FolderDisk<R> {
