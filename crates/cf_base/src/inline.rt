@@ -4,7 +4,7 @@ ghost use Rattle.std.specs.Prelude.{◌≡◌, ◌≤◌, length};
 use std::marker::Model;
 
 /// At most `N` bytes. Contracts see the list of them.
-#[derive(Clone, Copy)]
+#[derive(Clone, Copy, Debug, PartialEq, Eq)]
 pub struct Inline<const N: usize> {
     bytes: [u8; N],
     len: usize,

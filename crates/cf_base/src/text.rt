@@ -7,7 +7,7 @@ use crate::inline::Inline;
 use std::marker::Model;
 
 /// The path of a file, relative to the current folder: 1 to 255 bytes from 20 to 7E hexadecimal.
-#[derive(Clone, Copy)]
+#[derive(Clone, Copy, Debug, PartialEq, Eq)]
 pub struct PathText {
     text: Inline<255>,
 }
@@ -50,7 +50,7 @@ impl PathText {
 }
 
 /// A title: 0 to 199 bytes from 20 to 7E hexadecimal.
-#[derive(Clone, Copy)]
+#[derive(Clone, Copy, Debug, PartialEq, Eq)]
 pub struct TitleText {
     text: Inline<199>,
 }
@@ -102,7 +102,7 @@ impl TitleText {
 }
 
 /// The name of a reel: 1 to 64 bytes from 21 to 7E hexadecimal.
-#[derive(Clone, Copy)]
+#[derive(Clone, Copy, Debug, PartialEq, Eq)]
 pub struct Name {
     text: Inline<64>,
 }
