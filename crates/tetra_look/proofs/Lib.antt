@@ -1,0 +1,4 @@
+pub mod LatticeLemmas
+pub mod SpotLemmas
+pub mod WayLemmas
+mod Rows
