@@ -1,6 +1,6 @@
 mod Asking
 mod Growing
-mod Heads
+pub mod Heads
 mod Judging
 mod KeyOrder
 mod Needed

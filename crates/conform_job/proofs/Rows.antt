@@ -47,6 +47,7 @@ desk frames events = record {
   project = record { title = codes "DESK"; rate = R24; width = 2; height = 2; black = record { r = 0; g = 0; b = 0; r_in_range = lit≤ tt; g_in_range = lit≤ tt; b_in_range = lit≤ tt }; bands = 4; edl = codes "desk.edl"; cube = None; reels = reels frames };
   reels = reels frames;
   timeline = record { rate = R24; mode = NonDrop; events = events };
+  look = None;
 }
 
 asked : length (asks_of (record { rate = R24; mode = NonDrop; events = events })) ≡ 26

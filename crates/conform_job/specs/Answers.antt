@@ -57,14 +57,14 @@ pub record Grows (p : JobParts) (told : Option World) (asks : List Ask) (before 
   pub once : HasEachOnce before → HasEachOnce after
   pub found : All (λ (ask : Ask). IsSome (key_of_ask p.reels p.timeline.events ask)) asks
 
--- a count of heads after so many more
-abbrev pub heads_after : ℕ → ℕ → ℕ
-heads_after zero heads = heads
-heads_after (suc more) heads = one_more (heads_after more heads)
+-- a count after so many more
+abbrev pub count_after : ℕ → ℕ → ℕ
+count_after zero count = count
+count_after (suc more) count = one_more (count_after more count)
 
 -- one head for each info that has come, from `few` infos to `many`
 abbrev pub HeadsGrow : ℕ → ℕ → ℕ → ℕ → Type 0
-HeadsGrow before now few many = (few ≤ many) × (now ≡ heads_after (many - few) before)
+HeadsGrow before now few many = (few ≤ many) × (now ≡ count_after (many - few) before)
 
 -- what is made of a file that was inspected
 abbrev pub IsKept : FrameInfo → ℕ → ℕ → Result FrameInfo JobFault → Type 0

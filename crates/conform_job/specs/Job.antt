@@ -2,15 +2,19 @@
 --     JobData      what contracts see of it: its parts, and what the file of each needed key says
 --     IsJob p infos      what holds of every job, whatever its scan told
 --     need_at job i      the keys that record frame i needs, with their infos
-use Rattle.std.specs.Prelude.{◌≡◌, ℕ, ◌≤◌, true, List, [], Option, Some, None, IsSome, option_and_then}
+--     file_of job i      the file that record frame i is written to
+use Rattle.std.specs.Prelude.{◌≡◌, ℕ, ◌+◌, ◌≤◌, true, List, [], Option, Some, None, IsSome, option_and_then}
 use Rattle.std.specs.Option.{option_map}
 use Rattle.std.specs.List.{list_any}
+use Rattle.cf_base.specs.declared.file.FileId.{FileId}
+use Rattle.cf_base.specs.declared.file.FileId.TheVariants.{Frame as FrameFile}
 use Rattle.cf_base.specs.declared.key.Key.{Key}
 use Rattle.dpx_header.specs.declared.info.FrameInfo.{FrameInfo}
 use Rattle.record_timeline.specs.declared.Side.{Side}
 use Rattle.record_timeline.specs.declared.Side.TheVariants.{Black, Frame}
 use Rattle.record_timeline.specs.declared.Shot.{Shot}
 use Rattle.record_timeline.specs.declared.Shot.TheVariants.{Gap, One, Two}
+use Rattle.record_timeline.specs.Accepted.{first_frame}
 use Rattle.conform_job.specs.Answers.{Grows}
 use Rattle.conform_job.specs.Asks.{asks_of, shot_of_frame}
 use Rattle.conform_job.specs.Keys.{key_of_ask, keys_of_asks, is_key, info_at}
@@ -39,6 +43,10 @@ pub record IsJob (p : JobParts) (infos : List (Key × FrameInfo)) : Type 0 where
   pub planned : ArePlanned p
   pub known : unknown_of p.reels p.timeline.events ≡ None
   pub filled : Grows p None (asks_of p.timeline) [] infos
+
+-- the file of record frame i: the frame of record reel 1 with the number of the record frame
+abbrev pub file_of : JobData → ℕ → FileId
+file_of job i = FrameFile 1 (first_frame job.parts.timeline.events + i)
 
 -- a record frame asks for the key
 abbrev pub IsNeeded : JobParts → Key → Type 0

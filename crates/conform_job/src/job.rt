@@ -2,13 +2,13 @@
 ghost use Rattle.std.specs.Prelude.{◌≡◌, ◌≢◌, ◌+◌, ◌<◌, ◌≤◌, [], length, None, Some, Err, IfSome, IfOk, IfErr, MatchResult};
 ghost use Rattle.cf_base.specs.Count.{HasRisen};
 ghost use Rattle.scan_source.specs.World.{file_at};
-ghost use Rattle.record_timeline.specs.Accepted.{first_frame, frame_count};
+ghost use Rattle.record_timeline.specs.Accepted.{frame_count};
 ghost use Rattle.record_timeline.specs.Shots.{IsShotIn};
 ghost use Rattle.source_reels.specs.Reels.{path_of_key};
 ghost use Rattle.conform_job.specs.Answers.{IsStep, Grows, HeadsGrow};
 ghost use Rattle.conform_job.specs.Asks.{asks_of, shot_of_frame};
 ghost use Rattle.conform_job.specs.Infos.{HasEachOnce};
-ghost use Rattle.conform_job.specs.Job.{ArePlanned, IsByLines, IsNeeded};
+ghost use Rattle.conform_job.specs.Job.{ArePlanned, IsByLines, IsNeeded, file_of};
 ghost use Rattle.conform_job.specs.Lines.{places_of, IsPlacedUnless};
 ghost use Rattle.conform_job.specs.Refusals.{first_refusal, unknown_of};
 
@@ -17,13 +17,14 @@ use crate::infos::Infos;
 use crate::lines::places_of;
 use crate::need::need_of_shot;
 use crate::{JobFault, JobParts, Need};
-use cf_base::{FileId, Key, PathText};
+use cf_base::{FileId, Key, PathText, Rate};
 use project_file::Project;
 use record_timeline::{Shot, Timeline};
 use scan_source::Scans;
 use source_reels::ReelTable;
 use std::alloc::Global;
 use std::marker::Model;
+use tetra_look::Look;
 
 /// A job that was accepted. Contracts see its parts, and what the file of each needed key says of its pixels.
 #[derive(Drop)]
@@ -133,6 +134,14 @@ impl Job {
         &self.parts.project
     }
 
+    /// The counting base of all labels, which is also the timeline's.
+    pub fn rate(&self) -> Rate
+        ensures rate { result ≡ self.now.parts.project.rate }
+        ensures timeline { result ≡ self.now.parts.timeline.rate }
+    {
+        self.parts.project.rate
+    }
+
     /// The table of the project's reels.
     pub fn reels(&self) -> &ReelTable
         ensures { result.now ≡ self.now.parts.reels }
@@ -147,6 +156,13 @@ impl Job {
         &self.parts.timeline
     }
 
+    /// The look of each pixel.
+    pub fn look(&self) -> &Look
+        ensures { result.now ≡ self.now.parts.look }
+    {
+        &self.parts.look
+    }
+
     /// The path of the file of a key that a record frame needs.
     pub fn path_of(&self, key: Key) -> PathText
         requires { IsNeeded self.now.parts key }
@@ -158,7 +174,7 @@ impl Job {
     /// The file that record frame `i`, from 0, is written to: record reel 1, and the frame's number.
     pub fn file_of(&self, i: u32) -> FileId
         requires { i < frame_count self.now.parts.timeline.events }
-        ensures { result ≡ FileId.Frame 1 (first_frame self.now.parts.timeline.events + i) }
+        ensures { result ≡ file_of self.now i }
     {
         FileId::Frame {
             reel: 1,

@@ -4,6 +4,7 @@ use dpx_header::DpxFault;
 use project_file::Project;
 use record_timeline::Timeline;
 use source_reels::ReelTable;
+use tetra_look::Look;
 
 /// What a job is made of.
 #[derive(Drop)]
@@ -16,11 +17,13 @@ pub struct JobParts {
     pub reels: ReelTable,
     /// The timeline of the project's list, at the project's rate.
     pub timeline: Timeline,
+    /// The look of the project's cube.
+    pub look: Look,
 }
 
 /// Why a job is refused. `line` is that of the event in the list, from 1, `reel` the event's reel, and `source` a frame
 /// number of that reel, which may be negative or past the day.
-#[derive(Clone, Copy)]
+#[derive(Clone, Copy, Debug, PartialEq, Eq)]
 pub enum JobFault {
     /// 15.1: the event's reel is neither `BL` nor in the table.
     UnknownReel {
