@@ -1,0 +1,5 @@
+pub mod Filled
+pub mod HandedIn
+pub mod Lines
+mod Rows
+pub mod Samples

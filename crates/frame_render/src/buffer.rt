@@ -1,0 +1,37 @@
+//! Room for a frame.
+ghost use Rattle.std.specs.Prelude.{◌≡◌, length, IfOk};
+ghost use Rattle.frame_render.specs.Frame.{frame_size};
+
+use cf_base::{Fail, Never};
+use conform_job::Job;
+use std::alloc::Global;
+use std::marker::Model;
+
+/// Room for the file of one frame of a job: 2048 bytes of header and four for each pixel. Contracts
+/// see the bytes that lie in it.
+#[derive(Drop)]
+pub struct FrameBuf {
+    pub(crate) bytes: Vec<u8>,
+}
+
+impl Model for FrameBuf {
+    ghost use Rattle.std.specs.Prelude.{List, ℕ};
+
+    ghost Value = { List ℕ };
+
+    ghost view = { λ b. b.bytes.items };
+}
+
+impl FrameBuf {
+    /// Room for a frame of the job; fails for want of memory alone.
+    pub fn new(alloc: Global, job: &Job) -> Result<FrameBuf, Fail<Never>>
+        ensures room { IfOk result (λ buf. length buf ≡ frame_size job.now) }
+    {
+        // What holds of every job, with the bounds of its size, is said of its count.
+        let _ = job.count();
+        match vec![in alloc; 0; 2048 + 4 * (job.width() as usize * job.height() as usize)] {
+            Ok(bytes) => Ok(FrameBuf { bytes }),
+            Err(_) => Err(Fail::NoMemory),
+        }
+    }
+}

@@ -1,0 +1,97 @@
+//! Decoded source frames.
+ghost use Rattle.std.specs.Prelude.{◌≡◌, ◌*◌, ◌≤◌, length, IfSome, IfOk};
+ghost use Rattle.dpx_header.specs.Frame.{IsFrame, need_of};
+ghost use Rattle.dpx_pack.specs.Pixels.{pixels};
+ghost use Rattle.scan_source.specs.World.{file_at};
+ghost use Rattle.frame_render.specs.Frame.{AreWordsOf, IsFrontOf, pixel_count};
+
+use cf_base::{Fail, Key, Never};
+use conform_job::{Job, Work};
+use dpx_header::FrameInfo;
+use dpx_pack::unpack;
+use std::alloc::Global;
+use std::marker::{Model, PhantomData};
+
+/// The pixel words of a source frame of N's job, one for each pixel: where N's files are told,
+/// those of the file that the key names in them, by the file's own header.
+#[derive(Drop)]
+pub struct Decoded<N: Work> {
+    key: Key,
+    words: Vec<u32>,
+    of: PhantomData<N>,
+}
+
+impl<N: Work> Model for Decoded<N> {
+    ghost use Rattle.std.specs.Prelude.{◌≡◌, length};
+    ghost use Rattle.frame_render.specs.Frame.{AreWordsOf, KeyWords, pixel_count};
+
+    ghost Value = { KeyWords };
+
+    ghost view = { λ d. record { key = d.key; words = d.words.items } };
+
+    ghost invariant = { λ d.
+        (length d.words.items ≡ pixel_count N.job)
+        × AreWordsOf N.job N.files d.key d.words.items };
+}
+
+impl<N: Work> Decoded<N> {
+    /// The key of the source frame.
+    pub fn key(&self) -> Key
+        ensures key { result ≡ self.now.key }
+    {
+        self.key
+    }
+
+    /// One word for each pixel, line by line from the top and from left to right: R in bits 31 to
+    /// 22, G in 21 to 12, B in 11 to 2 (SMPTE 268M, method A).
+    pub fn words(&self) -> &[u32]
+        ensures words { result.now ≡ self.now.words }
+        ensures count { length result.now ≡ pixel_count N.job }
+        ensures defined { AreWordsOf N.job N.files self.now.key result.now }
+    {
+        &self.words
+    }
+
+    /// Decodes the first bytes of the key's file, which has this header and the job's size; fails
+    /// for want of memory alone.
+    pub fn of(
+        alloc: Global,
+        job: &Job,
+        key: Key,
+        info: &FrameInfo,
+        bytes: &[u8],
+    ) -> Result<Decoded<N>, Fail<Never>>
+        requires job { job.now ≡ N.job }
+        requires frame { IsFrame info.now }
+        requires whole { need_of info.now ≤ length bytes.now }
+        requires width { info.now.width ≡ job.now.parts.project.width }
+        requires height { info.now.height ≡ job.now.parts.project.height }
+        requires file { IfSome N.files (λ world.
+            IsFrontOf N.job (file_at world) key info.now bytes.now) }
+        ensures key { IfOk result (λ d. d.key ≡ key) }
+    {
+        match decode(alloc, info, bytes) {
+            Ok(words) => Ok(Decoded {
+                key,
+                words,
+                of: PhantomData,
+            }),
+            Err(fail) => Err(fail),
+        }
+    }
+}
+
+/// The pixel words of a file.
+fn decode(alloc: Global, info: &FrameInfo, bytes: &[u8]) -> Result<Vec<u32>, Fail<Never>>
+    requires frame { IsFrame info.now }
+    requires whole { need_of info.now ≤ length bytes.now }
+    ensures words { IfOk result (λ words. words.items ≡ pixels info.now bytes.now) }
+    ensures count { IfOk result (λ words. length words.items ≡ info.now.width * info.now.height) }
+{
+    let mut words = match vec![in alloc; 0; info.width as usize * info.height as usize] {
+        Ok(words) => words,
+        Err(_) => return Err(Fail::NoMemory),
+    };
+    unpack(info, bytes, &mut words);
+    Ok(words)
+}

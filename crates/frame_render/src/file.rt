@@ -1,0 +1,112 @@
+//! The file of a frame: its header, and then its picture.
+ghost use Rattle.std.specs.Prelude.{◌≡◌, ◌+◌, ◌++◌, ◌<◌, ◌≤◌, drop, length, IfSome};
+ghost use Rattle.std.specs.Option.{option_copied};
+ghost use Rattle.cf_base.specs.Timing.{frames_in_day};
+ghost use Rattle.dpx_header.specs.Writing.{IsOutHead, header_of};
+ghost use Rattle.record_timeline.specs.Accepted.{frame_count};
+ghost use Rattle.conform_job.specs.Asks.{shot_of_frame};
+ghost use Rattle.conform_job.specs.Job.{ArePlanned, need_at};
+ghost use Rattle.scan_source.specs.World.{file_at};
+ghost use Rattle.frame_render.specs.Frame.{HasKeyOf, HasWords, IsDecoded, frame_size, out_head, picture, timecode_of, words_kept};
+
+use crate::picture::render_picture;
+use crate::{Decoded, FrameBuf, Rendered};
+use cf_base::FrameNo;
+use cf_timecode::{bcd, label_of};
+use conform_job::{Job, Work};
+use dpx_header::{OutHead, write_header};
+use std::marker::PhantomData;
+
+/// The file of record frame `i` of N's job, from 0, from the source frames that it needs. Takes no
+/// memory.
+pub fn render<N: Work>(
+    job: &Job,
+    i: u32,
+    old: Option<&Decoded<N>>,
+    new: Option<&Decoded<N>>,
+    buf: FrameBuf,
+) -> Rendered<N>
+    requires job { job.now ≡ N.job }
+    requires index { i < frame_count N.job.parts.timeline.events }
+    requires old { HasKeyOf (need_at N.job i).old (option_copied old) }
+    requires new { HasKeyOf (need_at N.job i).new (option_copied new) }
+    requires room { length buf ≡ frame_size N.job }
+    ensures index { result.index ≡ i }
+{
+    // The job says of its needs that each side that is a source frame has one.
+    let _ = job.need(i);
+    let FrameBuf { mut bytes } = buf;
+    render_file(job, i, words_of(old), words_of(new), &mut bytes);
+    Rendered {
+        index: i,
+        file: job.file_of(i),
+        bytes,
+        of: PhantomData,
+    }
+}
+
+/// The pixel words that were decoded, if there are any.
+fn words_of<N: Work>(decoded: Option<&Decoded<N>>) -> Option<&[u32]>
+    ensures words { option_copied result ≡ words_kept (option_copied decoded.entry) }
+    ensures defined { IfSome N.files (λ world.
+        IsDecoded N.job (file_at world) (option_copied decoded.entry)) }
+    ensures count { HasWords N.job (option_copied result) }
+{
+    match decoded {
+        Some(decoded) => Some(decoded.words()),
+        None => None,
+    }
+}
+
+/// The bytes of the file of record frame `i`.
+fn render_file(job: &Job, i: u32, old: Option<&[u32]>, new: Option<&[u32]>, out: &mut [u8])
+    requires index { i < frame_count job.now.parts.timeline.events }
+    requires old { HasWords job.now (option_copied old) }
+    requires new { HasWords job.now (option_copied new) }
+    requires room { length out.old ≡ frame_size job.now }
+    ensures { out.new ≡ header_of (out_head job.now i)
+        ++ picture job.now (shot_of_frame job.now.parts.timeline i)
+        (option_copied old.entry) (option_copied new.entry) }
+{
+    let mut header = [0; 2048];
+    write_header(&out_head(job, i), &mut header);
+    put_front(&header, out);
+    render_picture(job, job.shot(i), old, new, &mut out[2048..]);
+}
+
+/// The header of record frame `i`.
+fn out_head(job: &Job, i: u32) -> OutHead
+    requires { i < frame_count job.now.parts.timeline.events }
+    ensures head { result ≡ out_head job.now i }
+    ensures valid { IsOutHead result }
+    ensures planned { ArePlanned job.now.parts }
+{
+    let number = job.timeline().first().0 + i;
+    OutHead {
+        width: job.width(),
+        height: job.height(),
+        reel: 1,
+        frame: number,
+        position: i,
+        length: job.count(),
+        timecode: Some(timecode_of(job, number)),
+        title: job.project().title,
+    }
+}
+
+/// The timecode of a frame of the day, as SMPTE ST 12-1 has its digits.
+fn timecode_of(job: &Job, number: u32) -> u32
+    requires planned { ArePlanned job.now.parts }
+    requires day { number < frames_in_day job.now.parts.timeline.rate job.now.parts.timeline.mode }
+    ensures { result ≡ timecode_of job.now number }
+{
+    bcd(label_of(job.project().rate, job.timeline().mode(), FrameNo(number)))
+}
+
+/// Writes a front part.
+fn put_front(front: &[u8], out: &mut [u8])
+    requires { length front.now ≤ length out.old }
+    ensures { out.new ≡ front.now ++ drop (length front.now) out.old }
+{
+    out[..front.len()].copy_from_slice(front);
+}

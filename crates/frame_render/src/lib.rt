@@ -1,0 +1,18 @@
+//! Frames of the reel: the file of one record frame, from the source frames that it needs. What a
+//! pixel shows is this project's own rule; the file is DPX (SMPTE 268M), 10-bit RGB.
+#![tactic(auto)]
+
+mod buffer;
+mod decoded;
+mod file;
+mod picture;
+mod pixel;
+mod rendered;
+
+pub use buffer::FrameBuf;
+pub use decoded::Decoded;
+pub use file::render;
+pub use rendered::Rendered;
+
+#[cfg(test)]
+mod tests;
