@@ -1,0 +1,55 @@
+-- The reel of a job, and what a run of calls on its folder keeps. All of it is this project's own
+-- rule.
+--     frames_of job      how many frames the reel has
+--     reel_of job files      for each frame its file and its bytes
+--     IsReelRun job told old new      what each call on the reel keeps, and so does each run of them
+use Rattle.std.specs.Prelude.{◌≡◌, ◌≢◌, ◌⊎◌, ℕ, ◌<◌, List, Option, IfSome}
+use Rattle.cf_base.specs.declared.file.FileId.{FileId}
+use Rattle.cf_base.specs.declared.file.FileId.TheVariants.{Body}
+use Rattle.scan_source.specs.World.{World, file_at}
+use Rattle.record_timeline.specs.Accepted.{frame_count}
+use Rattle.conform_job.specs.Job.{JobData, file_of}
+use Rattle.conform_job.specs.Refusals as sources
+use Rattle.frame_render.specs.Frame.{frame_file}
+use Rattle.reel_disk.specs.Disk.{Files, History, moment_of}
+use Rattle.reel_disk.specs.Runs.{Extends, LeavesOnly, Surely, NeverForgets}
+use Rattle.resume_ledger.specs.Ledger.{Acks}
+use Rattle.resume_ledger.specs.Sound.{Reel, IsSoundAndFit}
+
+abbrev pub frames_of : JobData → ℕ
+frames_of job = frame_count job.parts.timeline.events
+
+-- the files of the job's frames, and their bytes from the source files
+abbrev pub reel_of : JobData → sources.Files → Reel
+reel_of job files i = (file_of job i, frame_file job files i)
+
+-- the files of the folder acknowledge the frame
+abbrev pub HasAcked : JobData → ℕ → Files → Type 0
+HasAcked job i files = Acks job.parts.digest (frames_of job) i files
+
+-- each acknowledged frame is the job's, and the folder is unsealed or has the job's ledger
+abbrev pub IsSoundReel : JobData → World → Files → Type 0
+IsSoundReel job world files = IsSoundAndFit job.parts.digest (frames_of job)
+    (reel_of job (file_at world)) files
+
+-- Through a run of calls no acknowledgement is lost. Where the source files are told, and the run
+-- was begun on files that are sound and fit, whatever a crash leaves at any moment is sound and
+-- fit.
+pub record IsReelRun (job : JobData) (told : Option World) (old new : History) : Type 0 where
+  pub extends : Extends old new
+  pub keeps : (k : ℕ) → NeverForgets old new (HasAcked job k)
+  pub sound : IfSome told (λ world. Surely (moment_of old) (IsSoundReel job world)
+      → LeavesOnly old new (IsSoundReel job world))
+
+-- The rest is said of the steps of a finish.
+
+-- frame i of a reel has this file, which no other frame has, and these bytes
+pub record HasFrame (count : ℕ) (reel : Reel) (i : ℕ) (file : FileId)
+    (bytes : List ℕ) : Type 0 where
+  pub named : (reel i).0 ≡ file
+  pub holds : (reel i).1 ≡ bytes
+  pub apart : (k : ℕ) → k < count → k ≢ i → (reel k).0 ≢ file
+
+-- what a finish of this file may write
+abbrev pub IsWrittenFile : FileId → FileId → Type 0
+IsWrittenFile file q = (q ≡ file) ⊎ (q ≡ Body)

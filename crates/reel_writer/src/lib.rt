@@ -1,0 +1,9 @@
+//! The reel of a job being written: a frame's file first, then its gate in the ledger.
+#![tactic(auto)]
+
+mod reel;
+mod store;
+#[cfg(test)]
+mod tests;
+
+pub use reel::Reel;

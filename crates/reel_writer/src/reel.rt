@@ -1,0 +1,230 @@
+//! The reel of a job.
+ghost use Rattle.std.specs.Prelude.{◌≡◌, ◌≢◌, ◌+◌, ◌<◌, ◌++◌, ◌∷◌, [], true, false, Some, Err, length, slice_index_or, vec_len, vec_capacity, OnOk, OnErr, IfOk, IsErr, IsErrOf};
+ghost use Rattle.cf_base.specs.Count.{HasCause};
+ghost use Rattle.conform_job.specs.Job.{file_of};
+ghost use Rattle.reel_disk.specs.Disk.{moment_of, view_of};
+ghost use Rattle.reel_disk.specs.Runs.{Narrows, Surely, Spares};
+ghost use Rattle.resume_ledger.specs.Ledger.{IsLedgerFile, IsSealed};
+ghost use Rattle.resume_ledger.specs.Sound.{AddsNone, AddsAtMost};
+ghost use Rattle.resume_ledger.specs.Attach.{HasAttached, IsAnswerTo};
+ghost use Rattle.reel_writer.specs.Reel.{frames_of, HasAcked, IsReelRun, IsWrittenFile};
+ghost use Rattle.reel_writer.specs.View.{ReelView, IsReelOf, IsOpening, after_finish, after_fault, ledger_in, disk_in};
+
+use crate::store::store;
+use conform_job::{Job, Work};
+use frame_render::Rendered;
+use reel_disk::{Disk, DiskFault};
+use resume_ledger::{Ledger, OpenFault};
+use std::alloc::Global;
+use std::marker::{Model, PhantomData};
+
+/// The folder of N's reel while it is written: the disk, the ledger, and which frames were finished
+/// in this run.
+///
+/// Contracts see these, and how many frames were acknowledged before; the ledger is closed once a
+/// fault has closed the reel. A frame that is acknowledged is not written again.
+pub struct Reel<D: Disk, N: Work> {
+    disk: D,
+    ledger: Ledger,
+    /// The frames finished in this run, in order. There is room for every frame.
+    acks: Vec<u32>,
+    kept: u32,
+    closed: bool,
+    of: PhantomData<N>,
+}
+
+impl<D: Disk, N: Work> Model for Reel<D, N> {
+    ghost use Rattle.std.specs.Prelude.{◌≡◌, ◌≤◌, false, length, vec_capacity};
+    ghost use Rattle.reel_writer.specs.View.{ReelView, reel_code, IsReelOf};
+
+    ghost Value = { ReelView D };
+
+    ghost coded = { reel_code D.code };
+
+    ghost view = { λ r. record {
+      disk = r.disk;
+      ledger = record { digest = r.ledger.digest; gates = r.ledger.gates; closed = r.closed };
+      acks = r.acks.items;
+      kept = r.kept;
+    } };
+
+    ghost invariant = { λ r.
+        IsReelOf N.job D.tells D.history (record {
+          disk = r.disk;
+          ledger = record { digest = r.ledger.digest; gates = r.ledger.gates; closed = r.closed };
+          acks = r.acks.items;
+          kept = r.kept;
+        })
+        × (length r.ledger.gates ≤ vec_capacity r.acks)
+        × (r.closed ≡ false → r.ledger.closed ≡ false) };
+}
+
+/// Adds an item where there is room, which takes no memory.
+fn push_within(list: &mut Vec<u32>, item: u32)
+    requires { vec_len list.old < vec_capacity list.old }
+    ensures items { list.new.items ≡ list.old.items ++ item ∷ [] }
+    ensures capacity { vec_capacity list.new ≡ vec_capacity list.old }
+{
+    let at = list.len();
+    match list.insert(at, item) {
+        Ok(()) => {}
+        Err(_) => unreachable!(),
+    }
+}
+
+impl<D: Disk, N: Work> Reel<D, N> {
+    /// Opens a folder for N's job, and reserves room for every frame that is finished. It makes the
+    /// device calls of `Ledger::attach`, and answers as that does; a refusal hands the disk back.
+    pub fn begin(alloc: Global, disk: D, job: &Job) -> Result<Reel<D, N>, (OpenFault, D)>
+        requires job { job.now ≡ N.job }
+
+        // By the view at the start: which answer comes, and what the disk holds then.
+        ensures answer { D.tells ≡ true
+            → HasAttached N.job.parts.digest (frames_of N.job) (D.history disk)
+            (D.history (disk_in result)) (ledger_in result) }
+
+        // A crash at any moment of the call leaves a folder whose acknowledged frames are the
+        // reel's, no acknowledgement is lost, and none is made.
+        ensures run { D.tells ≡ true
+            → IsReelRun N.job N.files (D.history disk) (D.history (disk_in result)) }
+        ensures adds_none { D.tells ≡ true
+            → AddsNone N.job.parts.digest (frames_of N.job) (D.history disk)
+            (D.history (disk_in result)) }
+
+        // In a sealed folder nothing is written, whatever the answer is, and in no folder another
+        // file.
+        ensures only_reads { D.tells ≡ true → IsSealed (view_of (D.history disk))
+            → Narrows (D.history disk) (D.history (disk_in result)) }
+        ensures spares { D.tells ≡ true
+            → Spares (D.history disk) (D.history (disk_in result)) IsLedgerFile }
+
+        // The job's digest, the size of the ledger and that it is open are known over every disk.
+        ensures known { IsAnswerTo N.job.parts.digest (frames_of N.job) (ledger_in result) }
+        ensures opening { IfOk result IsOpening }
+
+        ensures same { D.same disk (disk_in result) }
+        ensures cause { HasCause (D.faults disk) (D.faults (disk_in result))
+            (IsErrOf (ledger_in result) OpenFault.DiskFault) }
+        ensures steady { ledger_in result ≢ Err OpenFault.DiskFault
+            → D.faults (disk_in result) ≡ D.faults disk }
+    {
+        let count = job.timeline().count();
+        let Ok(acks) = Vec::with_capacity(alloc, count as usize) else {
+            return Err((OpenFault::NoMemory, disk));
+        };
+        let mut disk = disk;
+        match Ledger::attach(alloc, &mut disk, job.digest(), count) {
+            Ok(ledger) => {
+                let kept = ledger.acked();
+                Ok(Reel {
+                    disk,
+                    ledger,
+                    acks,
+                    kept,
+                    closed: false,
+                    of: PhantomData,
+                })
+            }
+            Err(fault) => Err((fault, disk)),
+        }
+    }
+
+    /// Writes the file of a frame and acknowledges it: a write of the whole file, a sync of it, a
+    /// write of the frame's gate and a sync of the ledger's body. Takes no memory. At `Ok` each
+    /// crash from now on finds the frame acknowledged, and its file as it was rendered. `DiskFault`
+    /// comes only where the disk's count of faults rose; the reel is closed then, and a crash may
+    /// find the frame acknowledged or not.
+    pub fn finish(&mut self, frame: &Rendered<N>) -> Result<(), DiskFault>
+        requires is_open { self.old.ledger.closed ≡ false }
+        requires fresh { slice_index_or self.old.ledger.gates frame.now.index false ≡ false }
+
+        // A crash at any moment of the call leaves a folder whose acknowledged frames are the
+        // reel's, and no acknowledgement is lost.
+        ensures run { D.tells ≡ true
+            → IsReelRun N.job N.files (D.history self.old.disk) (D.history self.new.disk) }
+
+        // All other frames stay as they were, also after a fault, and all other files.
+        ensures others { D.tells ≡ true
+            → AddsAtMost frame.now.index N.job.parts.digest (frames_of N.job)
+            (D.history self.old.disk) (D.history self.new.disk) }
+        ensures spares { D.tells ≡ true
+            → Spares (D.history self.old.disk) (D.history self.new.disk)
+            (IsWrittenFile (file_of N.job frame.now.index)) }
+
+        ensures acked { OnOk result (D.tells ≡ true
+            → Surely (moment_of (D.history self.new.disk)) (HasAcked N.job frame.now.index)) }
+        ensures shown { OnOk result (D.tells ≡ true
+            → view_of (D.history self.new.disk) (file_of N.job frame.now.index)
+            ≡ Some frame.now.bytes) }
+        ensures finished { OnOk result (self.new
+            ≡ after_finish self.old frame.now.index self.new.disk) }
+        ensures closed { OnErr result (self.new ≡ after_fault self.old self.new.disk) }
+
+        ensures same { D.same self.old.disk self.new.disk }
+        ensures cause { HasCause (D.faults self.old.disk) (D.faults self.new.disk) (IsErr result) }
+        ensures steady { OnOk result (D.faults self.new.disk ≡ D.faults self.old.disk) }
+    {
+        let i = frame.index();
+        match store(
+            &mut self.disk,
+            &mut self.ledger,
+            i,
+            frame.file(),
+            frame.bytes(),
+        ) {
+            Ok(()) => {
+                push_within(&mut self.acks, i);
+                Ok(())
+            }
+            Err(DiskFault) => {
+                self.closed = true;
+                Err(DiskFault)
+            }
+        }
+    }
+
+    /// Whether a frame is acknowledged. Frames are numbered from 0, below the job's count.
+    pub fn is_acked(&self, i: u32) -> bool
+        requires { i < frames_of N.job }
+        ensures { result ≡ slice_index_or self.now.ledger.gates i false }
+    {
+        self.ledger.is_acked(i)
+    }
+
+    /// How many frames were acknowledged before this run.
+    pub fn kept(&self) -> u32
+        ensures { result ≡ self.now.kept }
+    {
+        self.kept
+    }
+
+    /// The frames finished in this run, in order.
+    pub fn acks(&self) -> &[u32]
+        ensures acks { result.now ≡ self.now.acks }
+        ensures reel { IsReelOf N.job D.tells D.history self.now }
+    {
+        &self.acks
+    }
+
+    /// Whether a fault has closed the reel.
+    pub fn is_closed(&self) -> bool
+        ensures { result ≡ self.now.ledger.closed }
+    {
+        self.closed
+    }
+
+    /// Gives the disk back, without a call on it.
+    pub fn close(self) -> D
+        ensures { result ≡ self.disk }
+    {
+        let Reel {
+            disk,
+            ledger: _,
+            acks: _,
+            kept: _,
+            closed: _,
+            of: _,
+        } = self;
+        disk
+    }
+}

@@ -1,0 +1,40 @@
+-- What a run on one thread finishes and asks for. All of it is this project's own rule.
+--     closed_frames gates count      the frames that are still to be finished
+--     asks_of_frames job frames      the keys that these frames ask for
+use Rattle.std.specs.Prelude.{◌≡◌, ◌⊎◌, ℕ, ◌<◌, Bool, false, not, List, [], ◌∷◌, ◌++◌, filter, flat_map, slice_index_or, Option, Some, None, if◌then◌else◌}
+use Rattle.std.specs.List.{range_with_len}
+use Rattle.cf_base.specs.declared.file.FileId.{FileId}
+use Rattle.cf_base.specs.declared.file.FileId.TheVariants.{Body}
+use Rattle.cf_base.specs.declared.key.Key.{Key}
+use Rattle.dpx_header.specs.declared.info.FrameInfo.{FrameInfo}
+use Rattle.conform_job.specs.Job.{JobData, file_of, need_at}
+use Rattle.conform_job.specs.declared.need.Need.{Need}
+use Rattle.reel_writer.specs.Reel.{frames_of}
+
+-- the frames below this count whose gate is closed, in order
+unfoldable pub closed_frames : List Bool → ℕ → List ℕ
+closed_frames gates count = filter (λ i. not (slice_index_or gates i false))
+    (range_with_len 0 count)
+
+-- the key of a side, where it is a source frame
+abbrev pub key_of_side : Option (Key × FrameInfo) → List Key
+key_of_side None = []
+key_of_side (Some need) = need.0 ∷ []
+
+-- the keys of a need, the old side's before the new's
+abbrev pub keys_of_need : Need → List Key
+keys_of_need need = key_of_side need.old ++ key_of_side need.new
+
+-- what these frames ask for, one frame after another
+unfoldable pub asks_of_frames : JobData → List ℕ → List Key
+asks_of_frames job frames = flat_map (λ i. keys_of_need (need_at job i)) frames
+
+-- frame i, where its gate is closed
+abbrev pub frame_if_closed : List Bool → ℕ → List ℕ
+frame_if_closed gates i = if slice_index_or gates i false then [] else (i ∷ [])
+
+-- what a run writes once the folder is open: the ledger's body, and the files of frames whose gate
+-- is closed
+abbrev pub IsRunFile : JobData → List Bool → FileId → Type 0
+IsRunFile job gates q = (q ≡ Body)
+    ⊎ ((i : ℕ) × (i < frames_of job) × (slice_index_or gates i false ≡ false) × (q ≡ file_of job i))

@@ -1,0 +1,15 @@
+-- What calls on a scan keep.
+use Rattle.std.specs.Prelude.{◌≡◌, ℕ, ◌≤◌, Option}
+use Rattle.cf_base.specs.Count.{HasRisen}
+use Rattle.scan_source.specs.World.{World}
+use Rattle.conform_job.specs.Answers.{count_after}
+
+-- There were so many loads among them. The count of faults rose where one failed, and else it
+-- stays; so do the files.
+pub record IsScanned {S : Type 0} (world : S → Option World) (faults loads : S
+    → ℕ) (more : ℕ) (Failed : Type 0) (old new : S) : Type 0 where
+  pub asked : loads new ≡ count_after more (loads old)
+  pub later : faults old ≤ faults new
+  pub failed : Failed → HasRisen (faults old) (faults new)
+  pub steady : (Failed → ⊥) → faults new ≡ faults old
+  pub told : world new ≡ world old
