@@ -13,9 +13,8 @@ use Rattle.dpx_header.specs.Writing.{header_of}
 use Rattle.dpx_pack.specs.Pixels.{pixels}
 use Rattle.dpx_pack.proofs.Front.{pixels_front}
 use Rattle.scan_source.specs.Answers.{first_bytes}
-use Rattle.conform_tool.specs.Frame.{info_in, frame_head, frame_form, IsFrameForm}
+use Rattle.conform_tool.specs.Frame.{info_in, frame_head, frame_form, IsFrameForm, IsFrameCase}
 use Rattle.conform_tool.specs.Reply.{IsRightBy}
-use Rattle.conform_tool.specs.declared.command.Command.TheVariants as commands
 use Rattle.conform_tool.specs.declared.outcome.Outcome.TheVariants.{Done, Refused}
 use Rattle.conform_tool.specs.declared.outcome.Refused.TheVariants as refused
 
@@ -56,9 +55,9 @@ front_info bytes into len len_is into_is =
     ap (λ b. info_of (first_bytes 2048 b) len) into_is ∙ ap (λ h. info_of h len) (first_bytes_front 2048 84914180 bytes (omega arith)) ∙ ap (info_of (first_bytes 2048 bytes)) len_is
 
 -- the frame of the first bytes is that of the file
-pub frame_done : (path bytes into out : List ℕ) (len : ℕ) → IsOkAnd (info_of (first_bytes 2048 into) len) (λ info. IsFrame info × (out ≡ frame_form info into))
-    → len ≡ length bytes → into ≡ take 84914180 bytes → IsRightBy (commands.Frame path) Done out (Some bytes)
-frame_done path bytes into out len made len_is into_is =
+pub frame_done : (bytes into out : List ℕ) (len : ℕ) → IsOkAnd (info_of (first_bytes 2048 into) len) (λ info. IsFrame info × (out ≡ frame_form info into))
+    → len ≡ length bytes → into ≡ take 84914180 bytes → IsRightBy (IsFrameCase (Some bytes)) (IsFrameForm (Some bytes)) Done out
+frame_done bytes into out len made len_is into_is =
     let at : IsOkAnd (info_in bytes) (λ info. IsFrame info × (out ≡ frame_form info into))
     = subst (λ r. IsOkAnd r (λ info. IsFrame info × (out ≡ frame_form info into))) (front_info bytes into len len_is into_is) made in
     let form : IsFrameForm (Some bytes) out = elim (info_in bytes) as (λ r. IsOkAnd r (λ info. IsFrame info × (out ≡ frame_form info into)) → IsOkAnd r (λ info. out ≡ frame_form info bytes)) [
@@ -71,9 +70,9 @@ frame_done path bytes into out len made len_is into_is =
     }
 
 -- the fault of the first bytes is that of the file
-pub frame_fault : (path bytes into out : List ℕ) (len : ℕ) (fault : DpxFault) → info_of (first_bytes 2048 into) len ≡ Err fault
-    → len ≡ length bytes → into ≡ take 84914180 bytes → IsRightBy (commands.Frame path) (Refused (refused.Frame fault)) out (Some bytes)
-frame_fault path bytes into out len fault is len_is into_is = record { case = sym (front_info bytes into len len_is into_is) ∙ is; form = λ same. absurd (cc) }
+pub frame_fault : (bytes into out : List ℕ) (len : ℕ) (fault : DpxFault) → info_of (first_bytes 2048 into) len ≡ Err fault
+    → len ≡ length bytes → into ≡ take 84914180 bytes → IsRightBy (IsFrameCase (Some bytes)) (IsFrameForm (Some bytes)) (Refused (refused.Frame fault)) out
+frame_fault bytes into out len fault is len_is into_is = record { case = sym (front_info bytes into len len_is into_is) ∙ is; form = λ same. absurd (cc) }
 
 -- what was made of the pixels that the header tells
 pub made_of : (bytes head out : List ℕ) (len : ℕ) (info : FrameInfo) → head ≡ first_bytes 2048 bytes → Ok info ≡ info_of head len → IsFrame info → out ≡ frame_form info bytes

@@ -1,5 +1,9 @@
 mod Answering
 mod Frames
 mod Lists
+mod Plans
+mod Projects
 mod Replies
+mod Runs
 mod Tables
+mod Words

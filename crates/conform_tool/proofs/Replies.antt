@@ -7,18 +7,23 @@ use Rattle.std.specs.Prelude.{Result, Err}
 use Rattle.cf_base.specs.Count.{HasRisen}
 use Rattle.cf_base.specs.declared.fail.Fail.{Fail}
 use Rattle.cf_base.specs.declared.fail.Fail.TheVariants.{Fault}
-use Rattle.scan_source.specs.Answers.{IsLoaded}
-use Rattle.scan_source.specs.Plan.{one_more}
+use Rattle.cf_base.specs.declared.timing.Rate.{Rate}
 use Rattle.scan_source.specs.World.{World, file_at}
-use Rattle.scan_source.specs.declared.scans.Loaded.TheVariants.{Got}
-use Rattle.conform_tool.specs.Command.{path_in}
+use Rattle.conform_tool.specs.Frame.{IsFrameCase, IsFrameForm}
+use Rattle.conform_tool.specs.List.{IsListCase, IsListForm}
+use Rattle.conform_tool.specs.Load.{IsFront, IsMissing, IsOfLoad}
+use Rattle.conform_tool.specs.declared.load.Front.{Front}
+use Rattle.conform_tool.specs.declared.outcome.Refused.TheVariants.{NoFile, Project, Reels, List as EditList, Timeline, Cube, Job, Frame}
+use Rattle.conform_tool.specs.declared.outcome.Which.{Which}
+use Rattle.conform_tool.specs.declared.outcome.Which.TheVariants as which
 use Rattle.conform_tool.specs.Faults.{IfFault}
 use Rattle.conform_tool.specs.Output.{line_of}
-use Rattle.conform_tool.specs.Reply.{ScanState, ByFile, IsRightBy, IsReply}
+use Rattle.conform_tool.specs.Reply.{ScanState, ByFile, IsRight, IsRightBy, HasLoaded, LooksAtHeads, CallsDisk, IsReply}
 use Rattle.conform_tool.specs.declared.command.Command.{Command}
 use Rattle.conform_tool.specs.declared.command.Command.TheVariants as commands
 use Rattle.conform_tool.specs.declared.outcome.Outcome.{Outcome}
-use Rattle.conform_tool.specs.declared.outcome.Outcome.TheVariants.{Done, Usage, SourceFault, SinkFault, NoMemory}
+use Rattle.conform_tool.specs.declared.outcome.Outcome.TheVariants as outcomes
+use Rattle.conform_tool.specs.declared.outcome.Outcome.TheVariants.{Done, Usage, Refused, SourceFault, SinkFault, NoMemory}
 
 -- some bytes with these first ones and this length
 file_of : (len most : ℕ) (into : List ℕ) → length into ≡ min len most → (bytes : List ℕ) × (len ≡ length bytes) × (into ≡ take most bytes)
@@ -32,51 +37,73 @@ file_of len most into fills = elim (cases_lt most len) [
 ]
 
 -- what holds of each file that a load may have read holds of the one at the path, or of one that was read
-pub by_got : (world : Option World) (path : List ℕ) (P : Option (List ℕ) → Type 0) (len most : ℕ) (into : List ℕ)
-    → IfSome world (λ files. IsLoaded (Got len) (file_at files path) most into)
-    → length into ≡ min len most
-    → ((bytes : List ℕ) → len ≡ length bytes → into ≡ take most bytes → P (Some bytes))
+pub by_front : (world : Option World) (path : List ℕ) (P : Option (List ℕ) → Type 0) (most : ℕ) (front : Front)
+    → IfSome world (λ files. IsFront (file_at files path) most front)
+    → length front.bytes.items ≡ min front.len most
+    → ((bytes : List ℕ) → front.len ≡ length bytes → front.bytes.items ≡ take most bytes → P (Some bytes))
     → ByFile world path P
-by_got None path P len most into told fills each =
-    let file = file_of len most into fills in
+by_front None path P most front told fills each =
+    let file = file_of front.len most front.bytes.items fills in
     (Some file.0, tt, each file.0 file.1 file.2)
-by_got (Some files) path P len most into told fills each = (
+by_front (Some files) path P most front told fills each = (
   file_at files path,
   refl,
-  elim (file_at files path) as (λ file. IsLoaded (Got len) file most into → P file) [
+  elim (file_at files path) as (λ file. IsFront file most front → P file) [
     | None ↦ λ h. absurd h
     | Some bytes ↦ λ h. each bytes h.0 h.1
   ] told,
 )
-
--- what holds where there is no file
-pub by_absent : (world : Option World) (path : List ℕ) (P : Option (List ℕ) → Type 0) → IfSome world (λ files. file_at files path ≡ None) → P None → ByFile world path P
-by_absent None path P told none = (None, tt, none)
-by_absent (Some files) path P told none = (None, sym told, none)
 
 -- what holds of any file
 pub by_any : (world : Option World) (path : List ℕ) (P : Option (List ℕ) → Type 0) → ((file : Option (List ℕ)) → P file) → ByFile world path P
 by_any None path P each = (None, tt, each None)
 by_any (Some files) path P each = (file_at files path, refl, each (file_at files path))
 
--- the outcomes that a command comes to by itself
-abbrev pub IsReplied : Outcome → Type 0
-IsReplied Usage = ⊥
-IsReplied (SinkFault instead) = ⊥
-IsReplied outcome = Unit {0}
+-- what holds where there is no file, after a fault of the scan, and where memory ran out
+by_missing : (world : Option World) (path : List ℕ) (absent : Which) (outcome : Outcome) (P : Option (List ℕ) → Outcome → Type 0)
+    → IfSome world (λ files. IsMissing absent (file_at files path) outcome) → IsOfLoad absent outcome
+    → P None (Refused (NoFile absent)) → ((file : Option (List ℕ)) → P file SourceFault) → ((file : Option (List ℕ)) → P file NoMemory)
+    → ByFile world path (λ file. P file outcome)
+by_missing None path absent (Refused (NoFile which)) P told kind gone fault memory = (None, tt, subst (λ w. P None (Refused (NoFile w))) (sym kind) gone)
+by_missing (Some files) path absent (Refused (NoFile which)) P told kind gone fault memory = (None, sym told.1, subst (λ w. P None (Refused (NoFile w))) (sym kind) gone)
+by_missing world path absent SourceFault P told kind gone fault memory = by_any world path (λ file. P file SourceFault) fault
+by_missing world path absent NoMemory P told kind gone fault memory = by_any world path (λ file. P file NoMemory) memory
+by_missing world path absent Done P told kind gone fault memory = absurd kind
+by_missing world path absent Usage P told kind gone fault memory = absurd kind
+by_missing world path absent (outcomes.OtherJob kept wanted) P told kind gone fault memory = absurd kind
+by_missing world path absent (outcomes.BadLedger len) P told kind gone fault memory = absurd kind
+by_missing world path absent (outcomes.Changed reel key was now) P told kind gone fault memory = absurd kind
+by_missing world path absent outcomes.DiskFault P told kind gone fault memory = absurd kind
+by_missing world path absent (SinkFault instead) P told kind gone fault memory = absurd kind
+by_missing world path absent (Refused (Project fault_)) P told kind gone fault memory = absurd kind
+by_missing world path absent (Refused (Reels fault_)) P told kind gone fault memory = absurd kind
+by_missing world path absent (Refused (EditList refusal)) P told kind gone fault memory = absurd kind
+by_missing world path absent (Refused (Timeline fault_)) P told kind gone fault memory = absurd kind
+by_missing world path absent (Refused (Cube fault_)) P told kind gone fault memory = absurd kind
+by_missing world path absent (Refused (Job fault_)) P told kind gone fault memory = absurd kind
+by_missing world path absent (Refused (Frame fault_)) P told kind gone fault memory = absurd kind
 
-pub reply_of : (command : Command) (before after : ScanState) (reached : Outcome) (output : List ℕ) → IsReplied reached
-    → ByFile before.world (path_in command) (IsRightBy command reached output)
+-- the outcomes that a command comes to by itself
+abbrev pub IsReplied : Command → Outcome → Type 0
+IsReplied command Usage = ⊥
+IsReplied command (SinkFault instead) = ⊥
+IsReplied command outcomes.DiskFault = CallsDisk command
+IsReplied command outcome = Unit {0}
+
+pub reply_of : (command : Command) (before after : ScanState) (reached : Outcome) (output : List ℕ) → IsReplied command reached
+    → IsRight command reached output before after
     → (reached ≢ Done → output ≡ line_of reached)
     → (reached ≡ SourceFault → HasRisen before.faults after.faults)
     → (reached ≢ SourceFault → after.faults ≡ before.faults)
-    → before.faults ≤ after.faults → after.loads ≡ one_more before.loads → after.heads ≡ before.heads → after.world ≡ before.world
+    → before.faults ≤ after.faults → HasLoaded command before.loads after.loads
+    → LooksAtHeads command before.heads after.heads → after.world ≡ before.world
     → IsReply command before after reached output
 reply_of command before after reached output replied right line cause steady later loads heads world = record {
   right = right;
   line = line;
-  spelled = λ same. subst IsReplied same replied;
-  not_the_sink = λ instead same. subst IsReplied same replied;
+  spelled = λ same. subst (IsReplied command) same replied;
+  not_the_sink = λ instead same. subst (IsReplied command) same replied;
+  not_the_disk = λ same. subst (IsReplied command) same replied;
   source_fault = cause;
   steady = steady;
   later = later;
@@ -89,11 +116,56 @@ reply_of command before after reached output replied right line cause steady lat
 pub fault_given : {A F : Type 0} (r : Result A (Fail F)) (given : Fail F) (fault : F) (P : F → Type 0) → r ≡ Err given → given ≡ Fault fault → IfFault r P → P fault
 fault_given r given fault P is fault_is holds = subst (λ q. IfFault q P) (is ∙ ap Err fault_is) holds
 
--- what comes of a load that failed or found no memory
-pub fault_right : (command : Command) (output : List ℕ) (file : Option (List ℕ)) → IsRightBy command SourceFault output file
-fault_right (commands.Frame p) output file = record { case = tt; form = λ same. absurd (cc) }
-fault_right (commands.List p rate) output file = record { case = tt; form = λ same. absurd (cc) }
+-- what is right of a frame and of a list without a file
+pub frame_missing : (world : Option World) (path : List ℕ) (outcome : Outcome) (output : List ℕ) → IfSome world (λ files. IsMissing which.Frame (file_at files path) outcome) → IsOfLoad which.Frame outcome
+    → ByFile world path (λ file. IsRightBy (IsFrameCase file) (IsFrameForm file) outcome output)
+frame_missing world path outcome output told kind =
+    by_missing world path which.Frame outcome (λ file reached. IsRightBy (IsFrameCase file) (IsFrameForm file) reached output) told kind
+    (record { case = refl; form = λ same. absurd (cc) }) (λ file. record { case = tt; form = λ same. absurd (cc) }) (λ file. record { case = tt; form = λ same. absurd (cc) })
 
-pub memory_right : (command : Command) (output : List ℕ) (file : Option (List ℕ)) → IsRightBy command NoMemory output file
-memory_right (commands.Frame p) output file = record { case = tt; form = λ same. absurd (cc) }
-memory_right (commands.List p rate) output file = record { case = tt; form = λ same. absurd (cc) }
+pub list_missing : (rate : Rate) (world : Option World) (path : List ℕ) (outcome : Outcome) (output : List ℕ) → IfSome world (λ files. IsMissing which.List (file_at files path) outcome) → IsOfLoad which.List outcome
+    → ByFile world path (λ file. IsRightBy (IsListCase rate file) (IsListForm rate file) outcome output)
+list_missing rate world path outcome output told kind =
+    by_missing world path which.List outcome (λ file reached. IsRightBy (IsListCase rate file) (IsListForm rate file) reached output) told kind
+    (record { case = refl; form = λ same. absurd (cc) }) (λ file. record { case = tt; form = λ same. absurd (cc) }) (λ file. record { case = tt; form = λ same. absurd (cc) })
+
+-- what holds of all files holds of those that are told
+pub told_any : (world : Option World) {P : World → Type 0} → ((files : World) → P files) → IfSome world P
+told_any None each = tt
+told_any (Some files) each = each files
+
+-- want of memory may come in any case
+pub frame_memory : (world : Option World) (path output : List ℕ) → ByFile world path (λ file. IsRightBy (IsFrameCase file) (IsFrameForm file) NoMemory output)
+frame_memory world path output = by_any world path _ (λ file. record { case = tt; form = λ same. absurd (cc) })
+
+pub list_memory : (rate : Rate) (world : Option World) (path output : List ℕ) → ByFile world path (λ file. IsRightBy (IsListCase rate file) (IsListForm rate file) NoMemory output)
+list_memory rate world path output = by_any world path _ (λ file. record { case = tt; form = λ same. absurd (cc) })
+
+pub memory_right : (command : Command) (output : List ℕ) (before after : ScanState) → IsRight command NoMemory output before after
+memory_right (commands.Frame path) output before after = frame_memory before.world path output
+memory_right (commands.List path rate) output before after = list_memory rate before.world path output
+memory_right (commands.Plan path) output before after = told_any before.world (λ world. tt)
+memory_right (commands.Run path workers share) output before after = tt
+
+-- an error is its outcome
+pub error_of : {A : Type 0} (a b : Outcome) → a ≡ b → ◌≡◌ {A = Result A Outcome} (Err a) (Err b)
+error_of a b same = ap Err same
+
+pub outcome_of : {A : Type 0} (a b : Outcome) → ◌≡◌ {A = Result A Outcome} (Err a) (Err b) → a ≡ b
+outcome_of a b same = cc
+
+-- the outcome of a load is its command's own
+pub replied_load : (command : Command) (absent : Which) (outcome : Outcome) → IsOfLoad absent outcome → IsReplied command outcome
+replied_load command absent Done kind = absurd kind
+replied_load command absent Usage kind = absurd kind
+replied_load command absent (outcomes.OtherJob kept wanted) kind = absurd kind
+replied_load command absent (outcomes.BadLedger len) kind = absurd kind
+replied_load command absent (outcomes.Changed reel key was now) kind = absurd kind
+replied_load command absent outcomes.DiskFault kind = absurd kind
+replied_load command absent (Refused refusal) kind = tt
+replied_load command absent SourceFault kind = tt
+replied_load command absent (SinkFault instead) kind = absurd kind
+replied_load command absent NoMemory kind = tt
+
+pub load_isnt_done : (absent : Which) (outcome : Outcome) → IsOfLoad absent outcome → outcome ≢ Done
+load_isnt_done absent outcome kind same = subst (IsOfLoad absent) same kind

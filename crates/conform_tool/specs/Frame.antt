@@ -10,7 +10,7 @@ use Rattle.dpx_header.specs.Writing.{header_of}
 use Rattle.dpx_pack.specs.Pixels.{pixels}
 use Rattle.scan_source.specs.Answers.{first_bytes}
 use Rattle.conform_tool.specs.declared.outcome.Outcome.{Outcome}
-use Rattle.conform_tool.specs.declared.outcome.Outcome.TheVariants.{Done, Usage, Refused as IsRefused, SourceFault, SinkFault, NoMemory}
+use Rattle.conform_tool.specs.declared.outcome.Outcome.TheVariants.{Done, Refused as IsRefused, SourceFault, NoMemory}
 use Rattle.conform_tool.specs.declared.outcome.Refused.TheVariants as refused
 use Rattle.conform_tool.specs.declared.outcome.Which.TheVariants as which
 
@@ -34,11 +34,9 @@ IsFrameForm file output = IsSomeAnd file (λ bytes. IsOkAnd (info_in bytes) (λ 
 -- of memory may come in any.
 abbrev pub IsFrameCase : Option (List ℕ) → Outcome → Type 0
 IsFrameCase file Done = IsSomeAnd file (λ bytes. IsOk (info_in bytes))
-IsFrameCase file Usage = ⊥
 IsFrameCase file (IsRefused (refused.NoFile which.Frame)) = file ≡ None
-IsFrameCase file (IsRefused (refused.NoFile which.List)) = ⊥
-IsFrameCase file (IsRefused (refused.List refusal)) = ⊥
 IsFrameCase file (IsRefused (refused.Frame fault)) = IsSomeAnd file (λ bytes. info_in bytes ≡ Err fault)
+IsFrameCase file (IsRefused other) = ⊥
 IsFrameCase file SourceFault = Unit {0}
-IsFrameCase file (SinkFault instead) = ⊥
 IsFrameCase file NoMemory = Unit {0}
+IsFrameCase file other = ⊥

@@ -4,7 +4,7 @@ use Rattle.cf_base.specs.declared.timing.Rate.{Rate}
 use Rattle.edl_events.specs.Lists.{list_of}
 use Rattle.conform_tool.specs.Table.{event_table}
 use Rattle.conform_tool.specs.declared.outcome.Outcome.{Outcome}
-use Rattle.conform_tool.specs.declared.outcome.Outcome.TheVariants.{Done, Usage, Refused as IsRefused, SourceFault, SinkFault, NoMemory}
+use Rattle.conform_tool.specs.declared.outcome.Outcome.TheVariants.{Done, Refused as IsRefused, SourceFault, NoMemory}
 use Rattle.conform_tool.specs.declared.outcome.Refused.TheVariants as refused
 use Rattle.conform_tool.specs.declared.outcome.Which.TheVariants as which
 
@@ -16,11 +16,9 @@ IsListForm rate file output = IsSomeAnd file (λ text. IsOkAnd (list_of rate tex
 -- of memory may come in any.
 abbrev pub IsListCase : Rate → Option (List ℕ) → Outcome → Type 0
 IsListCase rate file Done = IsSomeAnd file (λ text. IsOk (list_of rate text))
-IsListCase rate file Usage = ⊥
 IsListCase rate file (IsRefused (refused.NoFile which.List)) = file ≡ None
-IsListCase rate file (IsRefused (refused.NoFile which.Frame)) = ⊥
 IsListCase rate file (IsRefused (refused.List refusal)) = IsSomeAnd file (λ text. list_of rate text ≡ Err refusal)
-IsListCase rate file (IsRefused (refused.Frame fault)) = ⊥
+IsListCase rate file (IsRefused other) = ⊥
 IsListCase rate file SourceFault = Unit {0}
-IsListCase rate file (SinkFault instead) = ⊥
 IsListCase rate file NoMemory = Unit {0}
+IsListCase rate file other = ⊥

@@ -1,18 +1,28 @@
 -- What a command that was spelled comes to.
---     ScanState      what a scan tells at a moment, and its counts
+--     ScanState, scan_state      what a scan tells at a moment, and its counts
 --     IsReply command before after reached output      the command came to this outcome with this output
-use Rattle.std.specs.Prelude.{◌≡◌, ◌≢◌, ◌≤◌, ℕ, List, Option, IfSome}
+--     IsWholeReply      the same, with what it did to the disk
+use Rattle.std.specs.Prelude.{◌≡◌, ◌≢◌, ◌≤◌, ℕ, List, [], length, Option, IfSome, Ok, Err}
 use Rattle.cf_base.specs.Count.{HasRisen}
-use Rattle.scan_source.specs.World.{World, file_at}
 use Rattle.scan_source.specs.Plan.{one_more}
-use Rattle.conform_tool.specs.Command.{path_in}
+use Rattle.scan_source.specs.World.{World, file_at}
+use Rattle.cf_base.specs.declared.key.Key.{Key}
+use Rattle.dpx_header.specs.declared.info.FrameInfo.{FrameInfo}
+use Rattle.conform_job.specs.Answers.{Grows, HeadsGrow}
+use Rattle.conform_job.specs.Asks.{asks_of}
+use Rattle.conform_job.specs.Infos.{HasEachOnce}
+use Rattle.conform_job.specs.Refusals.{Files}
+use Rattle.conform_job.specs.declared.parts.JobParts.{JobParts}
+use Rattle.conform_tool.specs.Jobs.{AreLoaded, ComesTo}
+use Rattle.conform_tool.specs.Plan.{plan_of}
 use Rattle.conform_tool.specs.Output.{line_of}
+use Rattle.conform_tool.specs.Run.{DiskState, IsRunReply}
 use Rattle.conform_tool.specs.Frame.{IsFrameForm, IsFrameCase}
 use Rattle.conform_tool.specs.List.{IsListForm, IsListCase}
 use Rattle.conform_tool.specs.declared.command.Command.{Command}
 use Rattle.conform_tool.specs.declared.command.Command.TheVariants as commands
 use Rattle.conform_tool.specs.declared.outcome.Outcome.{Outcome}
-use Rattle.conform_tool.specs.declared.outcome.Outcome.TheVariants.{Done, Usage, SourceFault, SinkFault}
+use Rattle.conform_tool.specs.declared.outcome.Outcome.TheVariants.{Done, Usage, Refused as IsRefused, SourceFault, DiskFault, SinkFault, NoMemory}
 
 pub record ScanState : Type 0 where
   pub world : Option World
@@ -20,35 +30,91 @@ pub record ScanState : Type 0 where
   pub loads : ℕ
   pub heads : ℕ
 
--- the case of the outcome, by the file at the command's path, if there is one
-abbrev pub IsCase : Command → Option (List ℕ) → Outcome → Type 0
-IsCase (commands.Frame path) file reached = IsFrameCase file reached
-IsCase (commands.List path rate) file reached = IsListCase rate file reached
-
--- what is put when the command was carried out
-abbrev pub IsForm : Command → Option (List ℕ) → List ℕ → Type 0
-IsForm (commands.Frame path) file output = IsFrameForm file output
-IsForm (commands.List path rate) file output = IsListForm rate file output
+-- of a scan, by its meanings
+abbrev pub scan_state : {S : Type 0} → (S → Option World) → (faults loads heads : S → ℕ) → S → ScanState
+scan_state world faults loads heads scan = record { world = world scan; faults = faults scan; loads = loads scan; heads = heads scan }
 
 -- A file, or that there is none: the one at the path where the scan tells its files, else some one that it read.
 abbrev pub ByFile : Option World → List ℕ → (Option (List ℕ) → Type 0) → Type 0
 ByFile world path IsRight = (file : Option (List ℕ)) × IfSome world (λ files. file ≡ file_at files path) × IsRight file
 
-pub record IsRightBy (command : Command) (reached : Outcome) (output : List ℕ) (file : Option (List ℕ)) : Type 0 where
-  pub case : IsCase command file reached
-  pub form : reached ≡ Done → IsForm command file output
+-- The outcome and the output are those of the file.
+pub record IsRightBy (IsCase : Outcome → Type 0) (IsForm : List ℕ → Type 0) (reached : Outcome) (output : List ℕ) : Type 0 where
+  pub case : IsCase reached
+  pub form : reached ≡ Done → IsForm output
+
+-- Each source frame that the job needs was inspected once: the infos have one entry for each needed key.
+pub record IsInspected (parts : JobParts) (before after : ScanState) : Type 0 where
+  pub infos : List (Key × FrameInfo)
+  pub needed : Grows parts before.world (asks_of parts.timeline) [] infos
+  pub once : HasEachOnce infos
+  pub heads : HeadsGrow before.heads after.heads 0 (length infos)
+
+-- The plan of the job that the project comes to. Each needed source frame was inspected once.
+pub record IsPlanned (files : Files) (path output : List ℕ) (before after : ScanState) : Type 0 where
+  pub parts : JobParts
+  pub comes : ComesTo files path (Ok parts)
+  pub form : output ≡ plan_of parts.timeline
+  pub inspected : IsInspected parts before after
+
+abbrev pub IsPlanReply : Files → List ℕ → Outcome → List ℕ → ScanState → ScanState → Type 0
+IsPlanReply files path Done output before after = IsPlanned files path output before after
+IsPlanReply files path (IsRefused refusal) output before after = ComesTo files path (Err refusal)
+IsPlanReply files path SourceFault output before after = Unit {0}
+IsPlanReply files path NoMemory output before after = Unit {0}
+IsPlanReply files path other output before after = ⊥
+
+-- By the file at the path, or by all files that the scan tells: they may be others at each load where it tells none. A run is
+-- right by what it did to the folder, which is said with the disk.
+abbrev pub IsRight : Command → Outcome → List ℕ → ScanState → ScanState → Type 0
+IsRight (commands.Frame path) reached output before after = ByFile before.world path (λ file. IsRightBy (IsFrameCase file) (IsFrameForm file) reached output)
+IsRight (commands.List path rate) reached output before after = ByFile before.world path (λ file. IsRightBy (IsListCase rate file) (IsListForm rate file) reached output)
+IsRight (commands.Plan path) reached output before after = IfSome before.world (λ world. IsPlanReply (file_at world) path reached output before after)
+IsRight (commands.Run path workers share) reached output before after = Unit {0}
+
+-- What a command loads: the one file, or a project, its list and its cube. What a run loads is said with the disk.
+abbrev pub HasLoaded : Command → ℕ → ℕ → Type 0
+HasLoaded (commands.Frame path) before after = after ≡ one_more before
+HasLoaded (commands.List path rate) before after = after ≡ one_more before
+HasLoaded (commands.Plan path) before after = AreLoaded 1 3 before after
+HasLoaded (commands.Run path workers share) before after = Unit {0}
+
+-- The one file's head isn't looked at by itself.
+abbrev pub LooksAtHeads : Command → ℕ → ℕ → Type 0
+LooksAtHeads (commands.Frame path) before after = after ≡ before
+LooksAtHeads (commands.List path rate) before after = after ≡ before
+LooksAtHeads (commands.Plan path) before after = Unit {0}
+LooksAtHeads (commands.Run path workers share) before after = Unit {0}
+
+-- the command makes calls on the disk
+abbrev pub CallsDisk : Command → Type 0
+CallsDisk (commands.Run path workers share) = Unit {0}
+CallsDisk other = ⊥
 
 pub record IsReply (command : Command) (before after : ScanState) (reached : Outcome) (output : List ℕ) : Type 0 where
-  -- the outcome and the output are those of the file
-  pub right : ByFile before.world (path_in command) (IsRightBy command reached output)
+  pub right : IsRight command reached output before after
   pub line : reached ≢ Done → output ≡ line_of reached
   -- causes
   pub spelled : reached ≢ Usage
   pub not_the_sink : (instead : ℕ) → reached ≢ SinkFault instead
+  pub not_the_disk : reached ≡ DiskFault → CallsDisk command
   pub source_fault : reached ≡ SourceFault → HasRisen before.faults after.faults
-  -- the scan: it fails in no other case, each command loads one file and looks at no head
+  -- the scan: it fails in no other case
   pub steady : reached ≢ SourceFault → after.faults ≡ before.faults
   pub later : before.faults ≤ after.faults
-  pub loads : after.loads ≡ one_more before.loads
-  pub heads : after.heads ≡ before.heads
+  pub loads : HasLoaded command before.loads after.loads
+  pub heads : LooksAtHeads command before.heads after.heads
   pub world : after.world ≡ before.world
+
+-- A run did to the disk what it is to do; no other command made a call on it.
+abbrev pub UsesDisk : Command → ScanState → ScanState → DiskState → DiskState → Outcome → List ℕ → Type 0
+UsesDisk (commands.Run path workers share) before after disk disk_after reached output = IsRunReply before.world path disk disk_after before.loads after.loads reached output
+UsesDisk other before after disk disk_after reached output = disk_after ≡ disk
+
+-- The reply of a command, with what it did to the disk, whose fault has its cause.
+pub record IsWholeReply (command : Command) (before after : ScanState) (disk disk_after : DiskState) (reached : Outcome) (output : List ℕ) : Type 0 where
+  pub reply : IsReply command before after reached output
+  pub folder : UsesDisk command before after disk disk_after reached output
+  pub disk_fault : reached ≡ DiskFault → HasRisen disk.faults disk_after.faults
+  pub disk_steady : reached ≢ DiskFault → disk_after.faults ≡ disk.faults
+  pub disk_later : disk.faults ≤ disk_after.faults

@@ -1,4 +1,4 @@
--- The event table of an edit list.
+-- The event table of an edit list. The text is this project's own rule.
 --     event_table rate list      the line of the rate, one line for each event, and the line of their number
 use Rattle.std.specs.Prelude.{ℕ, List, [], ◌∷◌, ◌++◌, length, codes, decimal, Option, None, Some}
 use Rattle.std.specs.Fmt.{signed_decimal}
@@ -17,9 +17,13 @@ use Rattle.cf_timecode.specs.Spelling.{spelled}
 use Rattle.conform_tool.specs.Command.{rate_word}
 use Rattle.conform_tool.specs.Output.{ended}
 
--- words with single spaces between them, and the end of the line
+-- words with single spaces between them
+abbrev pub spaced : List (List ℕ) → List ℕ
+spaced words = join_with_byte 32 words
+
+-- the same, and the end of the line
 abbrev pub spaced_line : List (List ℕ) → List ℕ
-spaced_line words = ended (join_with_byte 32 words)
+spaced_line words = ended (spaced words)
 
 abbrev pub mode_word : Mode → List ℕ
 mode_word NonDrop = codes "non-drop"

@@ -6,18 +6,19 @@ ghost use Rattle.dpx_header.specs.Frame.{IsFrame, need_of};
 ghost use Rattle.dpx_header.specs.Writing.{header_of};
 ghost use Rattle.dpx_pack.specs.Pixels.{pixels};
 ghost use Rattle.conform_tool.specs.Frame.{frame_head, frame_form};
-ghost use Rattle.conform_tool.specs.Reply.{IsReply};
+ghost use Rattle.conform_tool.specs.Reply.{IsReply, scan_state};
 ghost use Rattle.conform_tool.specs.Output.{line_of};
 ghost use Rattle.conform_tool.specs.declared.command.Command.TheVariants as commands;
 ghost use Rattle.scan_source.specs.Answers.{first_bytes};
 ghost use Rattle.dpx_header.specs.Reading.{info_of};
 ghost use Rattle.conform_tool.specs.Faults.{IfFault};
 
+use crate::load::load;
 use crate::outcome::{Outcome, Refused, Which};
 use cf_base::{Fail, PathText, TitleText};
 use dpx_header::{DpxFault, FrameInfo, OutHead, read_header, write_header};
 use dpx_pack::{pack, unpack};
-use scan_source::{Loaded, Scans, head_of};
+use scan_source::{Scans, head_of};
 use std::alloc::{AllocError, Global};
 
 /// The bytes of the largest file that is taken: the greatest offset, and 4096 lines of 4096 pixels with the greatest
@@ -27,20 +28,18 @@ const MOST: u64 = 84_914_180;
 /// The pixels of the file at a path, under a new header: the whole file that is put, or the outcome that was reached.
 pub fn frame<S: Scans>(alloc: Global, path: &PathText, scan: &mut S) -> Result<Vec<u8>, Outcome>
     ensures reply { MatchResult result
-        (λ file. IsReply (commands.Frame path.now) (record { world = S.world scan.old; faults = S.faults scan.old; loads = S.loads scan.old; heads = S.heads scan.old }) (record { world = S.world scan.new; faults = S.faults scan.new; loads = S.loads scan.new; heads = S.heads scan.new }) Outcome.Done file.items)
-        (λ outcome. IsReply (commands.Frame path.now) (record { world = S.world scan.old; faults = S.faults scan.old; loads = S.loads scan.old; heads = S.heads scan.old }) (record { world = S.world scan.new; faults = S.faults scan.new; loads = S.loads scan.new; heads = S.heads scan.new }) outcome (line_of outcome)) }
+        (λ file. IsReply (commands.Frame path.now) (scan_state S.world S.faults S.loads S.heads scan.old) (scan_state S.world S.faults S.loads S.heads scan.new) Outcome.Done file.items)
+        (λ outcome. IsReply (commands.Frame path.now) (scan_state S.world S.faults S.loads S.heads scan.old) (scan_state S.world S.faults S.loads S.heads scan.new) outcome (line_of outcome)) }
     ensures same { S.same scan.old scan.new }
 {
-    let mut bytes = Vec::new(alloc);
-    match scan.load(path, MOST, &mut bytes) {
-        Loaded::Got { len } => match converted(alloc, &bytes, len) {
-            Ok(file) => Ok(file),
-            Err(Fail::Fault(fault)) => Err(Outcome::Refused(Refused::Frame(fault))),
-            Err(Fail::NoMemory) => Err(Outcome::NoMemory),
-        },
-        Loaded::Absent => Err(Outcome::Refused(Refused::NoFile(Which::Frame))),
-        Loaded::Failed => Err(Outcome::SourceFault),
-        Loaded::NoMemory => Err(Outcome::NoMemory),
+    let front = match load(alloc, path, MOST, Which::Frame, scan) {
+        Ok(front) => front,
+        Err(outcome) => return Err(outcome),
+    };
+    match converted(alloc, &front.bytes, front.len) {
+        Ok(file) => Ok(file),
+        Err(Fail::Fault(fault)) => Err(Outcome::Refused(Refused::Frame(fault))),
+        Err(Fail::NoMemory) => Err(Outcome::NoMemory),
     }
 }
 

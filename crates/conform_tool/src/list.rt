@@ -3,19 +3,18 @@ ghost use Rattle.std.specs.Prelude.{◌≡◌, ◌≤◌, IfOk, IsOkAnd, Err, Ma
 ghost use Rattle.edl_events.specs.Lists.{list_of};
 ghost use Rattle.conform_tool.specs.Faults.{IfFault};
 ghost use Rattle.conform_tool.specs.Output.{line_of};
-ghost use Rattle.conform_tool.specs.Reply.{IsReply};
+ghost use Rattle.conform_tool.specs.Reply.{IsReply, scan_state};
 ghost use Rattle.conform_tool.specs.Table.{event_table};
 ghost use Rattle.conform_tool.specs.declared.command.Command.TheVariants as commands;
 
+use crate::load::load;
 use crate::outcome::{Outcome, Refused, Which};
+use crate::project::MOST_LIST;
 use crate::table::event_table;
 use cf_base::{Fail, PathText, Rate};
 use edl_events::{ListRefusal, read_list};
-use scan_source::{Loaded, Scans};
+use scan_source::Scans;
 use std::alloc::Global;
-
-/// One byte more than the longest list has.
-const MOST: u64 = 4_194_305;
 
 /// The event table of the list at a path, or the outcome that was reached.
 pub fn list<S: Scans>(
@@ -25,20 +24,18 @@ pub fn list<S: Scans>(
     scan: &mut S,
 ) -> Result<Vec<u8>, Outcome>
     ensures reply { MatchResult result
-        (λ table. IsReply (commands.List path.now rate) (record { world = S.world scan.old; faults = S.faults scan.old; loads = S.loads scan.old; heads = S.heads scan.old }) (record { world = S.world scan.new; faults = S.faults scan.new; loads = S.loads scan.new; heads = S.heads scan.new }) Outcome.Done table.items)
-        (λ outcome. IsReply (commands.List path.now rate) (record { world = S.world scan.old; faults = S.faults scan.old; loads = S.loads scan.old; heads = S.heads scan.old }) (record { world = S.world scan.new; faults = S.faults scan.new; loads = S.loads scan.new; heads = S.heads scan.new }) outcome (line_of outcome)) }
+        (λ table. IsReply (commands.List path.now rate) (scan_state S.world S.faults S.loads S.heads scan.old) (scan_state S.world S.faults S.loads S.heads scan.new) Outcome.Done table.items)
+        (λ outcome. IsReply (commands.List path.now rate) (scan_state S.world S.faults S.loads S.heads scan.old) (scan_state S.world S.faults S.loads S.heads scan.new) outcome (line_of outcome)) }
     ensures same { S.same scan.old scan.new }
 {
-    let mut text = Vec::new(alloc);
-    match scan.load(path, MOST, &mut text) {
-        Loaded::Got { .. } => match table_of(alloc, rate, &text) {
-            Ok(table) => Ok(table),
-            Err(Fail::Fault(refusal)) => Err(Outcome::Refused(Refused::List(refusal))),
-            Err(Fail::NoMemory) => Err(Outcome::NoMemory),
-        },
-        Loaded::Absent => Err(Outcome::Refused(Refused::NoFile(Which::List))),
-        Loaded::Failed => Err(Outcome::SourceFault),
-        Loaded::NoMemory => Err(Outcome::NoMemory),
+    let front = match load(alloc, path, MOST_LIST, Which::List, scan) {
+        Ok(front) => front,
+        Err(outcome) => return Err(outcome),
+    };
+    match table_of(alloc, rate, &front.bytes) {
+        Ok(table) => Ok(table),
+        Err(Fail::Fault(refusal)) => Err(Outcome::Refused(Refused::List(refusal))),
+        Err(Fail::NoMemory) => Err(Outcome::NoMemory),
     }
 }
 

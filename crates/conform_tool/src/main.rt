@@ -1,7 +1,8 @@
 //! The conform station's command line.
 //!
 //! `frame PATH` reads one DPX file and puts the same pixels under the station's own header; `list FILE RATE` reads an
-//! edit list and puts its event table. The words become a `Command`, the command a reply, and the reply is put on the
+//! edit list and puts its event table; `plan PROJECT` reads a project and puts what each record frame shows;
+//! `run PROJECT` renders its reel into the folder `conform.out`. The words become a `Command`, the command a reply, and the reply is put on the
 //! output in one piece.
 #![tactic(auto)]
 
@@ -10,14 +11,19 @@ mod command;
 mod frame;
 mod line;
 mod list;
+mod load;
 mod outcome;
+mod plan;
+mod project;
+mod run;
 mod table;
 #[cfg(test)]
 mod tests;
 mod text;
 
 use answer::{Ended, conform};
-use cf_base::StreamSink;
+use cf_base::{PathText, StreamSink};
+use reel_disk::FolderDisk;
 use scan_source::FileScans;
 use std::alloc::AllocError;
 use std::process::ExitCode;
@@ -27,18 +33,21 @@ use std::{env, io};
 /// How many scans a call is handed.
 const SCANS: usize = 16;
 
+/// The reel folder, in the current folder.
+const FOLDER: &[u8] = b"conform.out";
+
 /// The status of want of memory before there is a command.
 const NO_MEMORY: u8 = 10;
 
 fn main(rt: HostRuntime) -> ExitCode {
-    match run(&rt) {
+    match carry_out(&rt) {
         Ok(status) => ExitCode::from(status),
         Err(_) => ExitCode::from(NO_MEMORY),
     }
 }
 
 /// Does the command of the process's arguments, and gives the status.
-fn run<R: Runtime + AllocGlobal>(rt: &R) -> Result<u8, AllocError> {
+fn carry_out<R: Runtime + AllocGlobal>(rt: &R) -> Result<u8, AllocError> {
     let alloc = rt.alloc();
     let owned = arguments(rt)?;
     let mut words = Vec::new(alloc);
@@ -49,8 +58,16 @@ fn run<R: Runtime + AllocGlobal>(rt: &R) -> Result<u8, AllocError> {
     for _ in 0..SCANS {
         scans.push(FileScans::new(rt.clone()?))?;
     }
+    let Some(folder) = PathText::of(FOLDER) else {
+        unreachable!()
+    };
+    let disk = FolderDisk::new(rt.clone()?, folder);
     let mut out = StreamSink::new(io::writer(rt));
-    let Ended { outcome, scans: _ } = conform(alloc, &words, scans, &mut out);
+    let Ended {
+        outcome,
+        scans: _,
+        disk: _,
+    } = conform(alloc, &words, scans, disk, &mut out);
     Ok(outcome.status())
 }
 

@@ -84,7 +84,7 @@ fn put_event(
 
 /// The label of a frame number, and a space.
 #[tactic(auto, unfolding(crate::specs::Table::label_word))]
-fn put_label(table: &mut Vec<u8>, rate: Rate, mode: Mode, number: u32) -> Result<(), AllocError>
+pub fn put_label(table: &mut Vec<u8>, rate: Rate, mode: Mode, number: u32) -> Result<(), AllocError>
     requires counts { CanCount rate mode }
     requires in_day { number < frames_in_day rate mode }
     ensures { OnOk result (table.new.items ≡ table.old.items ++ label_word rate mode number ++ 32 ∷ []) }

@@ -1,11 +1,15 @@
 //! The commands over files in memory: what no clause says, with values from outside.
+mod desk;
 mod frames;
 mod lists;
 mod outside;
+mod plans;
+mod runs;
 
 use crate::answer::answer;
 use crate::outcome::Outcome;
 use cf_base::{MemorySink, PathText};
+use reel_disk::MemoryDisk;
 use scan_source::MemoryScans;
 use std::alloc::Global;
 use std::test::Fail;
@@ -26,6 +30,7 @@ fn said(
 ) -> Result<(Outcome, MemorySink), Fail> {
     let mut scan = scan_of(alloc, path, file, &[])?;
     let mut out = MemorySink::new(alloc);
-    let outcome = answer(alloc, words, &mut scan, &mut out);
+    let mut disk = MemoryDisk::new(alloc).ok().ok_or("no memory")?;
+    let outcome = answer(alloc, words, &mut scan, &mut disk, &mut out);
     Ok((outcome, out))
 }

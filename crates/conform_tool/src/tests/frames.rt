@@ -4,6 +4,7 @@ use crate::answer::{Ended, answer, conform};
 use crate::outcome::{Outcome, Refused, Which};
 use cf_base::MemorySink;
 use dpx_header::DpxFault;
+use reel_disk::MemoryDisk;
 use std::alloc::{AllocError, Global};
 use std::test::Fail;
 
@@ -50,7 +51,7 @@ fn three_by_five(alloc: Global) -> Result<Vec<u8>, AllocError> {
 }
 
 /// Lays bytes over those of a file from an offset on, where they fit.
-fn put(file: &mut [u8], at: usize, bytes: &[u8]) {
+pub fn put(file: &mut [u8], at: usize, bytes: &[u8]) {
     if let Some(rest) = file.get_mut(at..) {
         if let Some(part) = rest.get_mut(..bytes.len()) {
             part.copy_from_slice(bytes);
@@ -64,7 +65,12 @@ fn a_frame_is_put_under_a_new_header(rt: HostRuntime) -> Result<(), Fail> {
     let mut scans = Vec::new(alloc);
     scans.push(scan_of(alloc, b"two.dpx", two_by_two(alloc)?, &[])?)?;
     let mut out = MemorySink::new(alloc);
-    let Ended { outcome, scans: _ } = conform(alloc, &["frame", "two.dpx"], scans, &mut out);
+    let disk = MemoryDisk::new(alloc).ok().ok_or("no memory")?;
+    let Ended {
+        outcome,
+        scans: _,
+        disk: _,
+    } = conform(alloc, &["frame", "two.dpx"], scans, disk, &mut out);
     assert_eq!(rt; outcome, Outcome::Done);
     assert_eq!(rt; outcome.status(), 0);
     assert_eq!(rt; out.bytes().len(), 2064);
@@ -132,10 +138,17 @@ fn a_missing_file_and_a_failing_scan_are_told_apart(rt: HostRuntime) -> Result<(
     assert_eq!(rt; out.bytes(), b"refused 0.1 frame\n".as_slice());
     let mut scan = scan_of(alloc, b"two.dpx", two_by_two(alloc)?, &[1])?;
     let mut out = MemorySink::new(alloc);
-    let failed = answer(alloc, &["frame", "none.dpx"], &mut scan, &mut out);
+    let mut disk = MemoryDisk::new(alloc).ok().ok_or("no memory")?;
+    let failed = answer(
+        alloc,
+        &["frame", "none.dpx"],
+        &mut scan,
+        &mut disk,
+        &mut out,
+    );
     assert_eq!(rt; failed, Outcome::SourceFault);
     assert_eq!(rt; failed.status(), 7);
-    let after = answer(alloc, &["frame", "two.dpx"], &mut scan, &mut out);
+    let after = answer(alloc, &["frame", "two.dpx"], &mut scan, &mut disk, &mut out);
     assert_eq!(rt; after, Outcome::Done);
     assert!(rt; out.bytes().starts_with(b"source fault\nSDPX"));
     assert_eq!(rt; out.bytes().len(), 13 + 2064);

@@ -121,7 +121,7 @@ fn words_of_no_command_put_the_usage_line(rt: HostRuntime) -> Result<(), Fail> {
         &["list", "a.edl"],
         &["list", "a.edl", "48"],
         &["list", "a.edl", "24", "25"],
-        &["plan", "a.toml"],
+        &["status", "a.toml"],
     ];
     for words in rows {
         let (outcome, out) = said(alloc, words, b"a.edl", Vec::new(alloc))?;

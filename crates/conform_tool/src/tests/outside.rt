@@ -4,6 +4,7 @@ use super::scan_of;
 use crate::answer::answer;
 use crate::outcome::Outcome;
 use cf_base::{PathText, StreamSink};
+use reel_disk::MemoryDisk;
 use scan_source::{Head, Loaded, MemoryScans, Scans};
 use std::io::{self, Write};
 use std::test::Fail;
@@ -41,7 +42,8 @@ fn a_sink_that_fails_keeps_a_prefix_and_the_status(rt: HostRuntime) -> Result<()
             bytes: Vec::new(alloc),
             room,
         });
-        let outcome = answer(alloc, &words, &mut scan, &mut out);
+        let mut disk = MemoryDisk::new(alloc).ok().ok_or("no memory")?;
+        let outcome = answer(alloc, &words, &mut scan, &mut disk, &mut out);
         assert_eq!(rt; outcome, Outcome::SinkFault { instead });
         assert_eq!(rt; outcome.status(), 9);
         assert_eq!(rt; out.into_writer().bytes.as_slice(), prefix);
@@ -97,7 +99,8 @@ fn a_command_asks_for_as_many_bytes_as_its_largest_file_has(rt: HostRuntime) -> 
             bytes: Vec::new(alloc),
             room: 4096,
         });
-        answer(alloc, words, &mut scan, &mut out);
+        let mut disk = MemoryDisk::new(alloc).ok().ok_or("no memory")?;
+        answer(alloc, words, &mut scan, &mut disk, &mut out);
         assert_eq!(rt; scan.most, most);
     }
     Ok(())
