@@ -70,7 +70,7 @@ fn put_reel(
 ) -> Result<(), Fail> {
     let scan = scan_of(alloc, word)?;
     for frame in 0..48 {
-        let path = path_of(alloc, prefix, first + frame)?;
+        let path = path_of(alloc, prefix, first.wrapping_add(frame))?;
         put_file(files, &path, Vec::from_slice(alloc, &scan)?)?;
     }
     Ok(())
