@@ -1,6 +1,7 @@
 pub mod DigitLaws
 pub mod FirstLaws
 pub mod LineLaws
+pub mod RangeLaws
 pub mod TextParts
 pub mod TokenLaws
 mod Capped

@@ -1,23 +1,31 @@
 -- From a reply to the answer.
-use Rattle.std.proofs.Common.{◌≡◌, ◌≢◌, ℕ, List, Option, Some, None, refl, sym, subst, ◌∙◌, inl, inr}
+use Rattle.std.proofs.Common.{◌≡◌, ◌≢◌, ℕ, List, Option, Some, None, MatchOption, refl, subst, inl, inr}
 use Rattle.scan_source.specs.World.{World}
-use Rattle.conform_tool.specs.Answer.{SinkState, IsPut, IsMade, IsLinePut, Answered}
-use Rattle.conform_tool.specs.Command.{Spells, IsNoCommand}
-use Rattle.conform_tool.specs.Output.{line_of}
+use Rattle.conform_tool.specs.Answer.{SinkState, IsPut, IsLinePut, IsUnread, Answered}
+use Rattle.command_words.specs.Commands.{Spells, IsNoCommand}
+use Rattle.outcome_line.specs.Output.{line_of, IsMade}
 use Rattle.conform_tool.specs.Reply.{ScanState, UsesDisk, IsWholeReply}
-use Rattle.conform_tool.specs.Run.{DiskState, IsRunReply}
-use Rattle.conform_tool.specs.declared.command.Command.{Command}
-use Rattle.conform_tool.specs.declared.command.Command.TheVariants as commands
-use Rattle.conform_tool.specs.declared.outcome.Outcome.{Outcome}
-use Rattle.conform_tool.specs.declared.outcome.Outcome.TheVariants as outcomes
+use Rattle.project_run.specs.Run.{DiskState, IsRunReply}
+use Rattle.project_run.specs.Status.{IsStatusReply}
+use Rattle.command_words.specs.declared.command.Command.{Command}
+use Rattle.command_words.specs.declared.command.Command.TheVariants as commands
+use Rattle.outcome_line.specs.declared.outcome.Outcome.{Outcome}
+use Rattle.outcome_line.specs.declared.outcome.Outcome.TheVariants as outcomes
+use Rattle.command_words.proofs.Commands.{one_spelled}
 use Rattle.conform_tool.proofs.Replies.{memory_right, told_any}
 
--- words spell one command at most
-one_command : (words : List (List ℕ)) (a b : Command) → Spells words a → Spells words b → a ≡ b
-one_command words a b one other = let same : ◌≡◌ {A = Option Command} (Some a) (Some b) = sym one ∙ other in cc
+-- what was found of the words
+pub none_found : (words : List (List ℕ)) (found : Option Command) → found ≡ None
+    → MatchOption found (IsNoCommand words) (λ command. Spells words command) → IsNoCommand words
+none_found words found is says = subst (λ f. MatchOption f (IsNoCommand words) (λ command. Spells words command)) is says
 
-no_command : (words : List (List ℕ)) (command : Command) → IsNoCommand words → Spells words command → ⊥
-no_command words command none spells = let same : ◌≡◌ {A = Option Command} None (Some command) = sym none ∙ spells in cc
+pub one_found : (words : List (List ℕ)) (found : Option Command) (command : Command) → found ≡ Some command
+    → MatchOption found (IsNoCommand words) (λ c. Spells words c) → Spells words command
+one_found words found command is says = subst (λ f. MatchOption f (IsNoCommand words) (λ c. Spells words c)) is says
+
+-- what was reached before anything was read
+unread : (outcome : Outcome) (scan : ScanState) (disk : DiskState) → IsUnread outcome scan scan disk disk outcome (line_of outcome)
+unread outcome scan disk = record { reached_is = refl; line = refl; untouched_scan = refl; untouched_disk = refl }
 
 pub answered_usage : (words : List (List ℕ)) (scan : ScanState) (disk : DiskState) (sink sink_after : SinkState) (result : Outcome)
     → IsNoCommand words → IsLinePut sink sink_after outcomes.Usage result → Answered words scan scan disk disk sink sink_after result
@@ -25,13 +33,23 @@ answered_usage words scan disk sink sink_after result none (inl put) = record {
   reached = outcomes.Usage;
   output = line_of outcomes.Usage;
   put = put;
-  usage = (λ _. none, λ _. refl);
-  usage_line = λ _. refl;
-  usage_scan = λ _. refl;
-  usage_disk = λ _. refl;
-  reply = λ command spells. absurd (no_command words command none spells);
+  usage = λ _. none;
+  no_command = λ _. inl (unread outcomes.Usage scan disk);
+  reply = λ command spells. absurd (none command spells);
 }
 answered_usage words scan disk sink sink_after result none (inr put) = absurd put.0
+
+pub answered_unread : (words : List (List ℕ)) (scan : ScanState) (disk : DiskState) (sink sink_after : SinkState) (result : Outcome)
+    → IsLinePut sink sink_after outcomes.NoMemory result → Answered words scan scan disk disk sink sink_after result
+answered_unread words scan disk sink sink_after result (inl put) = record {
+  reached = outcomes.NoMemory;
+  output = line_of outcomes.NoMemory;
+  put = put;
+  usage = λ same. absurd (cc);
+  no_command = λ _. inr (unread outcomes.NoMemory scan disk);
+  reply = λ command spells. inr (unread outcomes.NoMemory scan disk);
+}
+answered_unread words scan disk sink sink_after result (inr put) = absurd put.0
 
 pub answered_by : (words : List (List ℕ)) (command : Command) (scan scan_after : ScanState) (disk disk_after : DiskState) (sink sink_after : SinkState) (result reached : Outcome) (output : List ℕ)
     → Spells words command → IsWholeReply command scan scan_after disk disk_after reached output → IsPut sink sink_after reached output result
@@ -40,11 +58,9 @@ answered_by words command scan scan_after disk disk_after sink sink_after result
   reached = reached;
   output = output;
   put = put;
-  usage = (λ same. absurd (whole.reply.spelled same), λ none. absurd (no_command words command none spelled));
-  usage_line = λ same. absurd (whole.reply.spelled same);
-  usage_scan = λ same. absurd (whole.reply.spelled same);
-  usage_disk = λ same. absurd (whole.reply.spelled same);
-  reply = λ other spells. subst (λ c. IsWholeReply c scan scan_after disk disk_after reached output) (one_command words command other spelled spells) whole;
+  usage = λ same. absurd (whole.reply.spelled same);
+  no_command = λ none. absurd (none command spelled);
+  reply = λ other spells. inl (subst (λ c. IsWholeReply c scan scan_after disk disk_after reached output) (one_spelled words command other spelled spells) whole);
 }
 
 -- an outcome whose line is made is none of these
@@ -62,8 +78,7 @@ run_instead told path disk disk_after loads loads_after reached output (inl has)
   ran = record {
     how = has.ran.how;
     report = has.ran.report;
-    reached_is = inr refl;
-    form = λ same. absurd (cc);
+    reply = record { reached_is = inr refl; form = λ same. absurd (cc) };
     frames = has.ran.frames;
     ran = has.ran.ran;
     run = has.ran.run;
@@ -75,12 +90,31 @@ run_instead told path disk disk_after loads loads_after reached output (inl has)
 })
 run_instead told path disk disk_after loads loads_after reached output (inr none) = inr (record { why = told_any told (λ world. tt); kind = tt; untouched = none.untouched; texts = none.texts })
 
+status_instead : (told : Option World) (path : List ℕ) (disk disk_after : DiskState) (loads loads_after : ℕ) (reached : Outcome) (output : List ℕ)
+    → IsStatusReply told path disk disk_after loads loads_after reached output → IsStatusReply told path disk disk_after loads loads_after outcomes.NoMemory (line_of outcomes.NoMemory)
+status_instead told path disk disk_after loads loads_after reached output (inl has) = inl (record {
+  job = has.job;
+  comes = has.comes;
+  texts = has.texts;
+  status = record {
+    answer = has.status.answer;
+    reached_is = inr refl;
+    form = λ same. absurd (cc);
+    peeked = has.status.peeked;
+    known = has.status.known;
+    still = has.status.still;
+  };
+})
+status_instead told path disk disk_after loads loads_after reached output (inr none) = inr (record { why = told_any told (λ world. tt); kind = tt; untouched = none.untouched; texts = none.texts })
+
 folder_instead : (command : Command) (before after : ScanState) (disk disk_after : DiskState) (reached : Outcome) (output : List ℕ)
     → UsesDisk command before after disk disk_after reached output → UsesDisk command before after disk disk_after outcomes.NoMemory (line_of outcomes.NoMemory)
 folder_instead (commands.Frame path) before after disk disk_after reached output uses = uses
 folder_instead (commands.List path rate) before after disk disk_after reached output uses = uses
 folder_instead (commands.Plan path) before after disk disk_after reached output uses = uses
 folder_instead (commands.Run path workers share) before after disk disk_after reached output uses = run_instead before.world path disk disk_after before.loads after.loads reached output uses
+folder_instead (commands.Status path) before after disk disk_after reached output uses = status_instead before.world path disk disk_after before.loads after.loads reached output uses
+folder_instead (commands.Demo count) before after disk disk_after reached output uses = uses
 
 -- an outcome whose line found no memory
 or_no_memory : (command : Command) (before after : ScanState) (disk disk_after : DiskState) (outcome : Outcome) (output : List ℕ) → IsMade outcome

@@ -15,8 +15,8 @@ use Rattle.dpx_pack.proofs.Front.{pixels_front}
 use Rattle.scan_source.specs.Answers.{first_bytes}
 use Rattle.conform_tool.specs.Frame.{info_in, frame_head, frame_form, IsFrameForm, IsFrameCase}
 use Rattle.conform_tool.specs.Reply.{IsRightBy}
-use Rattle.conform_tool.specs.declared.outcome.Outcome.TheVariants.{Done, Refused}
-use Rattle.conform_tool.specs.declared.outcome.Refused.TheVariants as refused
+use Rattle.outcome_line.specs.declared.outcome.Outcome.TheVariants.{Done, Refused}
+use Rattle.outcome_line.specs.declared.outcome.Refused.TheVariants as refused
 
 -- the file that asks for most
 pub need_most : (info : FrameInfo) → IsFrame info → need_of info ≤ 84914180

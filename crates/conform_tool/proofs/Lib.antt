@@ -1,9 +1,7 @@
 mod Answering
+mod Conforming
+mod Demos
 mod Frames
 mod Lists
 mod Plans
-mod Projects
 mod Replies
-mod Runs
-mod Tables
-mod Words

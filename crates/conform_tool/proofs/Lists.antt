@@ -4,11 +4,11 @@ use Rattle.cf_base.specs.declared.timing.Rate.{Rate}
 use Rattle.edl_events.specs.Lists.{list_of}
 use Rattle.edl_events.specs.declared.ListRefusal.{ListRefusal}
 use Rattle.conform_tool.specs.List.{IsListCase, IsListForm}
-use Rattle.conform_tool.specs.Table.{event_table}
+use Rattle.printed_tables.specs.Table.{event_table}
 use Rattle.conform_tool.specs.Reply.{IsRightBy}
-use Rattle.conform_tool.specs.declared.outcome.Outcome.TheVariants.{Done, Refused}
-use Rattle.conform_tool.specs.declared.outcome.Refused.TheVariants as refused
-use Rattle.conform_tool.proofs.Projects.{front_list}
+use Rattle.outcome_line.specs.declared.outcome.Outcome.TheVariants.{Done, Refused}
+use Rattle.outcome_line.specs.declared.outcome.Refused.TheVariants as refused
+use Rattle.project_job.proofs.Projects.{front_list}
 
 pub list_done : (rate : Rate) (text into out : List ℕ) → IsOkAnd (list_of rate into) (λ list. out ≡ event_table rate list)
     → into ≡ take 4194305 text → IsRightBy (IsListCase rate (Some text)) (IsListForm rate (Some text)) Done out

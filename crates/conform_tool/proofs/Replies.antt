@@ -11,19 +11,20 @@ use Rattle.cf_base.specs.declared.timing.Rate.{Rate}
 use Rattle.scan_source.specs.World.{World, file_at}
 use Rattle.conform_tool.specs.Frame.{IsFrameCase, IsFrameForm}
 use Rattle.conform_tool.specs.List.{IsListCase, IsListForm}
-use Rattle.conform_tool.specs.Load.{IsFront, IsMissing, IsOfLoad}
-use Rattle.conform_tool.specs.declared.load.Front.{Front}
-use Rattle.conform_tool.specs.declared.outcome.Refused.TheVariants.{NoFile, Project, Reels, List as EditList, Timeline, Cube, Job, Frame}
-use Rattle.conform_tool.specs.declared.outcome.Which.{Which}
-use Rattle.conform_tool.specs.declared.outcome.Which.TheVariants as which
+use Rattle.project_job.specs.Load.{IsFront, IsMissing, IsOfLoad}
+use Rattle.project_job.specs.declared.loads.Front.{Front}
+use Rattle.outcome_line.specs.declared.outcome.Refused.TheVariants.{NoFile, Project, Reels, List as EditList, Timeline, Cube, Job, Frame}
+use Rattle.outcome_line.specs.declared.outcome.Which.{Which}
+use Rattle.outcome_line.specs.declared.outcome.Which.TheVariants as which
 use Rattle.conform_tool.specs.Faults.{IfFault}
-use Rattle.conform_tool.specs.Output.{line_of}
+use Rattle.outcome_line.specs.Output.{line_of}
+use Rattle.project_run.specs.Run.{IsOfRun}
 use Rattle.conform_tool.specs.Reply.{ScanState, ByFile, IsRight, IsRightBy, HasLoaded, LooksAtHeads, CallsDisk, IsReply}
-use Rattle.conform_tool.specs.declared.command.Command.{Command}
-use Rattle.conform_tool.specs.declared.command.Command.TheVariants as commands
-use Rattle.conform_tool.specs.declared.outcome.Outcome.{Outcome}
-use Rattle.conform_tool.specs.declared.outcome.Outcome.TheVariants as outcomes
-use Rattle.conform_tool.specs.declared.outcome.Outcome.TheVariants.{Done, Usage, Refused, SourceFault, SinkFault, NoMemory}
+use Rattle.command_words.specs.declared.command.Command.{Command}
+use Rattle.command_words.specs.declared.command.Command.TheVariants as commands
+use Rattle.outcome_line.specs.declared.outcome.Outcome.{Outcome}
+use Rattle.outcome_line.specs.declared.outcome.Outcome.TheVariants as outcomes
+use Rattle.outcome_line.specs.declared.outcome.Outcome.TheVariants.{Done, Usage, Refused, SourceFault, SinkFault, NoMemory}
 
 -- some bytes with these first ones and this length
 file_of : (len most : ℕ) (into : List ℕ) → length into ≡ min len most → (bytes : List ℕ) × (len ≡ length bytes) × (into ≡ take most bytes)
@@ -146,6 +147,8 @@ memory_right (commands.Frame path) output before after = frame_memory before.wor
 memory_right (commands.List path rate) output before after = list_memory rate before.world path output
 memory_right (commands.Plan path) output before after = told_any before.world (λ world. tt)
 memory_right (commands.Run path workers share) output before after = tt
+memory_right (commands.Status path) output before after = tt
+memory_right (commands.Demo count) output before after = tt
 
 -- an error is its outcome
 pub error_of : {A : Type 0} (a b : Outcome) → a ≡ b → ◌≡◌ {A = Result A Outcome} (Err a) (Err b)
@@ -169,3 +172,16 @@ replied_load command absent NoMemory kind = tt
 
 pub load_isnt_done : (absent : Which) (outcome : Outcome) → IsOfLoad absent outcome → outcome ≢ Done
 load_isnt_done absent outcome kind same = subst (IsOfLoad absent) same kind
+
+-- the outcomes of a run are those of a command that makes calls on the disk
+pub replied_run : (command : Command) (outcome : Outcome) → CallsDisk command → IsOfRun outcome → IsReplied command outcome
+replied_run command outcomes.Done calls kind = absurd kind
+replied_run command outcomes.Usage calls kind = absurd kind
+replied_run command (outcomes.SinkFault instead) calls kind = absurd kind
+replied_run command (outcomes.Refused refusal) calls kind = tt
+replied_run command (outcomes.OtherJob kept wanted) calls kind = tt
+replied_run command (outcomes.BadLedger len) calls kind = tt
+replied_run command (outcomes.Changed reel key was now) calls kind = tt
+replied_run command outcomes.SourceFault calls kind = tt
+replied_run command outcomes.DiskFault calls kind = calls
+replied_run command outcomes.NoMemory calls kind = tt

@@ -1,17 +1,18 @@
 -- What the top call answers and puts.
 --     SinkState, sink_state      what a sink tells at a moment, and its count
+--     IsUnread      an outcome that was reached before anything was read
 --     Answered      the answer to these words, over one scan and one disk
-use Rattle.std.specs.Prelude.{◌≡◌, ◌↔◌, ◌⊎◌, ℕ, List, Option}
+use Rattle.std.specs.Prelude.{◌≡◌, ◌⊎◌, ℕ, List, Option, MatchOption}
 use Rattle.std.specs.Io.KnownBytes.{Appends}
 use Rattle.cf_base.specs.Count.{HasRisen}
 use Rattle.cf_base.specs.Sink.{AppendsPrefix}
-use Rattle.conform_tool.specs.Command.{Spells, IsNoCommand}
-use Rattle.conform_tool.specs.Output.{status_of, line_of}
+use Rattle.command_words.specs.Commands.{Spells, IsNoCommand}
+use Rattle.outcome_line.specs.Output.{status_of, line_of, IsMade}
 use Rattle.conform_tool.specs.Reply.{ScanState, IsWholeReply}
-use Rattle.conform_tool.specs.Run.{DiskState}
-use Rattle.conform_tool.specs.declared.command.Command.{Command}
-use Rattle.conform_tool.specs.declared.outcome.Outcome.{Outcome}
-use Rattle.conform_tool.specs.declared.outcome.Outcome.TheVariants.{Usage, Refused, OtherJob, BadLedger, Changed, SinkFault, NoMemory}
+use Rattle.project_run.specs.Run.{DiskState}
+use Rattle.command_words.specs.declared.command.Command.{Command}
+use Rattle.outcome_line.specs.declared.outcome.Outcome.{Outcome}
+use Rattle.outcome_line.specs.declared.outcome.Outcome.TheVariants.{Usage, SinkFault, NoMemory}
 
 pub record SinkState : Type 0 where
   pub written : Option (List ℕ)
@@ -27,28 +28,29 @@ IsPut before after reached output result =
     ((result ≡ reached) × Appends before.written after.written output × (after.faults ≡ before.faults))
     ⊎ ((result ≡ SinkFault (status_of reached)) × AppendsPrefix before.written after.written output × HasRisen before.faults after.faults)
 
--- the line of the outcome is made in memory
-abbrev pub IsMade : Outcome → Type 0
-IsMade (Refused refusal) = Unit {0}
-IsMade (OtherJob kept wanted) = Unit {0}
-IsMade (BadLedger len) = Unit {0}
-IsMade (Changed reel key was now) = Unit {0}
-IsMade other = ⊥
-
 -- The line of an outcome is put. One whose line is made and finds no memory becomes NoMemory.
 abbrev pub IsLinePut : SinkState → SinkState → Outcome → Outcome → Type 0
 IsLinePut before after outcome result =
     IsPut before after outcome (line_of outcome) result ⊎ (IsMade outcome × IsPut before after NoMemory (line_of NoMemory) result)
+
+-- This outcome was reached before anything was read, with its line.
+pub record IsUnread (outcome : Outcome) (scan scan_after : ScanState) (disk disk_after : DiskState) (reached : Outcome) (output : List ℕ) : Type 0 where
+  pub reached_is : reached ≡ outcome
+  pub line : output ≡ line_of outcome
+  pub untouched_scan : scan_after ≡ scan
+  pub untouched_disk : disk_after ≡ disk
+
+-- what the reading of the words found
+abbrev pub IsFoundIn : List (List ℕ) → Option Command → Type 0
+IsFoundIn words found = MatchOption found (IsNoCommand words) (λ command. Spells words command)
 
 -- Some outcome was reached, with its output, and was put.
 pub record Answered (words : List (List ℕ)) (scan scan_after : ScanState) (disk disk_after : DiskState) (sink sink_after : SinkState) (result : Outcome) : Type 0 where
   pub reached : Outcome
   pub output : List ℕ
   pub put : IsPut sink sink_after reached output result
-  -- words of no command: the usage line, and nothing is read
-  pub usage : (reached ≡ Usage) ↔ IsNoCommand words
-  pub usage_line : reached ≡ Usage → output ≡ line_of Usage
-  pub usage_scan : reached ≡ Usage → scan_after ≡ scan
-  pub usage_disk : reached ≡ Usage → disk_after ≡ disk
-  -- words of a command: its reply
-  pub reply : (command : Command) → Spells words command → IsWholeReply command scan scan_after disk disk_after reached output
+  -- words of no command: the usage line, or no memory was left to read them
+  pub usage : reached ≡ Usage → IsNoCommand words
+  pub no_command : IsNoCommand words → IsUnread Usage scan scan_after disk disk_after reached output ⊎ IsUnread NoMemory scan scan_after disk disk_after reached output
+  -- words of a command: its reply, or no memory was left to read them
+  pub reply : (command : Command) → Spells words command → IsWholeReply command scan scan_after disk disk_after reached output ⊎ IsUnread NoMemory scan scan_after disk disk_after reached output

@@ -9,10 +9,10 @@ use Rattle.dpx_header.specs.Reading.{info_of}
 use Rattle.dpx_header.specs.Writing.{header_of}
 use Rattle.dpx_pack.specs.Pixels.{pixels}
 use Rattle.scan_source.specs.Answers.{first_bytes}
-use Rattle.conform_tool.specs.declared.outcome.Outcome.{Outcome}
-use Rattle.conform_tool.specs.declared.outcome.Outcome.TheVariants.{Done, Refused as IsRefused, SourceFault, NoMemory}
-use Rattle.conform_tool.specs.declared.outcome.Refused.TheVariants as refused
-use Rattle.conform_tool.specs.declared.outcome.Which.TheVariants as which
+use Rattle.outcome_line.specs.declared.outcome.Outcome.{Outcome}
+use Rattle.outcome_line.specs.declared.outcome.Outcome.TheVariants.{Done, Refused as IsRefused, SourceFault, NoMemory}
+use Rattle.outcome_line.specs.declared.outcome.Refused.TheVariants as refused
+use Rattle.outcome_line.specs.declared.outcome.Which.TheVariants as which
 
 -- what a file says of its pixels, or its first fault
 abbrev pub info_in : List ℕ → Result FrameInfo DpxFault

@@ -1,12 +1,6 @@
 pub mod Answer
-pub mod Command
+pub mod Conform
 pub mod Faults
 pub mod Frame
-pub mod Jobs
 pub mod List
-pub mod Load
-pub mod Output
-pub mod Plan
 pub mod Reply
-pub mod Run
-pub mod Table

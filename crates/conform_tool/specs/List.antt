@@ -2,11 +2,11 @@
 use Rattle.std.specs.Prelude.{◌≡◌, ℕ, List, Option, None, Err, IsOk, IsOkAnd, IsSomeAnd}
 use Rattle.cf_base.specs.declared.timing.Rate.{Rate}
 use Rattle.edl_events.specs.Lists.{list_of}
-use Rattle.conform_tool.specs.Table.{event_table}
-use Rattle.conform_tool.specs.declared.outcome.Outcome.{Outcome}
-use Rattle.conform_tool.specs.declared.outcome.Outcome.TheVariants.{Done, Refused as IsRefused, SourceFault, NoMemory}
-use Rattle.conform_tool.specs.declared.outcome.Refused.TheVariants as refused
-use Rattle.conform_tool.specs.declared.outcome.Which.TheVariants as which
+use Rattle.printed_tables.specs.Table.{event_table}
+use Rattle.outcome_line.specs.declared.outcome.Outcome.{Outcome}
+use Rattle.outcome_line.specs.declared.outcome.Outcome.TheVariants.{Done, Refused as IsRefused, SourceFault, NoMemory}
+use Rattle.outcome_line.specs.declared.outcome.Refused.TheVariants as refused
+use Rattle.outcome_line.specs.declared.outcome.Which.TheVariants as which
 
 -- the table that is put for the list at the path
 abbrev pub IsListForm : Rate → Option (List ℕ) → List ℕ → Type 0

@@ -1,25 +1,27 @@
-//! The top call.
-ghost use Rattle.std.specs.Prelude.{◌≡◌, ◌≤◌, true, map, drop, vec_len, slice_get, Some, AllPairs, MatchResult};
-ghost use Rattle.conform_tool.specs.Answer.{Answered, IsPut, IsLinePut, sink_state};
-ghost use Rattle.conform_tool.specs.Output.{line_of};
+//! A command on one thread, and what is put for it.
+ghost use Rattle.std.specs.Prelude.{◌≤◌, ℕ, List, map, IfSome, MatchResult};
+ghost use Rattle.conform_tool.specs.Answer.{Answered, IsFoundIn, IsPut, IsLinePut, sink_state};
+ghost use Rattle.outcome_line.specs.Output.{line_of};
 ghost use Rattle.conform_tool.specs.Reply.{IsWholeReply, scan_state};
-ghost use Rattle.conform_tool.specs.Run.{disk_state};
-ghost use Rattle.conform_tool.specs.Command.{HasCounts};
+ghost use Rattle.project_run.specs.Run.{disk_state};
+ghost use Rattle.command_words.specs.Commands.{HasCounts};
 
-use crate::command::{Command, command_of};
 use crate::frame::frame;
-use crate::line::{made_line, plain_line};
 use crate::list::list;
-use crate::outcome::Outcome;
 use crate::plan::plan;
 use crate::run::run;
+use crate::status::status;
 use cf_base::{Put, Sink};
+use command_words::{Command, command_of};
+use demo_run::demo;
+use outcome_line::{Outcome, made_line, plain_line};
 use reel_disk::Disk;
 use scan_source::Scans;
 use std::alloc::Global;
 
-/// Does the command that the words spell, on one thread, and puts its output or its line. A run renders into the disk; no
-/// other command makes a call on it.
+/// Does the command that the words spell, on one thread, and puts its output or its line. `run` renders into the disk and
+/// `status` looks at it; no other command makes a call on it. Words of no command come to `Usage`, and words for which no
+/// memory is left to `NoMemory`, before anything is read.
 pub fn answer<S: Scans, D: Disk, K: Sink>(
     alloc: Global,
     words: &[&str],
@@ -34,7 +36,29 @@ pub fn answer<S: Scans, D: Disk, K: Sink>(
     ensures later { K.faults out.old ≤ K.faults out.new }
     ensures same { S.same scan.old scan.new }
 {
-    let Some(command) = command_of(words) else {
+    let Ok(found) = command_of(alloc, words) else {
+        return put_line(alloc, &Outcome::NoMemory, out);
+    };
+    answer_found(alloc, found, scan, disk, out)
+}
+
+/// Does the command that was found in some words, on one thread, and puts its output or its line.
+pub(crate) fn answer_found<S: Scans, D: Disk, K: Sink>(
+    alloc: Global,
+    found: Option<Command>,
+    scan: &mut S,
+    disk: &mut D,
+    out: &mut K,
+) -> Outcome
+    requires counts { IfSome found HasCounts }
+    ensures answered { (words : List (List ℕ)) → IsFoundIn words found → Answered words
+        (scan_state S.world S.faults S.loads S.heads scan.old) (scan_state S.world S.faults S.loads S.heads scan.new)
+        (disk_state D.tells D.history D.faults disk.old) (disk_state D.tells D.history D.faults disk.new)
+        (sink_state K.written K.faults out.old) (sink_state K.written K.faults out.new) result }
+    ensures later { K.faults out.old ≤ K.faults out.new }
+    ensures same { S.same scan.old scan.new }
+{
+    let Some(command) = found else {
         return put_line(alloc, &Outcome::Usage, out);
     };
     match carried_out(alloc, &command, scan, disk) {
@@ -65,11 +89,30 @@ fn carried_out<S: Scans, D: Disk>(
             workers,
             share,
         } => run(alloc, project, *workers, *share, scan, disk),
+        Command::Status(project) => status(alloc, project, scan, disk),
+        Command::Demo(count) => demo(alloc, *count),
+    }
+}
+
+/// Puts the output that a command came to, or the line of its outcome.
+pub(crate) fn put_result<K: Sink>(
+    alloc: Global,
+    reached: &Result<Vec<u8>, Outcome>,
+    out: &mut K,
+) -> Outcome
+    ensures put { MatchResult reached.now
+        (λ output. IsPut (sink_state K.written K.faults out.old) (sink_state K.written K.faults out.new) Outcome.Done output.items result)
+        (λ outcome. IsLinePut (sink_state K.written K.faults out.old) (sink_state K.written K.faults out.new) outcome result) }
+    ensures later { K.faults out.old ≤ K.faults out.new }
+{
+    match reached {
+        Ok(output) => put(output, &Outcome::Done, out),
+        Err(outcome) => put_line(alloc, outcome, out),
     }
 }
 
 /// Puts the line of an outcome. One whose line is made and finds no memory becomes NoMemory.
-fn put_line<K: Sink>(alloc: Global, outcome: &Outcome, out: &mut K) -> Outcome
+pub(crate) fn put_line<K: Sink>(alloc: Global, outcome: &Outcome, out: &mut K) -> Outcome
     ensures put { IsLinePut (sink_state K.written K.faults out.old) (sink_state K.written K.faults out.new) outcome.now result }
     ensures later { K.faults out.old ≤ K.faults out.new }
 {
@@ -94,45 +137,5 @@ fn put<K: Sink>(output: &[u8], reached: &Outcome, out: &mut K) -> Outcome
         Put::Failed => Outcome::SinkFault {
             instead: reached.status(),
         },
-    }
-}
-
-/// What a call comes to, with what it was handed.
-pub struct Ended<S, D> {
-    pub outcome: Outcome,
-    /// The scans, the k-th as the k-th.
-    pub scans: Vec<S>,
-    pub disk: D,
-}
-
-/// Does the command that the words spell. It takes 1 to 16 scans that all tell one world or tell none, and a disk before its
-/// first call; it reads with the first scan, and hands all scans back in their order, and the disk.
-pub fn conform<S: Scans, D: Disk, K: Sink>(
-    alloc: Global,
-    words: &[&str],
-    mut scans: Vec<S>,
-    mut disk: D,
-    out: &mut K,
-) -> Ended<S, D>
-    requires some { 1 ≤ vec_len scans }
-    requires few { vec_len scans ≤ 16 }
-    requires one_world { AllPairs (λ a b. S.world a ≡ S.world b) scans.items }
-    requires no_fault { D.faults disk ≡ 0 }
-    requires first_moment { D.tells ≡ true → (D.history disk).now ≡ 0 }
-    ensures answered { (first last : S) → slice_get scans.items 0 ≡ Some first → slice_get result.scans.items 0 ≡ Some last
-        → Answered (map (λ w. w.now) words.now)
-        (scan_state S.world S.faults S.loads S.heads first) (scan_state S.world S.faults S.loads S.heads last)
-        (disk_state D.tells D.history D.faults disk) (disk_state D.tells D.history D.faults result.disk)
-        (sink_state K.written K.faults out.old) (sink_state K.written K.faults out.new) result.outcome }
-    ensures others { drop 1 result.scans.items ≡ drop 1 scans.items }
-    ensures handed_back { vec_len result.scans ≡ vec_len scans }
-    ensures same { (first last : S) → slice_get scans.items 0 ≡ Some first → slice_get result.scans.items 0 ≡ Some last → S.same first last }
-    ensures later { K.faults out.old ≤ K.faults out.new }
-{
-    let outcome = answer(alloc, words, &mut scans[0], &mut disk, out);
-    Ended {
-        outcome,
-        scans,
-        disk,
     }
 }

@@ -7,17 +7,17 @@ ghost use Rattle.dpx_header.specs.Writing.{header_of};
 ghost use Rattle.dpx_pack.specs.Pixels.{pixels};
 ghost use Rattle.conform_tool.specs.Frame.{frame_head, frame_form};
 ghost use Rattle.conform_tool.specs.Reply.{IsReply, scan_state};
-ghost use Rattle.conform_tool.specs.Output.{line_of};
-ghost use Rattle.conform_tool.specs.declared.command.Command.TheVariants as commands;
+ghost use Rattle.outcome_line.specs.Output.{line_of};
+ghost use Rattle.command_words.specs.declared.command.Command.TheVariants as commands;
 ghost use Rattle.scan_source.specs.Answers.{first_bytes};
 ghost use Rattle.dpx_header.specs.Reading.{info_of};
 ghost use Rattle.conform_tool.specs.Faults.{IfFault};
 
-use crate::load::load;
-use crate::outcome::{Outcome, Refused, Which};
 use cf_base::{Fail, PathText, TitleText};
 use dpx_header::{DpxFault, FrameInfo, OutHead, read_header, write_header};
 use dpx_pack::{pack, unpack};
+use outcome_line::{Outcome, Refused, Which};
+use project_job::load;
 use scan_source::{Scans, head_of};
 use std::alloc::{AllocError, Global};
 

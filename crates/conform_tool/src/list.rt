@@ -2,17 +2,16 @@
 ghost use Rattle.std.specs.Prelude.{◌≡◌, ◌≤◌, IfOk, IsOkAnd, Err, MatchResult};
 ghost use Rattle.edl_events.specs.Lists.{list_of};
 ghost use Rattle.conform_tool.specs.Faults.{IfFault};
-ghost use Rattle.conform_tool.specs.Output.{line_of};
+ghost use Rattle.outcome_line.specs.Output.{line_of};
 ghost use Rattle.conform_tool.specs.Reply.{IsReply, scan_state};
-ghost use Rattle.conform_tool.specs.Table.{event_table};
-ghost use Rattle.conform_tool.specs.declared.command.Command.TheVariants as commands;
+ghost use Rattle.printed_tables.specs.Table.{event_table};
+ghost use Rattle.command_words.specs.declared.command.Command.TheVariants as commands;
 
-use crate::load::load;
-use crate::outcome::{Outcome, Refused, Which};
-use crate::project::MOST_LIST;
-use crate::table::event_table;
 use cf_base::{Fail, PathText, Rate};
 use edl_events::{ListRefusal, read_list};
+use outcome_line::{Outcome, Refused, Which};
+use printed_tables::event_table;
+use project_job::{MOST_LIST, load};
 use scan_source::Scans;
 use std::alloc::Global;
 

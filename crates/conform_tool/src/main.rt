@@ -2,30 +2,28 @@
 //!
 //! `frame PATH` reads one DPX file and puts the same pixels under the station's own header; `list FILE RATE` reads an
 //! edit list and puts its event table; `plan PROJECT` reads a project and puts what each record frame shows;
-//! `run PROJECT` renders its reel into the folder `conform.out`. The words become a `Command`, the command a reply, and the reply is put on the
-//! output in one piece.
+//! `run PROJECT` renders its reel into the folder `conform.out`; `status PROJECT` puts how much of it is rendered; `demo N`
+//! renders a job of N events that is made in memory. The words become a `Command`, the command a reply, and the reply is put
+//! on the output in one piece.
 #![tactic(auto)]
 
+ghost use Rattle.std.specs.Prelude.{◌≡◌, vec_len, IfOk};
+
 mod answer;
-mod command;
+mod conform;
 mod frame;
-mod line;
 mod list;
-mod load;
-mod outcome;
 mod plan;
-mod project;
 mod run;
-mod table;
+mod status;
 #[cfg(test)]
 mod tests;
-mod text;
 
-use answer::{Ended, conform};
 use cf_base::{PathText, StreamSink};
-use reel_disk::FolderDisk;
+use conform::{Ended, conform};
+use reel_disk::{Disk, FolderDisk};
 use scan_source::FileScans;
-use std::alloc::AllocError;
+use std::alloc::{AllocError, Global};
 use std::process::ExitCode;
 use std::rt::Runtime;
 use std::{env, io};
@@ -40,35 +38,56 @@ const FOLDER: &[u8] = b"conform.out";
 const NO_MEMORY: u8 = 10;
 
 fn main(rt: HostRuntime) -> ExitCode {
-    match carry_out(&rt) {
-        Ok(status) => ExitCode::from(status),
-        Err(_) => ExitCode::from(NO_MEMORY),
-    }
-}
-
-/// Does the command of the process's arguments, and gives the status.
-fn carry_out<R: Runtime + AllocGlobal>(rt: &R) -> Result<u8, AllocError> {
     let alloc = rt.alloc();
-    let owned = arguments(rt)?;
-    let mut words = Vec::new(alloc);
-    for word in &owned {
-        words.push(word.as_str())?;
-    }
-    let mut scans = Vec::new(alloc);
-    for _ in 0..SCANS {
-        scans.push(FileScans::new(rt.clone()?))?;
-    }
-    let Some(folder) = PathText::of(FOLDER) else {
-        unreachable!()
+    let Ok(owned) = arguments(&rt) else {
+        return ExitCode::from(NO_MEMORY);
     };
-    let disk = FolderDisk::new(rt.clone()?, folder);
-    let mut out = StreamSink::new(io::writer(rt));
+    let Ok(words) = words_of(alloc, &owned) else {
+        return ExitCode::from(NO_MEMORY);
+    };
+    let Ok(scans) = scans_over(&rt) else {
+        return ExitCode::from(NO_MEMORY);
+    };
+    let Ok(disk) = reel_folder(&rt) else {
+        return ExitCode::from(NO_MEMORY);
+    };
+    let mut out = StreamSink::new(io::writer(&rt));
     let Ended {
         outcome,
         scans: _,
         disk: _,
-    } = conform(alloc, &words, scans, disk, &mut out);
-    Ok(outcome.status())
+    } = conform(&rt, alloc, &words, scans, disk, &mut out);
+    ExitCode::from(outcome.status())
+}
+
+/// The words, as they are lent to a call.
+fn words_of(alloc: Global, owned: &[String]) -> Result<Vec<&str>, AllocError> {
+    let mut words = Vec::new(alloc);
+    for word in owned {
+        words.push(word.as_str())?;
+    }
+    Ok(words)
+}
+
+/// Scans over the files of the system, below the current folder.
+fn scans_over<R: Runtime + AllocGlobal>(rt: &R) -> Result<Vec<FileScans<R>>, AllocError>
+    ensures { IfOk result (λ scans. vec_len scans ≡ 16) }
+{
+    let mut scans = Vec::new(rt.alloc());
+    for _ in 0..SCANS {
+        scans.push(FileScans::new(rt.clone()?))?;
+    }
+    Ok(scans)
+}
+
+/// The reel folder of the current folder, before its first call.
+fn reel_folder<R: Runtime>(rt: &R) -> Result<FolderDisk<R>, AllocError>
+    ensures { IfOk result (λ disk. ⟦<FolderDisk<R> as Disk>⟧.faults disk ≡ 0) }
+{
+    let Some(folder) = PathText::of(FOLDER) else {
+        unreachable!()
+    };
+    Ok(FolderDisk::new(rt.clone()?, folder))
 }
 
 /// The words after the program's name. Words that aren't UTF-8 are those of no command: then there are none.

@@ -1,14 +1,17 @@
 //! The commands over files in memory: what no clause says, with values from outside.
+mod crews;
+mod demos;
 mod desk;
 mod frames;
 mod lists;
 mod outside;
 mod plans;
 mod runs;
+mod statuses;
 
 use crate::answer::answer;
-use crate::outcome::Outcome;
 use cf_base::{MemorySink, PathText};
+use outcome_line::Outcome;
 use reel_disk::MemoryDisk;
 use scan_source::MemoryScans;
 use std::alloc::Global;

@@ -8,6 +8,7 @@ use Rattle.std.proofs.lemmas.List.FromFn.{fill_by_all, get_or-map-range_with_len
 use Rattle.std.proofs.lemmas.Slice.{take-put_mid}
 use borrow.Rule.Slice.PartMut.{put_mid}
 use Rattle.std.specs.List.{flat_map, range_with_len}
+use Rattle.cf_base.proofs.RangeLaws.{range_more}
 use Rattle.dpx_header.specs.declared.info.FrameInfo.{FrameInfo}
 use Rattle.dpx_header.specs.Frame.{stride}
 use Rattle.dpx_pack.specs.Pixels.{HasPixels, line, lines, number_in, word_at}
@@ -19,18 +20,6 @@ pub line_of_words : (number : ℕ → List ℕ → ℕ) (start : ℕ) (bytes wor
 unfolding line
 line_of_words number start bytes words places =
     fill_by_all (λ x. word_at number bytes (start + 4 * x)) words (length words) 0 refl places
-
--- one more number at the end of a range
-range_from_more : (a n : ℕ) → range_with_len a (suc n) ≡ range_with_len a n ++ (a + n) ∷ []
-range_from_more a zero = ap (λ k. k ∷ []) (omega arith)
-range_from_more a (suc n) =
-    let at : a + 1 + n ≡ a + suc n = omega arith in
-    ap (λ r. a ∷ r) (range_from_more (a + 1) n ∙ ap (λ k. range_with_len (a + 1) n ++ k ∷ []) at)
-
-range_more : (n : ℕ) → range_with_len 0 (n + 1) ≡ range_with_len 0 n ++ n ∷ []
-range_more n =
-    let at : 0 + n ≡ n = omega arith in
-    rw add-one (range_from_more 0 n ∙ ap (λ k. range_with_len 0 n ++ k ∷ []) at)
 
 pub lines_more : (number : ℕ → List ℕ → ℕ) (info : FrameInfo) (count : ℕ) (bytes : List ℕ)
     → lines number info (count + 1) bytes ≡ lines number info count bytes ++ line number (info.start + count * stride info) info.width bytes

@@ -1,5 +1,5 @@
 -- The words of a line, and the lines of a picture, one more at a time.
-use Rattle.std.proofs.Common.{◌≡◌, ℕ, zero, suc, ◌+◌, ◌-◌, ◌*◌, ◌<◌, ◌≤◌, List, [], ◌∷◌, ◌++◌, length, take, replicate, map, get_or, flat_map, refl, ap, ◌∙◌, arith, add-one, append-nil, Option}
+use Rattle.std.proofs.Common.{◌≡◌, ℕ, zero, suc, ◌+◌, ◌-◌, ◌*◌, ◌<◌, ◌≤◌, List, [], ◌∷◌, ◌++◌, length, take, replicate, map, get_or, flat_map, refl, ap, ◌∙◌, arith, append-nil, Option}
 use Rattle.std.proofs.Math.Nat.{mul-le-mul_right}
 use Rattle.std.proofs.lemmas.List.Concat.{flat_map-append}
 use Rattle.std.proofs.lemmas.List.FromFn.{fill_by_all}
@@ -7,6 +7,7 @@ use Rattle.std.proofs.lemmas.Slice.{take-put_mid}
 use borrow.Rule.Slice.PartMut.{put_mid}
 use Rattle.std.specs.List.{range_with_len}
 use Rattle.byteorder.specs.Endian.{big_bytes}
+use Rattle.cf_base.proofs.RangeLaws.{range_more}
 use Rattle.record_timeline.specs.declared.Shot.{Shot}
 use Rattle.conform_job.specs.Job.{JobData}
 use Rattle.frame_render.specs.Frame.{black_of, line_of, line_words, seen_word, some_lines}
@@ -28,18 +29,6 @@ pub black_line : (job : JobData) (out : List ℕ) (n word : ℕ) → out ≡ rep
     → out ≡ line_of job (λ x. black_of job)
 black_line job out n word is wide black =
     is ∙ rw (wide, black) (one_word (seen_word job (black_of job)) job.parts.project.width 0)
-
--- one more number at the end of a range
-range_from_more : (a n : ℕ) → range_with_len a (suc n) ≡ range_with_len a n ++ (a + n) ∷ []
-range_from_more a zero = ap (λ k. k ∷ []) (omega arith)
-range_from_more a (suc n) =
-    let at : a + 1 + n ≡ a + suc n = omega arith in
-    ap (λ r. a ∷ r) (range_from_more (a + 1) n ∙ ap (λ k. range_with_len (a + 1) n ++ k ∷ []) at)
-
-range_more : (n : ℕ) → range_with_len 0 (n + 1) ≡ range_with_len 0 n ++ n ∷ []
-range_more n =
-    let at : 0 + n ≡ n = omega arith in
-    rw add-one (range_from_more 0 n ∙ ap (λ k. range_with_len 0 n ++ k ∷ []) at)
 
 module _ (job : JobData) (shot : Shot) (old new : Option (List ℕ)) where
   lines_more : (count : ℕ) → some_lines job shot old new (count + 1)

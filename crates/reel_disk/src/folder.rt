@@ -38,13 +38,26 @@ fn fill<F: Read>(file: &mut F, into: &mut [u8]) -> io::Result<usize>
 {
     let mut filled = 0;
     while filled < into.len() {
-        let count = file.read(&mut into[filled..])?;
+        let count = read_some(file, &mut into[filled..])?;
         if count == 0 {
             break;
         }
         filled += count;
     }
     Ok(filled)
+}
+
+/// One read, which is tried again where it is interrupted.
+fn read_some<F: Read>(file: &mut F, into: &mut [u8]) -> io::Result<usize>
+    ensures { IfOk result (λ n. n ≤ length into.new) }
+{
+    for _ in 0..u64::MAX {
+        match file.read(into) {
+            Err(error) if error.kind() == ErrorKind::Interrupted => {}
+            answer => return answer,
+        }
+    }
+    Err(io::Error::from(ErrorKind::Interrupted))
 }
 
 impl<R: Files + Drop> FolderDisk<R> {

@@ -13,8 +13,10 @@ mod memory;
 #[cfg(test)]
 mod memory_tests;
 mod names;
+mod start;
 mod store;
 
 pub use disk::{Did, Disk, DiskFault, Got, Length, Place};
 pub use folder::FolderDisk;
 pub use memory::MemoryDisk;
+pub use start::Start;

@@ -1,5 +1,5 @@
 -- What an attach answers.
-use Rattle.std.proofs.Common.{◌≡◌, inl, inr, ℕ, ◌+◌, true, false, List, get_or, replicate, refl, sym, ◌∙◌, ap, subst, arith, Vec}
+use Rattle.std.proofs.Common.{◌≡◌, ◌≢◌, inl, inr, ℕ, ◌+◌, true, false, List, get_or, replicate, refl, sym, ◌∙◌, ap, subst, arith, Vec}
 use Rattle.std.specs.declared.alloc.Global.{Global}
 use Rattle.std.specs.Prelude.{Some, Result, Ok, Err, ◌==◌}
 use Rattle.std.proofs.lemmas.Bool.{cases_lt}
@@ -11,7 +11,7 @@ use Rattle.reel_disk.specs.Runs.{Narrows}
 use Rattle.reel_disk.proofs.Calls.{narrows_along}
 use Rattle.resume_ledger.specs.Body.{IsOwn, gates_of}
 use Rattle.resume_ledger.specs.Ledger.{LedgerState, IsSealed, IsFit, Acks, IsLedgerOf}
-use Rattle.resume_ledger.specs.Attach.{IsUnwritten, IsBad, IsJudged, HasAttached, HasReadBody, IsReadFirmly, IsAnswerTo, NeverOther, HasMade}
+use Rattle.resume_ledger.specs.Attach.{IsUnwritten, IsBad, IsJudged, HasAttached, HasBody, IsReadFirmly, IsAnswerTo, NeverOther, HasMade}
 use Rattle.resume_ledger.specs.declared.attach.OpenFault.{OpenFault}
 use Rattle.resume_ledger.specs.declared.attach.OpenFault.TheVariants.{OtherJob, BadLedger, DiskFault, NoMemory}
 use Rattle.resume_ledger.proofs.Bodies.{gate_at, length-gates, some_same}
@@ -24,15 +24,15 @@ never_other digest count DiskFault never = tt
 never_other digest count NoMemory never = tt
 
 -- a body that couldn't be read
-pub unread : (digest : List ℕ) (count : ℕ) (old new : History) (fault : OpenFault) → IsSealed (view_of old) → Narrows old new → HasReadBody old new (Err fault) → HasAttached digest count old new (Err fault)
-unread digest count old new (OtherJob kept wanted) sealed narrows read = absurd read
-unread digest count old new (BadLedger len) sealed narrows read = record {
+pub unread : (digest : List ℕ) (count : ℕ) (old new : History) (fault : OpenFault) → IsSealed (view_of old) → (fault ≢ DiskFault → IsUnwritten old new) → HasBody (view_of old Body) (Err fault) → HasAttached digest count old new (Err fault)
+unread digest count old new (OtherJob kept wanted) sealed unwritten read = absurd read
+unread digest count old new (BadLedger len) sealed unwritten read = record {
   sealed = sealed;
-  bad = record { size = read.1; bad = λ body is well. absurd (omega (arith, read.2 body is, well.no_longer)) };
-  unwritten = record { narrows = narrows; view = read.0 };
+  bad = record { size = read.0; bad = λ body is well. absurd (omega (arith, read.1 body is, well.no_longer)) };
+  unwritten = unwritten (λ same. cc);
 }
-unread digest count old new DiskFault sealed narrows read = tt
-unread digest count old new NoMemory sealed narrows read = record { narrows = narrows; view = read }
+unread digest count old new DiskFault sealed unwritten read = tt
+unread digest count old new NoMemory sealed unwritten read = unwritten (λ same. cc)
 
 module _ (digest body : List ℕ) (count : ℕ) (files : Files) (sealed : IsSealed files) (there : files Body ≡ Some body) (own : IsOwn digest count body) where
   -- a flag of a body is set where its files acknowledge the frame
@@ -58,6 +58,13 @@ module _ (digest body : List ℕ) (count : ℕ) (files : Files) (sealed : IsSeal
   pub ledger_is : IsLedgerOf digest count files (record { digest = digest; gates = gates_of body; closed = false })
   ledger_is = record { digest_is = refl; size = length-gates body count own.size; is_open = refl; gates = λ i. (flag_acks i, acks_flag i) }
 
+-- a body that was read and is refused
+pub refused : (digest : List ℕ) (count : ℕ) (old new : History) (body : List ℕ) (fault : OpenFault) → IsSealed (view_of old) → IsUnwritten old new → view_of old Body ≡ Some body → IsJudged digest count body (Err fault) → HasAttached digest count old new (Err fault)
+refused digest count old new body (OtherJob kept wanted) sealed unwritten there others = record { sealed = sealed; body = body; there = there; others = others; unwritten = unwritten }
+refused digest count old new body (BadLedger len) sealed unwritten there bad = record { sealed = sealed; bad = subst (IsBad digest count len) (sym there) bad; unwritten = unwritten }
+refused digest count old new body DiskFault sealed unwritten there none = absurd none
+refused digest count old new body NoMemory sealed unwritten there none = unwritten
+
 -- what a body that was read says
 pub judged : (digest : List ℕ) (count : ℕ) (old new : History) (body : List ℕ) (result : Result LedgerState OpenFault) → IsSealed (view_of old) → IsFirm (loose_of old) Seal → Narrows old new → IsReadFirmly Body old new → view_of old Body ≡ Some body
     → IsJudged digest count body result → HasAttached digest count old new result
@@ -77,10 +84,7 @@ judged digest count old new body (Ok ledger) sealed firm narrows read there (own
       made = λ unsealed. absurd (unsealed sealed);
       found = λ _. read.view;
     })
-judged digest count old new body (Err (OtherJob kept wanted)) sealed firm narrows read there others = record { sealed = sealed; body = body; there = there; others = others; unwritten = record { narrows = narrows; view = read.view } }
-judged digest count old new body (Err (BadLedger len)) sealed firm narrows read there bad = record { sealed = sealed; bad = subst (IsBad digest count len) (sym there) bad; unwritten = record { narrows = narrows; view = read.view } }
-judged digest count old new body (Err DiskFault) sealed firm narrows read there none = absurd none
-judged digest count old new body (Err NoMemory) sealed firm narrows read there none = record { narrows = narrows; view = read.view }
+judged digest count old new body (Err fault) sealed firm narrows read there is = refused digest count old new body fault sealed (record { narrows = narrows; view = read.view }) there is
 
 -- the same over any disk
 pub judged_known : (digest : List ℕ) (count : ℕ) (body : List ℕ) (result : Result LedgerState OpenFault) → IsJudged digest count body result → IsAnswerTo digest count result
@@ -90,19 +94,13 @@ judged_known digest count body (Err (BadLedger len)) bad = tt
 judged_known digest count body (Err DiskFault) none = tt
 judged_known digest count body (Err NoMemory) none = tt
 
--- a folder that was made ready
-pub made_attached : (digest : List ℕ) (count : ℕ) (old new : History) (result : Result LedgerState OpenFault) → (IsSealed (view_of old) → ⊥) → HasMade digest count old new result → HasAttached digest count old new result
-made_attached digest count old new (Ok ledger) unsealed ready = record {
-  fit = λ sealed. absurd (unsealed sealed);
-  acks = subst (IsLedgerOf digest count (view_of old)) (sym ready.is) (record {
-    digest_is = refl;
-    size = length-replicate count false;
-    is_open = refl;
-    gates = λ i. (λ set. absurd (none i set), λ acks. absurd (unsealed acks.sealed));
-  });
-  agrees = ready.agrees;
-  made = λ _. ready.body;
-  found = λ sealed. absurd (unsealed sealed);
+-- an unsealed folder acknowledges nothing
+pub none_acked : (digest : List ℕ) (count : ℕ) (files : Files) → (IsSealed files → ⊥) → IsLedgerOf digest count files (record { digest = digest; gates = replicate count false; closed = false })
+none_acked digest count files unsealed = record {
+  digest_is = refl;
+  size = length-replicate count false;
+  is_open = refl;
+  gates = λ i. (λ set. absurd (none i set), λ acks. absurd (unsealed acks.sealed));
 }
   where
     none : (i : ℕ) → get_or (replicate count false) i false ≡ true → ⊥
@@ -110,6 +108,16 @@ made_attached digest count old new (Ok ledger) unsealed ready = record {
       | inl within ↦ let shut = get_or-replicate count i false false within in cc
       | inr past ↦ let shut : get_or (replicate count false) i false ≡ false = get_or_past (replicate count false) i false (let e = length-replicate count false in omega arith) in cc
     ]
+
+-- a folder that was made ready
+pub made_attached : (digest : List ℕ) (count : ℕ) (old new : History) (result : Result LedgerState OpenFault) → (IsSealed (view_of old) → ⊥) → HasMade digest count old new result → HasAttached digest count old new result
+made_attached digest count old new (Ok ledger) unsealed ready = record {
+  fit = λ sealed. absurd (unsealed sealed);
+  acks = subst (IsLedgerOf digest count (view_of old)) (sym ready.is) (none_acked digest count (view_of old) unsealed);
+  agrees = ready.agrees;
+  made = λ _. ready.body;
+  found = λ sealed. absurd (unsealed sealed);
+}
 made_attached digest count old new (Err (OtherJob kept wanted)) unsealed made = absurd made
 made_attached digest count old new (Err (BadLedger len)) unsealed made = absurd made
 made_attached digest count old new (Err DiskFault) unsealed made = tt

@@ -4,5 +4,6 @@ pub mod Bodies
 pub mod Looking
 pub mod LawProofs
 pub mod Making
+pub mod Peeking
 pub mod RunLaws
 mod Rows

@@ -101,13 +101,13 @@ pub record IsReadFirmly (id : FileId) (old new : History) : Type 0 where
   pub firm : IsFirm (loose_of new) id
   pub others : (q : FileId) → IsFirm (loose_of old) q → IsFirm (loose_of new) q
 
--- a read of the body, after a sync of it
-abbrev pub HasReadBody : History → History → Result (Vec ℕ Global) OpenFault → Type 0
-HasReadBody old new (Ok body) = IsReadFirmly Body old new × (view_of old Body ≡ Some body.items)
-HasReadBody old new (Err (OtherJob kept wanted)) = ⊥
-HasReadBody old new (Err (BadLedger len)) = (view_of new ≡ view_of old) × (len ≡ size_of (view_of old Body)) × ((body : List ℕ) → view_of old Body ≡ Some body → 262208 < length body)
-HasReadBody old new (Err DiskFault) = Unit {0}
-HasReadBody old new (Err NoMemory) = view_of new ≡ view_of old
+-- what a read of the body finds
+abbrev pub HasBody : Option (List ℕ) → Result (Vec ℕ Global) OpenFault → Type 0
+HasBody content (Ok body) = content ≡ Some body.items
+HasBody content (Err (OtherJob kept wanted)) = ⊥
+HasBody content (Err (BadLedger len)) = (len ≡ size_of content) × ((body : List ℕ) → content ≡ Some body → 262208 < length body)
+HasBody content (Err DiskFault) = Unit {0}
+HasBody content (Err NoMemory) = Unit {0}
 
 -- A folder without a seal is made ready: at no moment is a frame acknowledged.
 pub record IsMaking (digest : List ℕ) (count : ℕ) (old new : History) : Type 0 where

@@ -9,6 +9,7 @@ mod attach;
 mod body;
 mod laws;
 mod ledger;
+mod peek;
 mod sealed;
 #[cfg(test)]
 mod tests;

@@ -1,9 +1,9 @@
 //! Reading the two files of a ledger.
 ghost use Rattle.std.specs.Prelude.{◌≡◌, ◌≢◌, ◌↔◌, ◌≤◌, true, length, IfOk, OnOk, IsErr, IsErrOf, Err};
 ghost use Rattle.cf_base.specs.Count.{HasCause};
-ghost use Rattle.reel_disk.specs.Disk.{view_of, loose_of, IsFirm};
+ghost use Rattle.reel_disk.specs.Disk.{view_of, loose_of, IsFirm, IsStill};
 ghost use Rattle.resume_ledger.specs.Ledger.{IsSealed};
-ghost use Rattle.resume_ledger.specs.Attach.{HasAttached, IsAnswerTo, IsLook, IsReadFirmly, HasReadBody, NeverOther};
+ghost use Rattle.resume_ledger.specs.Attach.{HasAttached, IsAnswerTo, IsLook, IsReadFirmly, HasBody, NeverOther};
 
 use crate::body::{MOST, SEAL, judge};
 use crate::{Ledger, OpenFault};
@@ -11,18 +11,14 @@ use cf_base::FileId;
 use reel_disk::{Did, Disk, DiskFault, Got, Length};
 use std::alloc::Global;
 
-/// Whether the folder is sealed, and a crash keeps that so.
-pub(crate) fn is_sealed<D: Disk>(disk: &mut D) -> Result<bool, DiskFault>
-    ensures look { D.tells ≡ true → IsLook (D.history disk.old) (D.history disk.new) }
-    ensures read { OnOk result (D.tells ≡ true → IsReadFirmly FileId.Seal (D.history disk.old) (D.history disk.new)) }
+/// Whether a read finds the folder sealed.
+pub(crate) fn has_seal<D: Disk>(disk: &mut D) -> Result<bool, DiskFault>
+    ensures still { D.tells ≡ true → IsStill (D.history disk.old) (D.history disk.new) }
     ensures sealed { IfOk result (λ sealed. D.tells ≡ true → (sealed ≡ true ↔ IsSealed (view_of (D.history disk.old)))) }
     ensures same { D.same disk.old disk.new }
     ensures cause { HasCause (D.faults disk.old) (D.faults disk.new) (IsErr result) }
     ensures steady { OnOk result (D.faults disk.new ≡ D.faults disk.old) }
 {
-    let Did::Done = disk.sync(FileId::Seal) else {
-        return Err(DiskFault);
-    };
     match disk.length(FileId::Seal) {
         Length::There(15) => {
             let mut seal = [0; 15];
@@ -37,19 +33,31 @@ pub(crate) fn is_sealed<D: Disk>(disk: &mut D) -> Result<bool, DiskFault>
     }
 }
 
-/// The body, where it is not too long for any job.
-fn read_body<D: Disk>(alloc: Global, disk: &mut D) -> Result<Vec<u8>, OpenFault>
+/// Whether the folder is sealed, and a crash keeps that so.
+pub(crate) fn is_sealed<D: Disk>(disk: &mut D) -> Result<bool, DiskFault>
     ensures look { D.tells ≡ true → IsLook (D.history disk.old) (D.history disk.new) }
-    ensures answer { D.tells ≡ true → HasReadBody (D.history disk.old) (D.history disk.new) result }
+    ensures read { OnOk result (D.tells ≡ true → IsReadFirmly FileId.Seal (D.history disk.old) (D.history disk.new)) }
+    ensures sealed { IfOk result (λ sealed. D.tells ≡ true → (sealed ≡ true ↔ IsSealed (view_of (D.history disk.old)))) }
+    ensures same { D.same disk.old disk.new }
+    ensures cause { HasCause (D.faults disk.old) (D.faults disk.new) (IsErr result) }
+    ensures steady { OnOk result (D.faults disk.new ≡ D.faults disk.old) }
+{
+    let Did::Done = disk.sync(FileId::Seal) else {
+        return Err(DiskFault);
+    };
+    has_seal(disk)
+}
+
+/// The body as a read finds it, where it is not too long for any job.
+pub(crate) fn load_body<D: Disk>(alloc: Global, disk: &mut D) -> Result<Vec<u8>, OpenFault>
+    ensures still { D.tells ≡ true → IsStill (D.history disk.old) (D.history disk.new) }
+    ensures body { D.tells ≡ true → HasBody (view_of (D.history disk.old) FileId.Body) result }
     ensures size { IfOk result (λ body. length body.items ≤ 262208) }
     ensures never_other { NeverOther result }
     ensures same { D.same disk.old disk.new }
     ensures cause { HasCause (D.faults disk.old) (D.faults disk.new) (IsErrOf result OpenFault.DiskFault) }
     ensures steady { result ≢ Err OpenFault.DiskFault → D.faults disk.new ≡ D.faults disk.old }
 {
-    let Did::Done = disk.sync(FileId::Body) else {
-        return Err(OpenFault::DiskFault);
-    };
     let len = match disk.length(FileId::Body) {
         Length::There(len) => len,
         Length::Absent => return Err(OpenFault::BadLedger { len: 0 }),
@@ -66,6 +74,23 @@ fn read_body<D: Disk>(alloc: Global, disk: &mut D) -> Result<Vec<u8>, OpenFault>
         Got::Failed => Err(OpenFault::DiskFault),
         _ => Err(OpenFault::BadLedger { len }),
     }
+}
+
+/// The body, where it is not too long for any job, and a crash keeps it so.
+fn read_body<D: Disk>(alloc: Global, disk: &mut D) -> Result<Vec<u8>, OpenFault>
+    ensures look { D.tells ≡ true → IsLook (D.history disk.old) (D.history disk.new) }
+    ensures read { result ≢ Err OpenFault.DiskFault → D.tells ≡ true → IsReadFirmly FileId.Body (D.history disk.old) (D.history disk.new) }
+    ensures body { D.tells ≡ true → HasBody (view_of (D.history disk.old) FileId.Body) result }
+    ensures size { IfOk result (λ body. length body.items ≤ 262208) }
+    ensures never_other { NeverOther result }
+    ensures same { D.same disk.old disk.new }
+    ensures cause { HasCause (D.faults disk.old) (D.faults disk.new) (IsErrOf result OpenFault.DiskFault) }
+    ensures steady { result ≢ Err OpenFault.DiskFault → D.faults disk.new ≡ D.faults disk.old }
+{
+    let Did::Done = disk.sync(FileId::Body) else {
+        return Err(OpenFault::DiskFault);
+    };
+    load_body(alloc, disk)
 }
 
 /// Reads the body of a sealed folder.

@@ -103,6 +103,72 @@ fn the_calls_on_the_disk_come_in_order(rt: HostRuntime) -> Result<(), Fail> {
     Ok(())
 }
 
+/// The calls of a peek at a fresh folder, and at a sealed one, of which neither changes a file.
+#[test]
+fn a_peek_asks_for_lengths_and_reads(rt: HostRuntime) -> Result<(), Fail> {
+    let alloc = rt.alloc();
+    let disk = MemoryDisk::new(alloc).ok().ok_or("no memory")?;
+    let mut noted = Noted {
+        disk,
+        calls: Vec::new(alloc),
+    };
+    assert_eq!(rt; Ledger::peek(alloc, &mut noted, JOB, 24), Ok(0));
+    assert_eq!(rt;
+        noted.calls.as_slice(),
+        [Call::Length(FileId::Seal)].as_slice()
+    );
+    assert_eq!(rt; noted.disk.length(FileId::Seal), Length::Absent);
+    assert_eq!(rt; noted.disk.length(FileId::Body), Length::Absent);
+    let _ledger = Ledger::attach(alloc, &mut noted, JOB, 24)?;
+    noted.calls.clear();
+    assert_eq!(rt; Ledger::peek(alloc, &mut noted, JOB, 24), Ok(0));
+    assert_eq!(rt;
+        noted.calls.as_slice(),
+        [
+            Call::Length(FileId::Seal),
+            Call::Read(FileId::Seal, 0, 15),
+            Call::Length(FileId::Body),
+            Call::Read(FileId::Body, 0, 88),
+        ]
+        .as_slice()
+    );
+    Ok(())
+}
+
+/// A peek after each acknowledgement of a whole ledger counts one frame more.
+#[test]
+fn a_peek_counts_acknowledged_frames(rt: HostRuntime) -> Result<(), Fail> {
+    let alloc = rt.alloc();
+    let mut disk = MemoryDisk::new(alloc).ok().ok_or("no memory")?;
+    for i in 0..24 {
+        let mut ledger = Ledger::attach(alloc, &mut disk, JOB, 24)?;
+        if ledger.is_acked(i) {
+            return Err("a frame is acknowledged before its time")?;
+        }
+        assert_eq!(rt; ledger.ack(&mut disk, i), Ok(()));
+        assert_eq!(rt; Ledger::peek(alloc, &mut disk, JOB, 24), Ok(i + 1));
+    }
+    Ok(())
+}
+
+/// Each of the four calls of a peek may fail: the length and the read of the seal, and those of the body. The attach
+/// before it makes six.
+#[test]
+fn a_peek_fails_where_a_call_does(rt: HostRuntime) -> Result<(), Fail> {
+    let alloc = rt.alloc();
+    for stop in 7..12 {
+        let mut disk = MemoryDisk::stopped_at(alloc, stop).ok().ok_or("no memory")?;
+        assert_eq!(rt; attached(alloc, &mut disk), Ok(0));
+        let want = if stop < 11 {
+            Err(OpenFault::DiskFault)
+        } else {
+            Ok(0)
+        };
+        assert_eq!(rt; Ledger::peek(alloc, &mut disk, JOB, 24), want);
+    }
+    Ok(())
+}
+
 /// A body with this head, `zero` being the last byte of it, and these gates.
 fn body(
     alloc: Global,
@@ -157,7 +223,8 @@ fn bad(len: u64) -> OpenFault {
     OpenFault::BadLedger { len }
 }
 
-/// An unsealed folder is made ready, whatever its body has; a sealed one is opened or refused, and stays as it was.
+/// An unsealed folder is made ready, whatever its body has; a sealed one is opened or refused, and stays as it was. A peek
+/// before that answers the same, and leaves each of them as it was.
 #[test]
 fn a_folder_is_opened_or_refused_by_its_seal_and_body(rt: HostRuntime) -> Result<(), Fail> {
     let alloc = rt.alloc();
@@ -196,6 +263,9 @@ fn a_folder_is_opened_or_refused_by_its_seal_and_body(rt: HostRuntime) -> Result
         let mut disk = MemoryDisk::new(alloc).ok().ok_or("no memory")?;
         assert!(rt; put(&mut disk, FileId::Seal, seal));
         assert!(rt; put(&mut disk, FileId::Body, text));
+        assert_eq!(rt; Ledger::peek(alloc, &mut disk, JOB, 24), want);
+        assert!(rt; has(&mut disk, FileId::Seal, seal));
+        assert!(rt; has(&mut disk, FileId::Body, text));
         assert_eq!(rt; attached(alloc, &mut disk), want);
         let seal_then = if want == Ok(0) { Some(SEAL) } else { seal };
         let text_then = if want == Ok(0) {
@@ -272,6 +342,7 @@ fn a_read_of_another_length_counts_for_nothing(rt: HostRuntime) -> Result<(), Fa
         assert!(rt; put(&mut disk, FileId::Seal, Some(SEAL)));
         assert!(rt; put(&mut disk, FileId::Body, Some(&own)));
         let mut short = Short { disk, file };
+        assert_eq!(rt; Ledger::peek(alloc, &mut short, JOB, 24), want);
         assert_eq!(rt; attached(alloc, &mut short), want);
     }
     Ok(())

@@ -23,7 +23,7 @@ use scan_source::Scans;
 use std::alloc::Global;
 
 /// What a run did to a reel.
-fn report_of<N: Work, D: Disk>(job: &Job, reel: &Reel<D, N>, loads: u64) -> Report
+pub(crate) fn report_of<N: Work, D: Disk>(job: &Job, reel: &Reel<D, N>, loads: u64) -> Report
     requires job { job.now ≡ N.job }
     ensures report { result
         ≡ record {
@@ -91,8 +91,9 @@ fn run_opened<N: Work, S: Scans, D: Disk>(
 }
 
 /// How a run ends whose folder isn't opened.
-fn end_of(fault: OpenFault) -> RunEnd
-    ensures { result ≡ refused_by fault }
+pub(crate) fn end_of_opening(fault: OpenFault) -> RunEnd
+    ensures end { result ≡ refused_by fault }
+    ensures refused { (result ≢ RunEnd.Done) × (result ≢ RunEnd.SourceFault) }
 {
     match fault {
         OpenFault::OtherJob { kept, wanted } => RunEnd::OtherJob { kept, wanted },
@@ -146,7 +147,7 @@ fn run_owned<N: Work, S: Scans, D: Disk>(
                 loads: 0,
                 misses: 0,
             };
-            (end_of(fault), report, disk)
+            (end_of_opening(fault), report, disk)
         }
     }
 }

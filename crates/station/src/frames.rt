@@ -22,7 +22,7 @@ use scan_source::Scans;
 use std::alloc::Global;
 
 /// Renders record frame `i` from the source frames that it needs. The loads are counted.
-fn make_frame<N: Work, S: Scans>(
+pub(crate) fn make_frame<N: Work, S: Scans>(
     alloc: Global,
     job: &Job,
     scan: &mut S,
@@ -42,6 +42,7 @@ fn make_frame<N: Work, S: Scans>(
     ensures never { result ≢ Err RunEnd.DiskFault }
     ensures later { loads.old ≤ loads.new }
     ensures most { loads.new ≤ loads.old + length (keys_of_need (need_at N.job i)) }
+    ensures two { loads.new ≤ loads.old + 2 }
     ensures asked { OnOk result (loads.new ≡ loads.old + length (keys_of_need (need_at N.job i))) }
     ensures loaded { IsErr result → loads.old < loads.new }
     ensures scan { IsScanned S.world S.faults S.loads (loads.new - loads.old) (result

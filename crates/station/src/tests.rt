@@ -113,7 +113,7 @@ fn job_by(
 }
 
 /// The desk's job, with this byte in its digest.
-fn desk_job(alloc: Global, digest: u8, scans: &mut MemoryScans) -> Option<Job> {
+pub(crate) fn desk_job(alloc: Global, digest: u8, scans: &mut MemoryScans) -> Option<Job> {
     let sea = Name::of(b"A001")?;
     let sky = Name::of(b"B002")?;
     let timeline = desk(alloc, sea, sky)?;
@@ -165,7 +165,7 @@ fn path(alloc: Global, prefix: &str, number: u32) -> Option<PathText> {
 
 /// All files of the desk's reels: 100 in the first, 200 in the second. The calls with these numbers
 /// fail.
-fn desk_scans(alloc: Global, fails: &[u64]) -> Option<MemoryScans> {
+pub(crate) fn desk_scans(alloc: Global, fails: &[u64]) -> Option<MemoryScans> {
     let mut files = Vec::new(alloc);
     for n in 0..48 {
         let a = path(alloc, "a001/a001.", 86400 + n)?;
@@ -177,7 +177,7 @@ fn desk_scans(alloc: Global, fails: &[u64]) -> Option<MemoryScans> {
 }
 
 /// A run of the job, whose name tells no files.
-fn run(
+pub(crate) fn run(
     alloc: Global,
     job: &Job,
     scans: &mut MemoryScans,
@@ -189,7 +189,7 @@ fn run(
 }
 
 /// A report of a run that loaded so often.
-fn report(kept: u32, rendered: u32, loads: u64) -> Report {
+pub(crate) fn report(kept: u32, rendered: u32, loads: u64) -> Report {
     Report {
         frames: 24,
         kept,
@@ -200,7 +200,7 @@ fn report(kept: u32, rendered: u32, loads: u64) -> Report {
 }
 
 /// The code of all channels of a frame.
-fn code_of(i: u32) -> u32 {
+pub(crate) fn code_of(i: u32) -> u32 {
     match i {
         0..=9 => 100,
         10 | 11 => 0,
@@ -213,7 +213,7 @@ fn code_of(i: u32) -> u32 {
 }
 
 /// Whether the frame's file has four pixels with this code in all channels.
-fn has_frame(disk: &mut MemoryDisk, frame: u32, code: u32) -> bool {
+pub(crate) fn has_frame(disk: &mut MemoryDisk, frame: u32, code: u32) -> bool {
     let code = code % 1024;
     let word = (code << 22 | code << 12 | code << 2).to_be_bytes();
     let mut pixels = [0; 17];

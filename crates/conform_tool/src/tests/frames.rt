@@ -1,9 +1,10 @@
 //! `frame`.
 use super::{said, scan_of};
-use crate::answer::{Ended, answer, conform};
-use crate::outcome::{Outcome, Refused, Which};
+use crate::answer::answer;
+use crate::conform::{Ended, conform};
 use cf_base::MemorySink;
 use dpx_header::DpxFault;
+use outcome_line::{Outcome, Refused, Which};
 use reel_disk::MemoryDisk;
 use std::alloc::{AllocError, Global};
 use std::test::Fail;
@@ -70,7 +71,7 @@ fn a_frame_is_put_under_a_new_header(rt: HostRuntime) -> Result<(), Fail> {
         outcome,
         scans: _,
         disk: _,
-    } = conform(alloc, &["frame", "two.dpx"], scans, disk, &mut out);
+    } = conform(&rt, alloc, &["frame", "two.dpx"], scans, disk, &mut out);
     assert_eq!(rt; outcome, Outcome::Done);
     assert_eq!(rt; outcome.status(), 0);
     assert_eq!(rt; out.bytes().len(), 2064);

@@ -1,6 +1,6 @@
 //! `list`, and words that are no command.
 use super::said;
-use crate::outcome::Outcome;
+use outcome_line::Outcome;
 use std::alloc::{AllocError, Global};
 use std::test::Fail;
 
@@ -113,15 +113,15 @@ fn words_of_no_command_put_the_usage_line(rt: HostRuntime) -> Result<(), Fail> {
     let alloc = rt.alloc();
     let rows: [&[&str]; 10] = [
         &[],
-        &["frame"],
+        &["--help"],
+        &["run"],
         &["frame", "a", "b"],
-        &["frame", ""],
         &["frame", "a\u{e9}"],
-        &["Frame", "a.edl"],
         &["list", "a.edl"],
         &["list", "a.edl", "48"],
-        &["list", "a.edl", "24", "25"],
-        &["status", "a.toml"],
+        &["demo", "0"],
+        &["demo", "1001"],
+        &["demo", "00004"],
     ];
     for words in rows {
         let (outcome, out) = said(alloc, words, b"a.edl", Vec::new(alloc))?;

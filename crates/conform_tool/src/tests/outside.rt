@@ -2,8 +2,8 @@
 use super::frames::two_by_two;
 use super::scan_of;
 use crate::answer::answer;
-use crate::outcome::Outcome;
 use cf_base::{PathText, StreamSink};
+use outcome_line::Outcome;
 use reel_disk::MemoryDisk;
 use scan_source::{Head, Loaded, MemoryScans, Scans};
 use std::io::{self, Write};

@@ -2,7 +2,7 @@
 use Rattle.std.proofs.Common.{◌≡◌, Err, refl, ◌∙◌}
 use Rattle.dpx_header.specs.Reading.{info_of}
 use Rattle.scan_source.specs.Answers.{first_bytes}
-use Rattle.conform_tool.specs.declared.command.Command.TheVariants as commands
+use Rattle.command_words.specs.declared.command.Command.TheVariants as commands
 use Rattle.conform_tool.proofs.Frames.{frame_done, frame_fault}
 use Rattle.conform_tool.proofs.Replies.{by_front, reply_of, fault_given, frame_missing, frame_memory, replied_load, error_of, outcome_of}
 use Rattle.conform_tool.proofs.frame.frame.Goals as goal

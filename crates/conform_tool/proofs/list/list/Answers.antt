@@ -1,7 +1,7 @@
 -- The front that was loaded stands for the file at the path.
 use Rattle.std.proofs.Common.{◌≡◌, Err, refl, ◌∙◌}
 use Rattle.edl_events.specs.Lists.{list_of}
-use Rattle.conform_tool.specs.declared.command.Command.TheVariants as commands
+use Rattle.command_words.specs.declared.command.Command.TheVariants as commands
 use Rattle.conform_tool.proofs.Lists.{list_done, list_refused}
 use Rattle.conform_tool.proofs.Replies.{by_front, reply_of, fault_given, list_missing, list_memory, replied_load, error_of, outcome_of}
 use Rattle.conform_tool.proofs.list.list.Goals as goal

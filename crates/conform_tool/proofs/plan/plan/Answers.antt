@@ -1,6 +1,6 @@
 -- The job that the project comes to has its plan.
 use Rattle.std.proofs.Common.{refl}
-use Rattle.conform_tool.specs.declared.command.Command.TheVariants as commands
+use Rattle.command_words.specs.declared.command.Command.TheVariants as commands
 use Rattle.conform_tool.proofs.Plans.{plan_done, plan_refused, plan_without, replied_job}
 use Rattle.conform_tool.proofs.Replies.{reply_of, error_of, outcome_of}
 use Rattle.conform_tool.proofs.plan.plan.Goals as goal

@@ -1,5 +1,5 @@
 use Rattle.resume_ledger.proofs.Bodies.{closed_is_own}
-use Rattle.resume_ledger.proofs.LawProofs.{agrees_spared, one_answer}
+use Rattle.resume_ledger.proofs.LawProofs.{agrees_spared, one_answer, one_number}
 use Rattle.resume_ledger.proofs.RunLaws.{acks_as, fit_as}
 use Rattle.resume_ledger.proofs.laws.ledger_laws.Goals as goal
 
@@ -14,3 +14,6 @@ returns-clause-one_answer c = one_answer
 
 pub returns-clause-closed_is_own : goal.returns-clause-closed_is_own
 returns-clause-closed_is_own c = closed_is_own
+
+pub returns-clause-one_number : goal.returns-clause-one_number
+returns-clause-one_number c = one_number

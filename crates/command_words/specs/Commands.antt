@@ -1,0 +1,61 @@
+-- The commands, and the words that spell them: this project's own rule.
+--     Gives line command      the line is a row of the table, which says this command
+--     Spells words command, IsNoCommand words      the words spell this command, or none
+--     HasCounts command      its numbers are in their ranges
+use Rattle.std.specs.Prelude.{◌≡◌, ◌≤◌, ℕ, false, List, Option, Some, None, codes, length}
+use Rattle.std.specs.Str.Parse.{IsNumeral, digits_value}
+use Rattle.clap.specs.Walk.{Text}
+use Rattle.cf_base.specs.Text.{path_text_of}
+use Rattle.cf_base.specs.declared.timing.Rate.{Rate}
+use Rattle.cf_base.specs.declared.timing.Rate.TheVariants.{R24, R25, R30}
+use Rattle.command_words.specs.Lines.{HasCount, LineText, MakesLine}
+use Rattle.command_words.specs.declared.command.Command.{Command}
+use Rattle.command_words.specs.declared.command.Command.TheVariants as commands
+
+abbrev pub rate_word : Rate → Text
+rate_word R24 = codes "24"
+rate_word R25 = codes "25"
+rate_word R30 = codes "30"
+
+abbrev pub IsPath : Text → List ℕ → Type 0
+IsPath text path = path_text_of text ≡ Some path
+
+abbrev pub IsDigit : ℕ → Type 0
+IsDigit byte = (48 ≤ byte) × (byte ≤ 57)
+
+abbrev pub HasDemoCount : ℕ → Type 0
+HasDemoCount count = (1 ≤ count) × (count ≤ 1000)
+
+-- one to four digits
+abbrev pub IsCount : Text → ℕ → Type 0
+IsCount text count = IsNumeral 10 text × (length text ≤ 4) × (count ≡ digits_value 10 text) × HasDemoCount count
+
+-- the line is this word, a subject, and this further word or none, with no option
+pub record IsRow (line : LineText) (word : Text) (further : Option Text) : Type 0 where
+  pub command : line.command ≡ word
+  pub extra : line.extra ≡ further
+  pub options : line.has_options ≡ false
+
+-- the line is `run` and a subject, with or without options
+pub record IsRun (line : LineText) : Type 0 where
+  pub command : line.command ≡ codes "run"
+  pub extra : line.extra ≡ None
+
+abbrev pub Gives : LineText → Command → Type 0
+Gives line (commands.Frame path) = IsRow line (codes "frame") None × IsPath line.subject path
+Gives line (commands.List file rate) = IsRow line (codes "list") (Some (rate_word rate)) × IsPath line.subject file
+Gives line (commands.Plan project) = IsRow line (codes "plan") None × IsPath line.subject project
+Gives line (commands.Run project workers share) = IsRun line × IsPath line.subject project × (workers ≡ line.workers) × (share ≡ line.share)
+Gives line (commands.Status project) = IsRow line (codes "status") None × IsPath line.subject project
+Gives line (commands.Demo count) = IsRow line (codes "demo") None × IsCount line.subject count
+
+abbrev pub Spells : List Text → Command → Type 0
+Spells words command = (line : LineText) × MakesLine words line × Gives line command
+
+abbrev pub IsNoCommand : List Text → Type 0
+IsNoCommand words = (command : Command) → Spells words command → ⊥
+
+abbrev pub HasCounts : Command → Type 0
+HasCounts (commands.Run project workers share) = HasCount workers × HasCount share
+HasCounts (commands.Demo count) = HasDemoCount count
+HasCounts command = Unit {0}

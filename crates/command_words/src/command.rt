@@ -1,0 +1,184 @@
+//! The commands, and which of them a line gives.
+ghost use Rattle.std.specs.Prelude.{◌≡◌, ◌↔◌, ℕ, List, IfOk, IfSome, IsTrue, MatchOption, None, codes, map};
+ghost use Rattle.std.specs.Str.Parse.{AllDigits};
+ghost use Rattle.command_words.specs.Commands.{Gives, HasCounts, IsCount, IsDigit, IsNoCommand, IsPath, IsRow, Spells, rate_word};
+ghost use Rattle.command_words.specs.Lines.{text_of_line};
+
+use crate::line::{Line, line_of};
+use cf_base::{Fail, Never, PathText, Rate};
+use std::alloc::Global;
+
+/// What the words ask for.
+#[derive(Clone, Copy, Debug, PartialEq, Eq)]
+pub enum Command {
+    /// `frame PATH`: the frame of one DPX file under the station's own header.
+    Frame(PathText),
+    /// `list FILE RATE`: the event table of an edit list; RATE is `24`, `25` or `30`.
+    List(PathText, Rate),
+    /// `plan PROJECT`: what each record frame of a project's job shows.
+    Plan(PathText),
+    /// `run PROJECT`: renders a project's job into the reel folder. The options `--workers N` and `--share N`, each 1 to
+    /// 16, are 4 and 8 where they aren't given.
+    Run {
+        project: PathText,
+        workers: u16,
+        share: u16,
+    },
+    /// `status PROJECT`: how much of a project's reel is rendered.
+    Status(PathText),
+    /// `demo N`: renders a job of N events that is made in memory; N is 1 to 1000, in one to four digits.
+    Demo(u32),
+}
+
+/// The command that the words spell, None exactly where they spell none. `Fail::NoMemory` is the only error.
+pub fn command_of(alloc: Global, words: &[&str]) -> Result<Option<Command>, Fail<Never>>
+    ensures command { IfOk result (λ found. MatchOption found
+        (IsNoCommand (map (λ w. w.now) words.now))
+        (λ command. Spells (map (λ w. w.now) words.now) command)) }
+    ensures counts { IfOk result (λ found. IfSome found HasCounts) }
+{
+    let Ok(found) = line_of(alloc, words) else {
+        return Err(Fail::NoMemory);
+    };
+    let Some(line) = found else {
+        return Ok(None);
+    };
+    Ok(command_on(&line))
+}
+
+/// The command that a line gives, None exactly where it gives none.
+fn command_on(line: &Line<'_>) -> Option<Command>
+    ensures { MatchOption result ((command : Command) → Gives (text_of_line line.now) command → ⊥)
+        (λ command. Gives (text_of_line line.now) command) }
+{
+    if let Some(path) = path_after(line, "frame") {
+        return Some(Command::Frame(path));
+    }
+    if let Some(list) = list_on(line) {
+        return Some(list);
+    }
+    if let Some(project) = path_after(line, "plan") {
+        return Some(Command::Plan(project));
+    }
+    if let Some(run) = run_on(line) {
+        return Some(run);
+    }
+    if let Some(project) = path_after(line, "status") {
+        return Some(Command::Status(project));
+    }
+    let Some(count) = count_after(line, "demo") else {
+        return None;
+    };
+    Some(Command::Demo(count))
+}
+
+/// The path of a line that is a command's word and a path.
+fn path_after(line: &Line<'_>, word: &str) -> Option<PathText>
+    ensures { MatchOption result
+        ((path : List ℕ) → IsRow (text_of_line line.now) word.now None → IsPath (text_of_line line.now).subject path → ⊥)
+        (λ path. IsRow (text_of_line line.now) word.now None × IsPath (text_of_line line.now).subject path) }
+{
+    if !is_alone(line, word) {
+        return None;
+    }
+    path_of(line.subject)
+}
+
+/// The count of a line that is a command's word and a count.
+fn count_after(line: &Line<'_>, word: &str) -> Option<u32>
+    ensures { MatchOption result
+        ((count : ℕ) → IsRow (text_of_line line.now) word.now None → IsCount (text_of_line line.now).subject count → ⊥)
+        (λ count. IsRow (text_of_line line.now) word.now None × IsCount (text_of_line line.now).subject count) }
+{
+    if !is_alone(line, word) {
+        return None;
+    }
+    count_of(line.subject)
+}
+
+/// The row `list FILE RATE`.
+fn list_on(line: &Line<'_>) -> Option<Command>
+    ensures { MatchOption result
+        ((file : List ℕ) (rate : Rate) → Gives (text_of_line line.now) (Command.List file rate) → ⊥)
+        (λ command. Gives (text_of_line line.now) command) }
+{
+    if line.command != "list" || line.has_options {
+        return None;
+    }
+    let extra = line.extra?;
+    let rate = rate_of(extra)?;
+    let file = path_of(line.subject)?;
+    Some(Command::List(file, rate))
+}
+
+/// The row `run PROJECT`, with its options.
+fn run_on(line: &Line<'_>) -> Option<Command>
+    ensures { MatchOption result
+        ((project : List ℕ) (workers share : ℕ) → Gives (text_of_line line.now) (Command.Run project workers share) → ⊥)
+        (λ command. Gives (text_of_line line.now) command) }
+{
+    if line.command != "run" || line.extra.is_some() {
+        return None;
+    }
+    let project = path_of(line.subject)?;
+    Some(Command::Run {
+        project,
+        workers: line.workers,
+        share: line.share,
+    })
+}
+
+/// Whether the line is the word and its subject, and nothing else.
+fn is_alone(line: &Line<'_>, word: &str) -> bool
+    ensures { IsTrue result ↔ IsRow (text_of_line line.now) word.now None }
+{
+    line.command == word && line.extra.is_none() && !line.has_options
+}
+
+fn path_of(text: &str) -> Option<PathText>
+    ensures { MatchOption result ((path : List ℕ) → IsPath text.now path → ⊥)
+        (λ path. IsPath text.now path) }
+{
+    PathText::of(text.as_bytes())
+}
+
+fn rate_of(text: &str) -> Option<Rate>
+    ensures { MatchOption result ((rate : Rate) → text.now ≡ rate_word rate → ⊥)
+        (λ rate. text.now ≡ rate_word rate) }
+{
+    match text {
+        "24" => Some(Rate::R24),
+        "25" => Some(Rate::R25),
+        "30" => Some(Rate::R30),
+        _ => None,
+    }
+}
+
+/// The number of one to four digits, where it is 1 to 1000.
+fn count_of(text: &str) -> Option<u32>
+    ensures { MatchOption result ((count : ℕ) → IsCount text.now count → ⊥)
+        (λ count. IsCount text.now count) }
+{
+    if text.len() > 4 || !is_digits(text) {
+        return None;
+    }
+    let Ok(count) = text.parse::<u32>() else {
+        return None;
+    };
+    if count < 1 || 1000 < count {
+        return None;
+    }
+    Some(count)
+}
+
+fn is_digits(text: &str) -> bool
+    ensures { IsTrue result ↔ AllDigits 10 text.now }
+{
+    text.as_bytes().iter().all(|byte| is_digit(*byte))
+}
+
+fn is_digit(byte: u8) -> bool
+    ensures { IsTrue result ↔ IsDigit byte }
+{
+    (b'0'..=b'9').contains(&byte)
+}

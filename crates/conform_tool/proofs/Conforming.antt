@@ -1,0 +1,146 @@
+-- From a crew, and from a reply on one thread, to the answer of the top call.
+use Rattle.std.proofs.Common.{◌≡◌, ◌≢◌, ℕ, ◌≤◌, List, Vec, Option, Some, None, Result, Ok, Err, MatchOption, MatchResult, refl, sym, ◌∙◌, ap, subst, arith, inl, inr}
+use Rattle.std.specs.Prelude.{◌⊎◌}
+use Rattle.std.specs.declared.alloc.Global.{Global}
+use Rattle.std.proofs.lemmas.Option.{same_Some}
+use Rattle.cf_base.specs.Count.{HasRisen}
+use Rattle.scan_source.specs.World.{World}
+use Rattle.command_words.specs.Commands.{Spells, IsNoCommand}
+use Rattle.command_words.specs.declared.command.Command.{Command}
+use Rattle.command_words.specs.declared.command.Command.TheVariants as commands
+use Rattle.command_words.proofs.Commands.{one_spelled}
+use Rattle.outcome_line.specs.Output.{line_of, IsMade}
+use Rattle.outcome_line.specs.declared.outcome.Outcome.{Outcome}
+use Rattle.outcome_line.specs.declared.outcome.Outcome.TheVariants as outcomes
+use Rattle.project_run.specs.Crew.{HasFailed, IsCrewReply, told_by}
+use Rattle.project_run.specs.Run.{DiskState, IsOfRun}
+use Rattle.conform_tool.specs.Answer.{SinkState, IsFoundIn, IsPut, IsLinePut}
+use Rattle.conform_tool.proofs.Replies.{told_any}
+use Rattle.conform_tool.specs.Conform.{CrewAnswered, IsAlone, IsCrewed}
+
+module _ {S : Type 0} (world : S → Option World) (faults loads : S → ℕ) (same : S → S → Type 0) (path : List ℕ) (workers : ℕ) (scans scans_after : List S) (disk disk_after : DiskState) where
+  -- a line for which no memory is left: the outcome is another, and all else is as it was
+  crew_memory : (outcome : Outcome) (output : List ℕ) → IsMade outcome → IsCrewReply world faults loads same path workers scans scans_after disk disk_after outcome output
+      → IsCrewReply world faults loads same path workers scans scans_after disk disk_after outcomes.NoMemory (line_of outcomes.NoMemory)
+  crew_memory outcome output made (inl crewed) = inl (record {
+    job = crewed.job;
+    comes = crewed.comes;
+    planned = crewed.planned;
+    texts = crewed.texts;
+    ran = let ran = crewed.ran in record {
+      how = ran.how;
+      report = ran.report;
+      reply = record { reached_is = inr refl; form = λ same. absurd (cc) };
+      frames = ran.frames;
+      steps = ran.steps;
+      ran = ran.ran;
+      run = ran.run;
+      acked = ran.acked;
+      whole = ran.whole;
+      spares = ran.spares;
+      scans = ran.scans;
+      changed = ran.changed;
+    };
+  })
+  crew_memory outcome output made (inr uncrewed) = inr (record {
+    why = told_any (told_by world scans) (λ files. tt);
+    kind = tt;
+    untouched = uncrewed.untouched;
+    size = uncrewed.size;
+    texts = uncrewed.texts;
+    steady = λ other. uncrewed.steady (λ is. subst IsMade is made);
+    others = uncrewed.others;
+  })
+
+  crewed_memory : (outcome : Outcome) (output : List ℕ) → IsMade outcome → IsCrewed world faults loads same path workers scans scans_after disk disk_after outcome output
+      → IsCrewed world faults loads same path workers scans scans_after disk disk_after outcomes.NoMemory (line_of outcomes.NoMemory)
+  crewed_memory outcome output made crewed = record {
+    reply = crew_memory outcome output made crewed.reply;
+    line = λ _. refl;
+    kind = inr tt;
+    source_fault = λ is. absurd (cc);
+    disk_fault = λ is. absurd (cc);
+    disk_later = crewed.disk_later;
+  }
+
+  pub crew_answered : (r : Result (Vec ℕ Global) Outcome) (sink sink_after : SinkState) (result : Outcome)
+      → MatchResult r (λ output. IsPut sink sink_after outcomes.Done output.items result) (λ outcome. IsLinePut sink sink_after outcome result)
+      → MatchResult r (λ text. IsCrewReply world faults loads same path workers scans scans_after disk disk_after outcomes.Done text.items) (λ outcome. IsCrewReply world faults loads same path workers scans scans_after disk disk_after outcome (line_of outcome))
+      → MatchResult r (λ text. Unit {0}) IsOfRun
+      → (r ≡ Err outcomes.SourceFault → HasFailed world faults loads same scans scans_after)
+      → (r ≡ Err outcomes.DiskFault → HasRisen disk.faults disk_after.faults)
+      → disk.faults ≤ disk_after.faults
+      → CrewAnswered world faults loads same path workers scans scans_after disk disk_after sink sink_after result
+  crew_answered (Ok text) sink sink_after result put reply kind source failed later = record {
+    reached = outcomes.Done;
+    output = text.items;
+    put = put;
+    crewed = inl (record {
+      reply = reply;
+      line = λ other. absurd (other refl);
+      kind = inl refl;
+      source_fault = λ is. absurd (cc);
+      disk_fault = λ is. absurd (cc);
+      disk_later = later;
+    });
+  }
+  crew_answered (Err outcome) sink sink_after result (inl put) reply kind source failed later = record {
+    reached = outcome;
+    output = line_of outcome;
+    put = put;
+    crewed = inl (record {
+      reply = reply;
+      line = λ _. refl;
+      kind = inr kind;
+      source_fault = λ is. source (ap Err is);
+      disk_fault = λ is. failed (ap Err is);
+      disk_later = later;
+    });
+  }
+  crew_answered (Err outcome) sink sink_after result (inr put) reply kind source failed later = record {
+    reached = outcomes.NoMemory;
+    output = line_of outcomes.NoMemory;
+    put = put.1;
+    crewed = inl (crewed_memory outcome (line_of outcome) put.0 (record {
+      reply = reply;
+      line = λ _. refl;
+      kind = inr kind;
+      source_fault = λ is. source (ap Err is);
+      disk_fault = λ is. failed (ap Err is);
+      disk_later = later;
+    }));
+  }
+
+  pub crew_unread : (sink sink_after : SinkState) (result : Outcome) → scans_after ≡ scans → disk_after ≡ disk → IsLinePut sink sink_after outcomes.NoMemory result
+      → CrewAnswered world faults loads same path workers scans scans_after disk disk_after sink sink_after result
+  crew_unread sink sink_after result untouched_scans untouched_disk (inl put) = record {
+    reached = outcomes.NoMemory;
+    output = line_of outcomes.NoMemory;
+    put = put;
+    crewed = inr (record { reached_is = refl; line = refl; untouched_scans = untouched_scans; untouched_disk = untouched_disk });
+  }
+  crew_unread sink sink_after result untouched_scans untouched_disk (inr put) = absurd put.0
+
+-- words spell what was found of them, and nothing else
+spelled_found : (words : List (List ℕ)) (found : Option Command) (command : Command) → IsFoundIn words found → Spells words command → found ≡ Some command
+spelled_found words None command says spells = absurd (says command spells)
+spelled_found words (Some other) command says spells = ap Some (one_spelled words other command says spells)
+
+-- a crew's run is the one that the words spell
+pub run_found : (words : List (List ℕ)) (found : Option Command) (p path : List ℕ) (w s workers share : ℕ) → IsFoundIn words found → found ≡ Some (commands.Run p w s) → Spells words (commands.Run path workers share) → (p ≡ path) × (w ≡ workers)
+run_found words found p path w s workers share says is spells =
+    let one = same_Some _ _ (sym is ∙ spelled_found words found (commands.Run path workers share) says spells) in (cc, cc)
+
+pub found_run : (words : List (List ℕ)) (found : Option Command) (p : List ℕ) (w s : ℕ) → IsFoundIn words found → found ≡ Some (commands.Run p w s) → Spells words (commands.Run p w s)
+found_run words found p w s says is = subst (IsFoundIn words) is says
+
+-- where no run with several workers was found, the words spell none
+pub alone_found : (words : List (List ℕ)) (found : Option Command) → IsFoundIn words found → ((path : List ℕ) (workers share : ℕ) → found ≡ Some (commands.Run path workers share) → workers ≤ 1) → IsAlone words
+alone_found words found says none path workers share spells = none path workers share (spelled_found words found (commands.Run path workers share) says spells)
+
+-- the same answer, by the words
+pub crew_as : {S : Type 0} (world : S → Option World) (faults loads : S → ℕ) (same : S → S → Type 0) (p path : List ℕ) (w workers : ℕ) (scans scans_after : List S) (disk disk_after : DiskState) (sink sink_after : SinkState) (result : Outcome)
+    → (p ≡ path) × (w ≡ workers) → CrewAnswered world faults loads same p w scans scans_after disk disk_after sink sink_after result → CrewAnswered world faults loads same path workers scans scans_after disk disk_after sink sink_after result
+crew_as world faults loads same p path w workers scans scans_after disk disk_after sink sink_after result is answered =
+    subst (λ q. CrewAnswered world faults loads same q workers scans scans_after disk disk_after sink sink_after result) is.0
+    (subst (λ n. CrewAnswered world faults loads same p n scans scans_after disk disk_after sink sink_after result) is.1 answered)

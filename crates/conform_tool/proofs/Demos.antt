@@ -1,0 +1,62 @@
+-- From the demonstration to the reply of its command, which leaves the scan and the disk as they are.
+use Rattle.std.proofs.Common.{◌≡◌, ◌≢◌, ℕ, ◌≤◌, List, Vec, Global, MatchResult, refl, sym, subst, arith}
+use Rattle.std.specs.Prelude.{Result, Ok, Err}
+use Rattle.scan_source.specs.World.{file_at}
+use Rattle.demo_run.specs.Demo.{demo_world, IsShown, IsInstead}
+use Rattle.outcome_line.specs.Output.{line_of}
+use Rattle.project_run.specs.Run.{DiskState}
+use Rattle.command_words.specs.declared.command.Command.{Command}
+use Rattle.command_words.specs.declared.command.Command.TheVariants as commands
+use Rattle.outcome_line.specs.declared.outcome.Outcome.{Outcome}
+use Rattle.outcome_line.specs.declared.outcome.Outcome.TheVariants as outcomes
+use Rattle.conform_tool.specs.Reply.{ScanState, IsDemoReply, IsReply, IsWholeReply}
+use Rattle.conform_tool.proofs.Replies.{IsReplied, reply_of}
+
+-- with no call on either, nothing failed
+untouched : (count : ℕ) (scan : ScanState) (disk : DiskState) (reached : Outcome) (output : List ℕ)
+    → IsReply (commands.Demo count) scan scan reached output → (reached ≢ outcomes.DiskFault) → IsWholeReply (commands.Demo count) scan scan disk disk reached output
+untouched count scan disk reached output reply works = record {
+  reply = reply;
+  folder = refl;
+  disk_fault = λ same. absurd (works same);
+  disk_steady = λ _. refl;
+  disk_later = omega arith;
+}
+
+shown : (count : ℕ) (scan : ScanState) (output : List ℕ) → IsShown (file_at (demo_world count)) output → IsReply (commands.Demo count) scan scan outcomes.Done output
+shown count scan output is =
+    reply_of (commands.Demo count) scan scan outcomes.Done output tt is (λ not_done. absurd (not_done refl)) (λ same. absurd (cc)) (λ _. refl) (omega arith) refl refl refl
+
+-- the outcomes in its place are those of a command that makes no call on the disk, and not the scan's
+instead_replied : (count : ℕ) (outcome : Outcome) (output : List ℕ) → IsInstead (file_at (demo_world count)) outcome
+    → IsReplied (commands.Demo count) outcome × IsDemoReply count outcome output × (outcome ≢ outcomes.SourceFault) × (outcome ≢ outcomes.DiskFault)
+instead_replied count outcomes.Done output is = absurd is
+instead_replied count outcomes.Usage output is = absurd is
+instead_replied count (outcomes.Refused refusal) output is = (tt, is, λ same. cc, λ same. cc)
+instead_replied count (outcomes.OtherJob kept wanted) output is = absurd is
+instead_replied count (outcomes.BadLedger len) output is = absurd is
+instead_replied count (outcomes.Changed reel key was now) output is = absurd is
+instead_replied count outcomes.SourceFault output is = absurd is
+instead_replied count outcomes.DiskFault output is = absurd is
+instead_replied count (outcomes.SinkFault instead) output is = absurd is
+instead_replied count outcomes.NoMemory output is = (tt, is, λ same. cc, λ same. cc)
+
+instead : (count : ℕ) (scan : ScanState) (disk : DiskState) (outcome : Outcome) → IsInstead (file_at (demo_world count)) outcome
+    → IsWholeReply (commands.Demo count) scan scan disk disk outcome (line_of outcome)
+instead count scan disk outcome is =
+    let replied = instead_replied count outcome (line_of outcome) is in
+    untouched count scan disk outcome (line_of outcome)
+    (reply_of (commands.Demo count) scan scan outcome (line_of outcome) replied.0 replied.1 (λ _. refl) (λ same. absurd (replied.2 same)) (λ _. refl) (omega arith) refl refl refl)
+    replied.3
+
+by_result : (count : ℕ) (scan : ScanState) (disk : DiskState) (result : Result (Vec ℕ Global) Outcome)
+    → MatchResult result (λ text. IsShown (file_at (demo_world count)) text.items) (IsInstead (file_at (demo_world count)))
+    → MatchResult result (λ text. IsWholeReply (commands.Demo count) scan scan disk disk outcomes.Done text.items) (λ outcome. IsWholeReply (commands.Demo count) scan scan disk disk outcome (line_of outcome))
+by_result count scan disk (Ok text) is = untouched count scan disk outcomes.Done text.items (shown count scan text.items is) (λ same. cc)
+by_result count scan disk (Err outcome) is = instead count scan disk outcome is
+
+pub demo_replied : (command : Command) (count : ℕ) (scan : ScanState) (disk : DiskState) (result : Result (Vec ℕ Global) Outcome) → command ≡ commands.Demo count
+    → MatchResult result (λ text. IsShown (file_at (demo_world count)) text.items) (IsInstead (file_at (demo_world count)))
+    → MatchResult result (λ text. IsWholeReply command scan scan disk disk outcomes.Done text.items) (λ outcome. IsWholeReply command scan scan disk disk outcome (line_of outcome))
+demo_replied command count scan disk result same is =
+    subst (λ c. MatchResult result (λ text. IsWholeReply c scan scan disk disk outcomes.Done text.items) (λ outcome. IsWholeReply c scan scan disk disk outcome (line_of outcome))) (sym same) (by_result count scan disk result is)

@@ -1,5 +1,0 @@
-use Rattle.conform_tool.proofs.run.run_job.Given as goal
-
--- the name is that of the job and of the files that the scan tells
-abbrev pub ghosts-run_alone : goal.ghosts-run_alone
-ghosts-run_alone g a = record { job = a.job.now; files = g.S.Scans.world a.scan.now }

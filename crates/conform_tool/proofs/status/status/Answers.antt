@@ -1,0 +1,16 @@
+-- The look at the folder is the command's reply.
+use Rattle.std.proofs.Common.{refl}
+use Rattle.command_words.specs.declared.command.Command.TheVariants as commands
+use Rattle.conform_tool.proofs.Replies.{reply_of, replied_run, error_of, outcome_of}
+use Rattle.conform_tool.proofs.status.status.Goals as goal
+
+pub returns-in-Ok-clause-reply : goal.returns-in-Ok-clause-reply
+returns-in-Ok-clause-reply g c =
+    let looked = c.in-Ok.ensures in
+    reply_of _ _ _ _ _ tt tt (λ not_done. absurd (not_done refl)) (λ same. absurd (cc)) (λ _. looked.steady (λ same. cc)) looked.later tt tt looked.world
+
+pub returns-in-Err-clause-reply : goal.returns-in-Err-clause-reply
+returns-in-Err-clause-reply g c =
+    let looked = c.in-Err.ensures in
+    reply_of _ _ _ _ _ (replied_run (commands.Status c.args.path.now) _ tt looked.kind) tt (λ _. refl)
+    (λ same. looked.failed (error_of _ _ same)) (λ other. looked.steady (λ same. other (outcome_of _ _ same))) looked.later tt tt looked.world

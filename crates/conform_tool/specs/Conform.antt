@@ -1,0 +1,40 @@
+-- What the top call answers to the words of a run with several workers.
+--     IsAlone words      the words are no such run
+--     CrewAnswered      the answer to them, over all scans
+use Rattle.std.specs.Prelude.{◌≡◌, ◌≢◌, ◌⊎◌, ℕ, ◌≤◌, List, Option}
+use Rattle.cf_base.specs.Count.{HasRisen}
+use Rattle.scan_source.specs.World.{World}
+use Rattle.command_words.specs.Commands.{Spells}
+use Rattle.command_words.specs.declared.command.Command.TheVariants as commands
+use Rattle.outcome_line.specs.Output.{line_of}
+use Rattle.outcome_line.specs.declared.outcome.Outcome.{Outcome}
+use Rattle.outcome_line.specs.declared.outcome.Outcome.TheVariants.{Done, SourceFault, DiskFault, NoMemory}
+use Rattle.project_run.specs.Crew.{HasFailed, IsCrewReply}
+use Rattle.project_run.specs.Run.{DiskState, IsOfRun}
+use Rattle.conform_tool.specs.Answer.{SinkState, IsPut}
+
+abbrev pub IsAlone : List (List ℕ) → Type 0
+IsAlone words = (path : List ℕ) (workers share : ℕ) → Spells words (commands.Run path workers share) → workers ≤ 1
+
+module _ {S : Type 0} (world : S → Option World) (faults loads : S → ℕ) (same : S → S → Type 0) where
+  -- The run came to this outcome with this output, and each fault has its cause.
+  pub record IsCrewed (path : List ℕ) (workers : ℕ) (scans scans_after : List S) (disk disk_after : DiskState) (reached : Outcome) (output : List ℕ) : Type 0 where
+    pub reply : IsCrewReply world faults loads same path workers scans scans_after disk disk_after reached output
+    pub line : reached ≢ Done → output ≡ line_of reached
+    pub kind : (reached ≡ Done) ⊎ IsOfRun reached
+    pub source_fault : reached ≡ SourceFault → HasFailed world faults loads same scans scans_after
+    pub disk_fault : reached ≡ DiskFault → HasRisen disk.faults disk_after.faults
+    pub disk_later : disk.faults ≤ disk_after.faults
+
+  -- No memory was left to read the words, and nothing was read.
+  pub record WereUnread (scans scans_after : List S) (disk disk_after : DiskState) (reached : Outcome) (output : List ℕ) : Type 0 where
+    pub reached_is : reached ≡ NoMemory
+    pub line : output ≡ line_of NoMemory
+    pub untouched_scans : scans_after ≡ scans
+    pub untouched_disk : disk_after ≡ disk
+
+  pub record CrewAnswered (path : List ℕ) (workers : ℕ) (scans scans_after : List S) (disk disk_after : DiskState) (sink sink_after : SinkState) (result : Outcome) : Type 0 where
+    pub reached : Outcome
+    pub output : List ℕ
+    pub put : IsPut sink sink_after reached output result
+    pub crewed : IsCrewed path workers scans scans_after disk disk_after reached output ⊎ WereUnread scans scans_after disk disk_after reached output

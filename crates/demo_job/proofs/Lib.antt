@@ -1,0 +1,4 @@
+pub mod Joins
+pub mod Loops
+pub mod Printed
+mod Rows

@@ -1,0 +1,101 @@
+-- A run that was begun on an empty disk.
+use Rattle.std.proofs.Common.{◌≡◌, ℕ, zero, suc, ◌+◌, Bool, true, false, not, List, [], ◌∷◌, length, get_or, filter, count_by, refl, ap, subst, ◌∙◌, inl, inr, arith}
+use Rattle.std.specs.Prelude.{◌⊎◌, Option, Some, None, IsSome, IfSome, is_some}
+use Rattle.std.specs.List.{range_with_len}
+use Rattle.cf_base.specs.declared.file.FileId.{FileId}
+use Rattle.cf_base.specs.declared.file.FileId.TheVariants.{Seal}
+use Rattle.scan_source.specs.World.{World}
+use Rattle.conform_job.specs.Job.{JobData}
+use Rattle.reel_disk.specs.declared.disk.Place.{Place}
+use Rattle.reel_disk.specs.declared.disk.Place.TheVariants.{Whole}
+use Rattle.reel_disk.specs.Disk.{Files, History, IsLoose, IsImage, AgreesOutside, IsNewDisk, moment_of, view_of, loose_of}
+use Rattle.reel_disk.specs.Runs.{Surely}
+use Rattle.resume_ledger.specs.Ledger.{IsSealed}
+use Rattle.reel_writer.specs.Reel.{frames_of, IsSoundReel}
+use Rattle.station.specs.Asks.{closed_frames}
+use Rattle.station.specs.Ends.{IsEnd}
+use Rattle.station.specs.Run.{WasOpened, WasRefused, HasRefused, HasWhole, IsWhole}
+use Rattle.station.specs.declared.run_end.Report.{Report}
+use Rattle.station.specs.declared.run_end.RunEnd.{RunEnd}
+use Rattle.station.specs.declared.run_end.RunEnd.TheVariants.{Done, OtherJob, BadLedger, Changed, SourceFault, DiskFault, NoMemory}
+
+-- no gate is open
+none_open : (gates : List Bool) → ((k : ℕ) → get_or gates k false ≡ true → ⊥) → count_by (λ gate. gate) gates ≡ 0
+none_open [] shut = refl
+none_open (true ∷ gates) shut = absurd (shut 0 refl)
+none_open (false ∷ gates) shut = none_open gates (λ k. shut (suc k))
+
+-- then every frame is closed
+is_shut : (gates : List Bool) → ((k : ℕ) → get_or gates k false ≡ true → ⊥) → (k : ℕ) → get_or gates k false ≡ false
+is_shut gates shut k = by (get_or gates k false) refl
+  where
+    by : (b : Bool) → get_or gates k false ≡ b → get_or gates k false ≡ false
+    by true is = absurd (shut k is)
+    by false is = is
+
+all_closed : (gates : List Bool) → ((k : ℕ) → get_or gates k false ≡ false) → (from count : ℕ) → length (filter (λ i. not (get_or gates i false)) (range_with_len from count)) ≡ count
+all_closed gates shut from zero = refl
+all_closed gates shut from (suc count) = rw (shut from) (ap suc (all_closed gates shut (from + 1) count))
+
+closed_count : (gates : List Bool) → ((k : ℕ) → get_or gates k false ≡ true → ⊥) → (count : ℕ) → length (closed_frames gates count) ≡ count
+unfolding closed_frames
+closed_count gates shut count = all_closed gates (is_shut gates shut) 0 count
+
+module _ (old : History) (faults : ℕ) (fresh : IsNewDisk (λ id. None) old faults) where
+  -- a file is sealed in no image
+  image_empty : (files : Files) → IsImage (moment_of old) files → (id : FileId) → files id ≡ None
+  image_empty files image id = subst (λ (content : Option (List ℕ)). AgreesOutside (loose_of old) id content (files id)) (fresh.view id)
+      (image id (λ loose. subst (λ (places : List Place). IsLoose places (Whole id)) fresh.firm loose))
+
+  unsealed : IsSealed (view_of old) → ⊥
+  unsealed sealed = let none : view_of old Seal ≡ None = fresh.view Seal in cc
+
+  sound : (job : JobData) (world : World) → Surely (moment_of old) (IsSoundReel job world)
+  sound job world files image = record { sound = λ i acks. absurd (open_seal acks.sealed); fit = λ sealed. absurd (open_seal sealed) }
+    where
+      open_seal : IsSealed files → ⊥
+      open_seal sealed = let none : files Seal ≡ None = image_empty files image Seal in cc
+
+  module _ (job : JobData) (told : Option World) (new : History) where
+    -- at Done the folder has the whole reel
+    pub whole_at_done : HasWhole job told old new → IfSome told (λ world. IsWhole job world (moment_of new))
+    whole_at_done whole = by told whole.shown
+      where
+        by : (files : Option World) → IfSome files (λ world. Surely (moment_of old) (IsSoundReel job world) → IsWhole job world (moment_of new)) → IfSome files (λ world. IsWhole job world (moment_of new))
+        by None shown = tt
+        by (Some world) shown = shown (sound job world)
+
+    module _ (report : Report) where
+      -- and every frame is among those that were finished
+      pub acked_at_done : WasOpened job told true old new Done report ⊎ WasRefused job true old new Done report → report.kept + report.rendered ≡ frames_of job
+      acked_at_done (inl opened) =
+          let shut : (k : ℕ) → get_or opened.gates k false ≡ true → ⊥ = λ k is. unsealed ((opened.opening refl k).0 is).sealed in
+          let kept : report.kept ≡ 0 = opened.kept ∙ none_open opened.gates shut in
+          let rendered : report.rendered ≡ frames_of job = opened.finished.all refl ∙ closed_count opened.gates shut (frames_of job) in
+          omega (arith, kept, rendered)
+      acked_at_done (inr refused) = absurd refused.why
+
+      -- an empty disk is no other job's, and has no bad ledger
+      never_refused : (end : RunEnd) → HasRefused job true old new end → (end ≡ DiskFault → ⊥) → (end ≡ NoMemory → ⊥) → ⊥
+      never_refused Done why disk memory = why
+      never_refused (OtherJob kept wanted) why disk memory = unsealed (why.2 refl).sealed
+      never_refused (BadLedger len) why disk memory = unsealed (why refl).sealed
+      never_refused (Changed key was now) why disk memory = why
+      never_refused SourceFault why disk memory = why
+      never_refused DiskFault why disk memory = disk refl
+      never_refused NoMemory why disk memory = memory refl
+
+      -- so a run over files that are told, of which no load fails, ends otherwise for want of memory alone
+      pub ends_in_memory : (end : RunEnd) → WasOpened job told true old new end report ⊎ WasRefused job true old new end report → IsSome told
+          → (end ≡ SourceFault → ⊥) → (end ≡ Done → ⊥) → (end ≡ DiskFault → ⊥) → (end ≡ NoMemory → ⊥) → ⊥
+      ends_in_memory end (inl opened) tells source done disk memory = by end opened.is_end source done disk memory
+        where
+          by : (how : RunEnd) → IsEnd job told how → (how ≡ SourceFault → ⊥) → (how ≡ Done → ⊥) → (how ≡ DiskFault → ⊥) → (how ≡ NoMemory → ⊥) → ⊥
+          by Done is source done disk memory = done refl
+          by (OtherJob kept wanted) is source done disk memory = is
+          by (BadLedger len) is source done disk memory = is
+          by (Changed key was now) is source done disk memory = let none : is_some told ≡ false = ap is_some is.untold in absurd (cc)
+          by SourceFault is source done disk memory = source refl
+          by DiskFault is source done disk memory = disk refl
+          by NoMemory is source done disk memory = memory refl
+      ends_in_memory end (inr refused) tells source done disk memory = never_refused end refused.why disk memory

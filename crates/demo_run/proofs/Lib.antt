@@ -1,0 +1,4 @@
+pub mod Answering
+pub mod Fresh
+pub mod Printing
+pub mod Reels

@@ -1,0 +1,52 @@
+//! Source files in memory that are always there to be read.
+ghost use Rattle.std.specs.Prelude.{◌≡◌, Some, []};
+ghost use Rattle.demo_run.specs.Scan.{fails_of};
+
+use cf_base::PathText;
+use scan_source::{Head, Loaded, MemoryScans, Scans};
+use std::alloc::Global;
+
+/// Files in memory, of which no call fails.
+#[derive(Drop)]
+pub(crate) struct UnfailingScans {
+    scans: MemoryScans,
+    ghost unfailing: { fails_of (⟦<MemoryScans as Scans>⟧.plan scans) ≡ Some [] },
+}
+
+impl UnfailingScans {
+    ghost use Rattle.std.specs.Prelude.{map};
+    ghost use Rattle.scan_source.specs.World.{world_of};
+
+    /// The files by path, of which the first of two equal paths counts.
+    pub(crate) fn new(alloc: Global, files: Vec<(PathText, Vec<u8>)>) -> Self
+        ensures { ⟦<UnfailingScans as Scans>⟧.world result ≡ Some (world_of (map (λ f. (f.0, f.1.items)) files.items)) }
+    {
+        UnfailingScans {
+            scans: MemoryScans::new(files, Vec::new(alloc)),
+        }
+    }
+}
+
+impl Scans for UnfailingScans {
+    ghost world = { λ s. ⟦<MemoryScans as Scans>⟧.world s.scans };
+
+    ghost faults = { λ _. 0 };
+
+    ghost loads = { λ s. ⟦<MemoryScans as Scans>⟧.loads s.scans };
+
+    ghost heads = { λ s. ⟦<MemoryScans as Scans>⟧.heads s.scans };
+
+    ghost plan = { λ s. ⟦<MemoryScans as Scans>⟧.plan s.scans };
+
+    fn load(&mut self, path: &PathText, most: u64, into: &mut Vec<u8>) -> Loaded {
+        self.scans.load(path, most, into)
+    }
+
+    fn head(&mut self, path: &PathText, into: &mut [u8; 2048]) -> Head {
+        self.scans.head(path, into)
+    }
+
+    ghost same_refl = { λ _. tt };
+
+    ghost same_trans = { λ _ _ _ _ _. tt };
+}

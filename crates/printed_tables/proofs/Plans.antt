@@ -1,0 +1,40 @@
+-- The plan of a job from its pieces.
+use Rattle.std.proofs.Common.{◌≡◌, ℕ, ◌+◌, List, [], ◌∷◌, ◌++◌, codes, refl, ap, ◌∙◌}
+use Rattle.std.specs.Prelude.{decimal}
+use Rattle.std.specs.List.{flat_map, range_with_len}
+use Rattle.std.proofs.lemmas.List.{append_assoc}
+use Rattle.std.proofs.Common.{append-nil}
+use Rattle.std.proofs.lemmas.List.Concat.{flat_map-append}
+use Rattle.cf_base.proofs.RangeLaws.{range_more}
+use Rattle.cf_base.specs.declared.event.EventRec.{EventRec}
+use Rattle.cf_base.specs.declared.timing.Mode.{Mode}
+use Rattle.cf_base.specs.declared.timing.Rate.{Rate}
+use Rattle.conform_job.specs.Asks.{shot_of_frame}
+use Rattle.record_timeline.specs.Accepted.{RecordReel, first_frame, frame_count}
+use Rattle.record_timeline.specs.declared.Shot.{Shot}
+use Rattle.printed_text.specs.Text.{spaced}
+use Rattle.printed_tables.specs.Plan.{plan_of, plan_line, shot_text}
+use Rattle.printed_tables.specs.Table.{label_word}
+
+-- the pieces of a transition, and of a frame's line
+pub two_joined : (t kind k d old new : List ℕ)
+    → t ++ kind ++ 32 ∷ [] ++ k ++ codes "/" ++ d ++ 32 ∷ [] ++ old ++ 32 ∷ [] ++ new
+    ≡ t ++ spaced (kind ∷ (k ++ codes "/" ++ d) ∷ old ∷ new ∷ [])
+two_joined t kind k d old new = simp append_assoc refl
+
+pub frame_joined : (t : List ℕ) (r : RecordReel) (i number : ℕ) (rate : Rate) (mode : Mode) (events : List EventRec) (shot : Shot) → number ≡ first_frame r.events → rate ≡ r.rate → mode ≡ r.mode → events ≡ r.events
+    → shot ≡ shot_of_frame r i → t ++ label_word rate mode (number + i) ++ 32 ∷ [] ++ shot_text events shot ++ 10 ∷ [] ≡ t ++ plan_line r i
+unfolding plan_line
+frame_joined t r i number rate mode events shot n rt m e s =
+    rw (n, rt, m, e, s) (simp append_assoc refl)
+
+-- the line of the next frame, and of their number
+pub plan_more : (r : RecordReel) (i : ℕ) → flat_map (plan_line r) (range_with_len 0 (i + 1)) ≡ flat_map (plan_line r) (range_with_len 0 i) ++ plan_line r i
+plan_more r i =
+    ap (flat_map (plan_line r)) (range_more i) ∙ flat_map-append (plan_line r) (range_with_len 0 i) (i ∷ [])
+    ∙ ap (λ line. flat_map (plan_line r) (range_with_len 0 i) ++ line) (append-nil (plan_line r i))
+
+pub plan_joined : (r : RecordReel) (text : List ℕ) (count : ℕ) → count ≡ frame_count r.events → text ≡ flat_map (plan_line r) (range_with_len 0 count)
+    → text ++ codes "frames " ++ decimal count ++ 10 ∷ [] ≡ plan_of r
+unfolding plan_of
+plan_joined r text count is lines = rw (lines, is) (simp append_assoc refl)

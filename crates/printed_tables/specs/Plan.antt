@@ -1,0 +1,48 @@
+-- The plan of a job, as it is printed: what each record frame shows, and from which source frames. The text is this project's
+-- own rule.
+--     plan_of parts      one line for each record frame, and the line of their number
+use Rattle.std.specs.Prelude.{ℕ, ◌+◌, List, [], ◌∷◌, ◌++◌, codes, decimal, slice_get, unwrap_or}
+use Rattle.std.specs.Fmt.{signed_decimal}
+use Rattle.std.specs.List.{flat_map, range_with_len}
+use Rattle.std.specs.Option.{option_map}
+use Rattle.cf_base.specs.Digits.{digits}
+use Rattle.cf_base.specs.declared.event.EventRec.{EventRec}
+use Rattle.cf_base.specs.declared.event.Transition.{Transition}
+use Rattle.cf_base.specs.declared.event.Transition.TheVariants.{Cut, Dissolve, Wipe}
+use Rattle.record_timeline.specs.Accepted.{RecordReel, first_frame, frame_count}
+use Rattle.record_timeline.specs.declared.Side.{Side}
+use Rattle.record_timeline.specs.declared.Side.TheVariants.{Black, Frame}
+use Rattle.record_timeline.specs.declared.Shot.{Shot}
+use Rattle.record_timeline.specs.declared.Shot.TheVariants.{Gap, One, Two}
+use Rattle.conform_job.specs.Asks.{shot_of_frame}
+use Rattle.printed_text.specs.Text.{ended, spaced, spaced_line}
+use Rattle.printed_tables.specs.Table.{label_word}
+
+-- the name of an event's reel
+abbrev pub reel_at : List EventRec → ℕ → List ℕ
+reel_at events i = unwrap_or (option_map (λ (e : EventRec). e.reel) (slice_get events i)) []
+
+-- the reel and the number of a source frame, or `BL`
+abbrev pub side_text : List EventRec → Side → List ℕ
+side_text events Black = codes "BL"
+side_text events (Frame event source) = spaced (reel_at events event ∷ signed_decimal source ∷ [])
+
+-- `D`, or `W` and the three digits of the wipe
+abbrev pub kind_word : Transition → List ℕ
+kind_word Cut = codes "C"
+kind_word (Dissolve d) = codes "D"
+kind_word (Wipe code d) = codes "W" ++ digits 3 code
+
+-- `BL` for a gap; a side; or the transition, its frame k of d, the old side and the new side
+abbrev pub shot_text : List EventRec → Shot → List ℕ
+shot_text events Gap = codes "BL"
+shot_text events (One side) = side_text events side
+shot_text events (Two old new transition k d) =
+    spaced (kind_word transition ∷ (decimal k ++ codes "/" ++ decimal d) ∷ side_text events old ∷ side_text events new ∷ [])
+
+-- the record label of frame i (SMPTE ST 12-1), and what it shows
+unfoldable pub plan_line : RecordReel → ℕ → List ℕ
+plan_line t i = spaced_line (label_word t.rate t.mode (first_frame t.events + i) ∷ shot_text t.events (shot_of_frame t i) ∷ [])
+
+unfoldable pub plan_of : RecordReel → List ℕ
+plan_of t = flat_map (plan_line t) (range_with_len 0 (frame_count t.events)) ++ ended (codes "frames " ++ decimal (frame_count t.events))

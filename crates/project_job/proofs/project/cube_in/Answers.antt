@@ -1,0 +1,18 @@
+-- The front of the cube's file stands for the file.
+use Rattle.std.proofs.Common.{◌≡◌, Ok, Err, subst}
+use Rattle.project_job.specs.Jobs.{look_of_text, itself, Reaches}
+use Rattle.project_job.proofs.Projects.{cube_had, cube_refused, cube_missing}
+use Rattle.project_job.proofs.project.cube_in.Goals as goal
+
+pub returns-in-Ok-look_of-clause-told : goal.returns-in-Ok-look_of-clause-told
+returns-in-Ok-look_of-clause-told g c =
+    cube_had (g.S.Scans.world c.args.scan.now) c.args.path.now c.in-Ok.front c.in-Ok-look_of.look c.in-Ok.ensures.told
+    (subst (λ text. look_of_text text ≡ Ok c.in-Ok-look_of.look) c.deref.ensures.value c.in-Ok-look_of.ensures.look)
+
+pub returns-in-Err-look_of-clause-told : goal.returns-in-Err-look_of-clause-told
+returns-in-Err-look_of-clause-told g c =
+    cube_refused (g.S.Scans.world c.args.scan.now) c.args.path.now c.in-Ok.front c.in-Err-look_of.outcome c.in-Ok.ensures.told
+    (subst (λ text. Reaches itself (Err c.in-Err-look_of.outcome) (look_of_text text)) c.deref.ensures.value c.in-Err-look_of.ensures.look)
+
+pub returns-in-Err-clause-told : goal.returns-in-Err-clause-told
+returns-in-Err-clause-told g c = cube_missing (g.S.Scans.world c.args.scan.now) c.args.path.now c.in-Err.outcome c.in-Err.ensures.told

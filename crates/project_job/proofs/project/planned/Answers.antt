@@ -1,0 +1,43 @@
+-- The project, its list, its cube and its frames come to the job.
+use Rattle.std.proofs.Common.{◌+◌, sym, ap, ◌∙◌}
+use Rattle.conform_job.specs.Answers.{count_after}
+use Rattle.conform_job.specs.declared.parts.JobParts.{JobParts}
+use Rattle.project_job.specs.Jobs.{cube_count}
+use Rattle.project_job.proofs.Projects.{no_project, no_parts, no_job, a_job, loaded_first, loaded_all}
+use Rattle.project_job.proofs.project.planned.Goals as goal
+
+pub returns-in-Err-clause-told : goal.returns-in-Err-clause-told
+returns-in-Err-clause-told g c = no_project (g.S.Scans.world c.args.scan.now) c.args.path.now c.in-Err.outcome c.in-Err.ensures.told
+
+pub returns-in-Err-parts_of-clause-told : goal.returns-in-Err-parts_of-clause-told
+returns-in-Err-parts_of-clause-told g c =
+    no_parts (g.S.Scans.world c.args.scan.now) c.args.path.now c.in-Ok.read c.in-Err-parts_of.outcome c.in-Ok.ensures.told
+    (rw (c.in-Ok.ensures.world, c.deref.ensures.value) at c.in-Err-parts_of.ensures.told)
+
+pub returns-in-Ok-plan-clause-told : goal.returns-in-Ok-plan-clause-told
+returns-in-Ok-plan-clause-told g c =
+    a_job (g.S.Scans.world c.args.scan.now) c.args.path.now c.in-Ok.read c.in-Ok-parts_of.parts c.in-Ok-plan.job c.in-Ok.ensures.told
+    (rw (c.in-Ok.ensures.world, c.deref.ensures.value) at c.in-Ok-parts_of.ensures.told)
+    (rw (c.in-Ok-parts_of.ensures.world, c.in-Ok.ensures.world) at c.in-Ok-plan.ensures.told)
+    c.in-Ok-plan.ensures.job.0
+
+pub returns-clause-told : goal.returns-clause-told
+returns-clause-told g c =
+    rw c.refused_job.ensures (no_job (g.S.Scans.world c.args.scan.now) c.args.path.now c.in-Ok.read c.in-Ok-parts_of.parts c.in-Err-plan.fault c.in-Ok.ensures.told
+    (rw (c.in-Ok.ensures.world, c.deref.ensures.value) at c.in-Ok-parts_of.ensures.told)
+    (rw (c.in-Ok-parts_of.ensures.world, c.in-Ok.ensures.world) at c.in-Err-plan.ensures.told))
+
+pub returns-in-Err-parts_of-clause-loads : goal.returns-in-Err-parts_of-clause-loads
+returns-in-Err-parts_of-clause-loads g c = loaded_first (g.S.Scans.loads c.args.scan.now) _ _ c.in-Ok.ensures.loads c.in-Err-parts_of.ensures.loads
+
+pub returns-in-Ok-plan-clause-loads : goal.returns-in-Ok-plan-clause-loads
+returns-in-Ok-plan-clause-loads g c =
+    loaded_first (g.S.Scans.loads c.args.scan.now) _ _ c.in-Ok.ensures.loads (rw (sym c.in-Ok-plan.ensures.loads) at c.in-Ok-parts_of.ensures.loads)
+
+pub returns-clause-loads : goal.returns-clause-loads
+returns-clause-loads g c =
+    loaded_first (g.S.Scans.loads c.args.scan.now) _ _ c.in-Ok.ensures.loads (rw (sym c.in-Err-plan.ensures.loads) at c.in-Ok-parts_of.ensures.loads)
+
+pub returns-in-Ok-plan-clause-loaded : goal.returns-in-Ok-plan-clause-loaded
+returns-in-Ok-plan-clause-loaded g c = loaded_all c.in-Ok-plan.job.parts.project.cube (g.S.Scans.loads c.args.scan.now) _ _ c.in-Ok.ensures.loads
+    (c.in-Ok-plan.ensures.loads ∙ c.in-Ok-parts_of.ensures.loaded ∙ ap (λ (parts : JobParts). count_after (1 + cube_count parts.project.cube) (g.S.Scans.loads c.project_in.new.scan)) (sym c.in-Ok-plan.ensures.job.0))

@@ -1,0 +1,163 @@
+-- The job of a project: its texts in the order in which they are read, and the first refusal. All of it is this project's own
+-- rule.
+--     job_of files text read      what the job of a project comes to, whose text was read so: its parts, or the first refusal
+--     ComesTo files path answer      what the project at a path comes to
+--     Reaches have result wanted      what a step of it gave, against what it is to give
+use Rattle.std.specs.Prelude.{◌≡◌, ◌≤◌, ℕ, List, Vec, Option, Some, None, IsSomeAnd, Result, Ok, Err}
+use Rattle.std.specs.Option.{option_map}
+use Rattle.std.specs.declared.alloc.Global.{Global}
+use Rattle.cf_base.specs.declared.event.EventList.{EventList}
+use Rattle.conform_job.specs.Digest.{digest_of}
+use Rattle.conform_job.specs.Refusals.{Files, first_refusal}
+use Rattle.conform_job.specs.Answers.{count_after}
+use Rattle.conform_job.specs.Job.{JobData}
+use Rattle.conform_job.specs.declared.parts.JobFault.{JobFault}
+use Rattle.conform_job.specs.declared.parts.JobFault.TheVariants as fault
+use Rattle.conform_job.specs.declared.parts.JobParts.{JobParts}
+use Rattle.cube_reader.specs.Text.{cube_of}
+use Rattle.edl_events.specs.Lists.{list_of}
+use Rattle.cf_base.specs.declared.timing.Rate.{Rate}
+use Rattle.project_file.specs.Projects.{Means}
+use Rattle.project_file.specs.declared.Project.{Project}
+use Rattle.project_file.specs.declared.fault.ProjectFault.{ProjectFault}
+use Rattle.record_timeline.specs.Accepted.{timeline_of}
+use Rattle.source_reels.specs.Reels.{table_of}
+use Rattle.tetra_look.specs.Look.{Lattice, lattice_of}
+use Rattle.outcome_line.specs.declared.outcome.Outcome.{Outcome}
+use Rattle.outcome_line.specs.declared.outcome.Outcome.TheVariants as outcome
+use Rattle.outcome_line.specs.declared.outcome.Refused.{Refused}
+use Rattle.project_job.specs.declared.project.ListText.{ListText}
+use Rattle.project_job.specs.declared.project.LookText.{LookText}
+use Rattle.project_job.specs.declared.project.ProjectText.{ProjectText}
+use Rattle.outcome_line.specs.declared.outcome.Refused.TheVariants as refused
+use Rattle.outcome_line.specs.declared.outcome.Which.{Which}
+use Rattle.outcome_line.specs.declared.outcome.Which.TheVariants as which
+
+-- one step after another, up to the first refusal
+infixl 10 ◌>>=◌
+abbrev pub ◌>>=◌ : {A B : Type 0} → Result A Refused → (A → Result B Refused) → Result B Refused
+(Ok a) >>= next = next a
+(Err refusal) >>= next = Err refusal
+
+-- the value, or the refusal that its fault is
+abbrev pub unless_refused : {A F : Type 0} → (F → Refused) → Result A F → Result A Refused
+unless_refused refusal (Ok a) = Ok a
+unless_refused refusal (Err fault) = Err (refusal fault)
+
+-- 0.1: the file, unless there is none
+abbrev pub unless_absent : Which → Option (List ℕ) → Result (List ℕ) Refused
+unless_absent absent (Some text) = Ok text
+unless_absent absent None = Err (refused.NoFile absent)
+
+-- an edit list and its text
+abbrev pub list_in : Rate → Option (List ℕ) → Result (List ℕ × EventList) Refused
+list_in rate file = do
+  text ← unless_absent which.List file
+  list ← unless_refused refused.List (list_of rate text)
+  Ok (text, list)
+
+-- the look of a cube's text
+abbrev pub look_of_text : List ℕ → Result (Option Lattice) Refused
+look_of_text text = do
+  table ← unless_refused refused.Cube (cube_of text)
+  Ok (Some (lattice_of table))
+
+-- a look and the text of its cube
+abbrev pub cube_in : Option (List ℕ) → Result (Option (List ℕ) × Option Lattice) Refused
+cube_in file = do
+  text ← unless_absent which.Cube file
+  look ← look_of_text text
+  Ok (Some text, look)
+
+-- the same of the cube that a project names, if it names one
+abbrev pub look_in : Files → Option (List ℕ) → Result (Option (List ℕ) × Option Lattice) Refused
+look_in files None = Ok (None, None)
+look_in files (Some path) = cube_in (files path)
+
+-- 15.1 to 15.4
+abbrev pub unless_job : JobParts → Option JobFault → Result JobParts Refused
+unless_job parts None = Ok parts
+unless_job parts (Some fault) = Err (refused.Job fault)
+
+-- the parts of the job of a project with this text
+abbrev pub parts_of : Files → List ℕ → Project → Result JobParts Refused
+parts_of files text project = do
+  reels ← unless_refused refused.Reels (table_of project.reels)
+  edl ← list_in project.rate (files project.edl)
+  timeline ← unless_refused refused.Timeline (timeline_of project.rate edl.1)
+  cube ← look_in files project.cube
+  Ok (record { digest = digest_of text edl.0 cube.0; project = project; reels = reels; timeline = timeline; look = cube.1 })
+
+abbrev pub job_of : Files → List ℕ → Result Project ProjectFault → Result JobParts Refused
+job_of files text read = do
+  project ← unless_refused refused.Project read
+  parts ← parts_of files text project
+  unless_job parts (first_refusal parts files)
+
+-- what the project of this file comes to, if it is there
+abbrev pub FileComesTo : Files → Option (List ℕ) → Result JobParts Refused → Type 0
+FileComesTo files None answer = answer ≡ Err (refused.NoFile which.Project)
+FileComesTo files (Some text) answer = (read : Result Project ProjectFault) × Means text read × (answer ≡ job_of files text read)
+
+abbrev pub ComesTo : Files → List ℕ → Result JobParts Refused → Type 0
+ComesTo files path answer = FileComesTo files (files path) answer
+
+-- A value or a refusal is the one that is wanted; a fault of the scan and want of memory may come at any place.
+abbrev pub Reaches : {A B : Type 0} → (A → B) → Result A Outcome → Result B Refused → Type 0
+Reaches have (Ok a) wanted = wanted ≡ Ok (have a)
+Reaches have (Err (outcome.Refused refusal)) wanted = wanted ≡ Err refusal
+Reaches have (Err outcome.SourceFault) wanted = Unit {0}
+Reaches have (Err outcome.NoMemory) wanted = Unit {0}
+Reaches have (Err other) wanted = ⊥
+
+-- what is had of each step
+abbrev pub itself : {A : Type 0} → A → A
+itself a = a
+
+abbrev pub list_and_text : ListText → List ℕ × EventList
+list_and_text read = (read.text.items, read.list)
+
+abbrev pub look_and_text : LookText → Option (List ℕ) × Option Lattice
+look_and_text read = (option_map (λ (text : Vec ℕ Global). text.items) read.text, read.look)
+
+-- what was had of the file of a project: its text and the project, or why not
+abbrev pub MeansFile : Option (List ℕ) → Result ProjectText Outcome → Type 0
+MeansFile file (Ok read) = (file ≡ Some read.text.items) × Means read.text.items (Ok read.project)
+MeansFile file (Err (outcome.Refused (refused.NoFile absent))) = (absent ≡ which.Project) × (file ≡ None)
+MeansFile file (Err (outcome.Refused (refused.Project fault))) = IsSomeAnd file (λ text. Means text (Err fault))
+MeansFile file (Err outcome.SourceFault) = Unit {0}
+MeansFile file (Err outcome.NoMemory) = Unit {0}
+MeansFile file (Err other) = ⊥
+
+-- what was had of the project of a file: its job, or why not
+abbrev pub FileHasPlanned : Files → Option (List ℕ) → Result JobData Outcome → Type 0
+FileHasPlanned files file (Ok job) = FileComesTo files file (Ok job.parts)
+FileHasPlanned files file (Err (outcome.Refused refusal)) = FileComesTo files file (Err refusal)
+FileHasPlanned files file (Err outcome.SourceFault) = Unit {0}
+FileHasPlanned files file (Err outcome.NoMemory) = Unit {0}
+FileHasPlanned files file (Err other) = ⊥
+
+abbrev pub HasPlanned : Files → List ℕ → Result JobData Outcome → Type 0
+HasPlanned files path result = FileHasPlanned files (files path) result
+
+-- what a job's refusal comes to
+abbrev pub outcome_of_fault : JobFault → Outcome
+outcome_of_fault fault.SourceFault = outcome.SourceFault
+outcome_of_fault fault.NoMemory = outcome.NoMemory
+outcome_of_fault other = outcome.Refused (refused.Job other)
+
+-- how many cubes are loaded
+abbrev pub cube_count : Option (List ℕ) → ℕ
+cube_count None = 0
+cube_count (Some path) = 1
+
+-- so many files were loaded, at least and at most
+abbrev pub AreLoaded : (few many before after : ℕ) → Type 0
+AreLoaded few many before after = (count : ℕ) × (few ≤ count) × (count ≤ many) × (after ≡ count_after count before)
+
+-- the outcomes that a job may come to in place of its parts, whatever the scan tells
+abbrev pub IsOfJob : Outcome → Type 0
+IsOfJob (outcome.Refused refusal) = Unit {0}
+IsOfJob outcome.SourceFault = Unit {0}
+IsOfJob outcome.NoMemory = Unit {0}
+IsOfJob other = ⊥

@@ -1,0 +1,25 @@
+-- What a load of a file comes to.
+use Rattle.std.specs.Prelude.{◌≡◌, ℕ, List, length, take, Option, None, IsSomeAnd}
+use Rattle.project_job.specs.declared.loads.Front.{Front}
+use Rattle.outcome_line.specs.declared.outcome.Outcome.{Outcome}
+use Rattle.outcome_line.specs.declared.outcome.Outcome.TheVariants.{Refused as IsRefused, SourceFault, NoMemory}
+use Rattle.outcome_line.specs.declared.outcome.Refused.TheVariants.{NoFile}
+use Rattle.outcome_line.specs.declared.outcome.Which.{Which}
+
+-- it is the front of the file
+abbrev pub IsFront : Option (List ℕ) → ℕ → Front → Type 0
+IsFront file most front = IsSomeAnd file (λ bytes. (front.len ≡ length bytes) × (front.bytes.items ≡ take most bytes))
+
+-- there is no file, or the scan failed, or memory ran out
+abbrev pub IsMissing : Which → Option (List ℕ) → Outcome → Type 0
+IsMissing absent file (IsRefused (NoFile which)) = (which ≡ absent) × (file ≡ None)
+IsMissing absent file SourceFault = Unit {0}
+IsMissing absent file NoMemory = Unit {0}
+IsMissing absent file other = ⊥
+
+-- the same where the scan tells nothing
+abbrev pub IsOfLoad : Which → Outcome → Type 0
+IsOfLoad absent (IsRefused (NoFile which)) = which ≡ absent
+IsOfLoad absent SourceFault = Unit {0}
+IsOfLoad absent NoMemory = Unit {0}
+IsOfLoad absent other = ⊥

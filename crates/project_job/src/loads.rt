@@ -1,0 +1,49 @@
+//! Loads of files.
+ghost use Rattle.std.specs.Prelude.{◌≡◌, ◌≢◌, ◌≤◌, min, length, Err, IfSome, IfOk, IfErr, MatchResult};
+ghost use Rattle.cf_base.specs.Count.{HasRisen};
+ghost use Rattle.scan_source.specs.Plan.{one_more};
+ghost use Rattle.scan_source.specs.World.{file_at};
+ghost use Rattle.project_job.specs.Load.{IsFront, IsMissing, IsOfLoad};
+
+use cf_base::PathText;
+use outcome_line::{Outcome, Refused, Which};
+use scan_source::{Loaded, Scans};
+use std::alloc::Global;
+
+/// The front of a file.
+#[derive(Drop)]
+pub struct Front {
+    /// How many bytes the file has.
+    pub len: u64,
+    /// Its first bytes: all of them, or as many as were asked for.
+    pub bytes: Vec<u8>,
+}
+
+/// The first `most` bytes of the file at a path. `absent` says which file it is: a refusal has its name.
+pub fn load<S: Scans>(
+    alloc: Global,
+    path: &PathText,
+    most: u64,
+    absent: Which,
+    scan: &mut S,
+) -> Result<Front, Outcome>
+    ensures told { IfSome (S.world scan.old) (λ world. MatchResult result (IsFront (file_at world path.now) most) (IsMissing absent (file_at world path.now))) }
+    ensures fills { IfOk result (λ front. length front.bytes.items ≡ min front.len most) }
+    ensures kind { IfErr result (IsOfLoad absent) }
+
+    ensures failed { result ≡ Err Outcome.SourceFault → HasRisen (S.faults scan.old) (S.faults scan.new) }
+    ensures steady { result ≢ Err Outcome.SourceFault → S.faults scan.new ≡ S.faults scan.old }
+    ensures later { S.faults scan.old ≤ S.faults scan.new }
+    ensures loads { S.loads scan.new ≡ one_more (S.loads scan.old) }
+    ensures heads { S.heads scan.new ≡ S.heads scan.old }
+    ensures world { S.world scan.new ≡ S.world scan.old }
+    ensures same { S.same scan.old scan.new }
+{
+    let mut bytes = Vec::new(alloc);
+    match scan.load(path, most, &mut bytes) {
+        Loaded::Got { len } => Ok(Front { len, bytes }),
+        Loaded::Absent => Err(Outcome::Refused(Refused::NoFile(absent))),
+        Loaded::Failed => Err(Outcome::SourceFault),
+        Loaded::NoMemory => Err(Outcome::NoMemory),
+    }
+}

@@ -1,0 +1,312 @@
+//! The job of a project: its texts are read in their order, and the job is planned.
+ghost use Rattle.std.specs.Prelude.{◌≡◌, ◌≢◌, ◌≤◌, ◌+◌, [], length, Err, Option, IfSome, IfOk, IfErr};
+ghost use Rattle.std.specs.Option.{option_copied};
+ghost use Rattle.cf_base.specs.Count.{HasRisen};
+ghost use Rattle.cf_base.specs.Events.{IsWellMade};
+ghost use Rattle.scan_source.specs.World.{file_at};
+ghost use Rattle.project_file.specs.Projects.{IsInRange};
+ghost use Rattle.record_timeline.specs.Accepted.{timeline_of};
+ghost use Rattle.source_reels.specs.Reels.{table_of};
+ghost use Rattle.conform_job.specs.Answers.{count_after, Grows, HeadsGrow};
+ghost use Rattle.conform_job.specs.Asks.{asks_of};
+ghost use Rattle.conform_job.specs.Infos.{HasEachOnce};
+ghost use Rattle.conform_job.specs.Job.{ArePlanned, JobData};
+ghost use Rattle.project_job.specs.Jobs.{list_in, cube_in, look_in, look_of_text, parts_of, itself, list_and_text, look_and_text, outcome_of_fault, Reaches, HasPlanned, MeansFile, unless_refused, IsOfJob, cube_count, AreLoaded};
+ghost use Rattle.outcome_line.specs.declared.outcome.Refused.TheVariants as refused;
+
+use crate::loads::load;
+use cf_base::{EventList, Fail, PathText, Rate};
+use conform_job::{Job, JobFault, JobParts, job_digest};
+use cube_reader::read_cube;
+use edl_events::read_list;
+use outcome_line::{Outcome, Refused, Which};
+use project_file::{Project, read_project};
+use record_timeline::Timeline;
+use scan_source::Scans;
+use source_reels::ReelTable;
+use std::alloc::Global;
+use tetra_look::Look;
+
+/// One byte more than the longest project has.
+const MOST_PROJECT: u64 = 1_048_577;
+
+/// One byte more than the longest list has.
+pub const MOST_LIST: u64 = 4_194_305;
+
+/// One byte more than the longest cube has.
+const MOST_CUBE: u64 = 100_663_297;
+
+/// A project and its text.
+#[derive(Drop)]
+struct ProjectText {
+    text: Vec<u8>,
+    project: Project,
+}
+
+/// An edit list and its text.
+#[derive(Drop)]
+struct ListText {
+    text: Vec<u8>,
+    list: EventList,
+}
+
+/// A look, and the text of its cube if there is one.
+#[derive(Drop)]
+struct LookText {
+    text: Option<Vec<u8>>,
+    look: Look,
+}
+
+/// The job of the project at a path, or what was reached in its place.
+pub fn planned<S: Scans>(alloc: Global, path: &PathText, scan: &mut S) -> Result<Job, Outcome>
+    ensures told { IfSome (S.world scan.old) (λ world. HasPlanned (file_at world) path.now result) }
+    ensures kind { IfErr result IsOfJob }
+    ensures job { IfOk result (λ job. Grows job.parts (S.world scan.old) (asks_of job.parts.timeline) [] job.infos) }
+    ensures once { IfOk result (λ job. HasEachOnce job.infos) }
+    ensures heads { IfOk result (λ job. HeadsGrow (S.heads scan.old) (S.heads scan.new) 0 (length job.infos)) }
+
+    ensures failed { result ≡ Err Outcome.SourceFault → HasRisen (S.faults scan.old) (S.faults scan.new) }
+    ensures steady { result ≢ Err Outcome.SourceFault → S.faults scan.new ≡ S.faults scan.old }
+    ensures later { S.faults scan.old ≤ S.faults scan.new }
+    ensures loads { AreLoaded 1 3 (S.loads scan.old) (S.loads scan.new) }
+    ensures loaded { IfOk result (λ job. S.loads scan.new ≡ count_after (2 + cube_count job.parts.project.cube) (S.loads scan.old)) }
+    ensures world { S.world scan.new ≡ S.world scan.old }
+    ensures same { S.same scan.old scan.new }
+{
+    let ProjectText { text, project } = match project_in(alloc, path, scan) {
+        Ok(read) => read,
+        Err(outcome) => return Err(outcome),
+    };
+    let parts = match parts_of(alloc, &text, project, scan) {
+        Ok(parts) => parts,
+        Err(outcome) => return Err(outcome),
+    };
+    match Job::plan(alloc, parts, scan) {
+        Ok(job) => Ok(job),
+        Err(fault) => Err(refused_job(fault)),
+    }
+}
+
+/// What a job's refusal comes to.
+fn refused_job(fault: JobFault) -> Outcome
+    ensures { result ≡ outcome_of_fault fault }
+{
+    match fault {
+        JobFault::SourceFault => Outcome::SourceFault,
+        JobFault::NoMemory => Outcome::NoMemory,
+        _ => Outcome::Refused(Refused::Job(fault)),
+    }
+}
+
+/// The project at a path.
+fn project_in<S: Scans>(
+    alloc: Global,
+    path: &PathText,
+    scan: &mut S,
+) -> Result<ProjectText, Outcome>
+    ensures told { IfSome (S.world scan.old) (λ world. MeansFile (file_at world path.now) result) }
+    ensures kind { IfErr result IsOfJob }
+    ensures range { IfOk result (λ read. IsInRange read.project) }
+
+    ensures failed { result ≡ Err Outcome.SourceFault → HasRisen (S.faults scan.old) (S.faults scan.new) }
+    ensures steady { result ≢ Err Outcome.SourceFault → S.faults scan.new ≡ S.faults scan.old }
+    ensures later { S.faults scan.old ≤ S.faults scan.new }
+    ensures loads { S.loads scan.new ≡ count_after 1 (S.loads scan.old) }
+    ensures heads { S.heads scan.new ≡ S.heads scan.old }
+    ensures world { S.world scan.new ≡ S.world scan.old }
+    ensures same { S.same scan.old scan.new }
+{
+    let front = match load(alloc, path, MOST_PROJECT, Which::Project, scan) {
+        Ok(front) => front,
+        Err(outcome) => return Err(outcome),
+    };
+    match read_project(alloc, &front.bytes) {
+        Ok(project) => Ok(ProjectText {
+            text: front.bytes,
+            project,
+        }),
+        Err(Fail::Fault(fault)) => Err(Outcome::Refused(Refused::Project(fault))),
+        Err(Fail::NoMemory) => Err(Outcome::NoMemory),
+    }
+}
+
+/// The parts of the job of a project with this text.
+fn parts_of<S: Scans>(
+    alloc: Global,
+    text: &[u8],
+    project: Project,
+    scan: &mut S,
+) -> Result<JobParts, Outcome>
+    requires { IsInRange project }
+    ensures told { IfSome (S.world scan.old) (λ world. Reaches itself result (parts_of (file_at world) text.now project)) }
+    ensures kind { IfErr result IsOfJob }
+    ensures planned { IfOk result ArePlanned }
+
+    ensures failed { result ≡ Err Outcome.SourceFault → HasRisen (S.faults scan.old) (S.faults scan.new) }
+    ensures steady { result ≢ Err Outcome.SourceFault → S.faults scan.new ≡ S.faults scan.old }
+    ensures later { S.faults scan.old ≤ S.faults scan.new }
+    ensures loads { AreLoaded 0 2 (S.loads scan.old) (S.loads scan.new) }
+    ensures loaded { IfOk result (λ parts. S.loads scan.new ≡ count_after (1 + cube_count parts.project.cube) (S.loads scan.old)) }
+    ensures heads { S.heads scan.new ≡ S.heads scan.old }
+    ensures world { S.world scan.new ≡ S.world scan.old }
+    ensures same { S.same scan.old scan.new }
+{
+    let reels = match reels_of(alloc, &project) {
+        Ok(reels) => reels,
+        Err(outcome) => return Err(outcome),
+    };
+    let ListText { text: edl, list } = match list_in(alloc, project.rate, &project.edl, scan) {
+        Ok(read) => read,
+        Err(outcome) => return Err(outcome),
+    };
+    let timeline = match timeline_of(alloc, project.rate, list) {
+        Ok(timeline) => timeline,
+        Err(outcome) => return Err(outcome),
+    };
+    let LookText { text: cube, look } = match look_in(alloc, &project.cube, scan) {
+        Ok(read) => read,
+        Err(outcome) => return Err(outcome),
+    };
+    Ok(JobParts {
+        digest: job_digest(text, &edl, cube.as_deref()),
+        project,
+        reels,
+        timeline,
+        look,
+    })
+}
+
+/// The table of a project's reels.
+fn reels_of(alloc: Global, project: &Project) -> Result<ReelTable, Outcome>
+    requires { IsInRange project.now }
+    ensures table { Reaches itself result (unless_refused refused.Reels (table_of project.now.reels)) }
+    ensures entries { IfOk result (λ table. table ≡ project.now.reels) }
+    ensures kind { IfErr result IsOfJob }
+    ensures not_the_scan { result ≢ Err Outcome.SourceFault }
+{
+    let Ok(entries) = project.reels.copy(alloc) else {
+        return Err(Outcome::NoMemory);
+    };
+    match ReelTable::of(entries) {
+        Ok(table) => Ok(table),
+        Err(Fail::Fault(fault)) => Err(Outcome::Refused(Refused::Reels(fault))),
+        Err(Fail::NoMemory) => Err(Outcome::NoMemory),
+    }
+}
+
+/// The edit list at a path.
+fn list_in<S: Scans>(
+    alloc: Global,
+    rate: Rate,
+    path: &PathText,
+    scan: &mut S,
+) -> Result<ListText, Outcome>
+    ensures told { IfSome (S.world scan.old) (λ world. Reaches list_and_text result (list_in rate (file_at world path.now))) }
+    ensures kind { IfErr result IsOfJob }
+    ensures made { IfOk result (λ read. IsWellMade rate read.list.mode read.list.events) }
+
+    ensures failed { result ≡ Err Outcome.SourceFault → HasRisen (S.faults scan.old) (S.faults scan.new) }
+    ensures steady { result ≢ Err Outcome.SourceFault → S.faults scan.new ≡ S.faults scan.old }
+    ensures later { S.faults scan.old ≤ S.faults scan.new }
+    ensures loads { S.loads scan.new ≡ count_after 1 (S.loads scan.old) }
+    ensures heads { S.heads scan.new ≡ S.heads scan.old }
+    ensures world { S.world scan.new ≡ S.world scan.old }
+    ensures same { S.same scan.old scan.new }
+{
+    let front = match load(alloc, path, MOST_LIST, Which::List, scan) {
+        Ok(front) => front,
+        Err(outcome) => return Err(outcome),
+    };
+    match read_list(alloc, rate, &front.bytes) {
+        Ok(list) => Ok(ListText {
+            text: front.bytes,
+            list,
+        }),
+        Err(Fail::Fault(refusal)) => Err(Outcome::Refused(Refused::List(refusal))),
+        Err(Fail::NoMemory) => Err(Outcome::NoMemory),
+    }
+}
+
+/// The timeline of a list.
+fn timeline_of(alloc: Global, rate: Rate, list: EventList) -> Result<Timeline, Outcome>
+    requires { IsWellMade rate list.mode list.events }
+    ensures timeline { Reaches itself result (unless_refused refused.Timeline (timeline_of rate list)) }
+    ensures rate { IfOk result (λ timeline. timeline.rate ≡ rate) }
+    ensures kind { IfErr result IsOfJob }
+    ensures not_the_scan { result ≢ Err Outcome.SourceFault }
+{
+    match Timeline::build(alloc, rate, list) {
+        Ok(timeline) => Ok(timeline),
+        Err(Fail::Fault(fault)) => Err(Outcome::Refused(Refused::Timeline(fault))),
+        Err(Fail::NoMemory) => Err(Outcome::NoMemory),
+    }
+}
+
+/// The look of the cube that a project names, if it names one.
+fn look_in<S: Scans>(
+    alloc: Global,
+    named: &Option<PathText>,
+    scan: &mut S,
+) -> Result<LookText, Outcome>
+    ensures told { IfSome (S.world scan.old) (λ world. Reaches look_and_text result (look_in (file_at world) named.now)) }
+    ensures kind { IfErr result IsOfJob }
+
+    ensures failed { result ≡ Err Outcome.SourceFault → HasRisen (S.faults scan.old) (S.faults scan.new) }
+    ensures steady { result ≢ Err Outcome.SourceFault → S.faults scan.new ≡ S.faults scan.old }
+    ensures later { S.faults scan.old ≤ S.faults scan.new }
+    ensures loads { S.loads scan.new ≡ count_after (cube_count named.now) (S.loads scan.old) }
+    ensures heads { S.heads scan.new ≡ S.heads scan.old }
+    ensures world { S.world scan.new ≡ S.world scan.old }
+    ensures same { S.same scan.old scan.new }
+{
+    match named {
+        Some(path) => cube_in(alloc, path, scan),
+        None => Ok(LookText {
+            text: None,
+            look: Look::none(),
+        }),
+    }
+}
+
+/// The look of the cube at a path.
+fn cube_in<S: Scans>(alloc: Global, path: &PathText, scan: &mut S) -> Result<LookText, Outcome>
+    ensures told { IfSome (S.world scan.old) (λ world. Reaches look_and_text result (cube_in (file_at world path.now))) }
+    ensures kind { IfErr result IsOfJob }
+
+    ensures failed { result ≡ Err Outcome.SourceFault → HasRisen (S.faults scan.old) (S.faults scan.new) }
+    ensures steady { result ≢ Err Outcome.SourceFault → S.faults scan.new ≡ S.faults scan.old }
+    ensures later { S.faults scan.old ≤ S.faults scan.new }
+    ensures loads { S.loads scan.new ≡ count_after 1 (S.loads scan.old) }
+    ensures heads { S.heads scan.new ≡ S.heads scan.old }
+    ensures world { S.world scan.new ≡ S.world scan.old }
+    ensures same { S.same scan.old scan.new }
+{
+    let front = match load(alloc, path, MOST_CUBE, Which::Cube, scan) {
+        Ok(front) => front,
+        Err(outcome) => return Err(outcome),
+    };
+    match look_of(alloc, &front.bytes) {
+        Ok(look) => Ok(LookText {
+            text: Some(front.bytes),
+            look,
+        }),
+        Err(outcome) => Err(outcome),
+    }
+}
+
+/// The look of a cube's text.
+fn look_of(alloc: Global, text: &[u8]) -> Result<Look, Outcome>
+    ensures look { Reaches itself result (look_of_text text.now) }
+    ensures kind { IfErr result IsOfJob }
+    ensures not_the_scan { result ≢ Err Outcome.SourceFault }
+{
+    let cube = match read_cube(alloc, text) {
+        Ok(cube) => cube,
+        Err(Fail::Fault(fault)) => return Err(Outcome::Refused(Refused::Cube(fault))),
+        Err(Fail::NoMemory) => return Err(Outcome::NoMemory),
+    };
+    match Look::of(alloc, cube) {
+        Ok(look) => Ok(look),
+        Err(_) => Err(Outcome::NoMemory),
+    }
+}

@@ -1,0 +1,142 @@
+-- From a crew to the reply of its command.
+use Rattle.std.proofs.Common.{◌≡◌, ℕ, zero, suc, ◌+◌, ◌<◌, ◌≤◌, min, List, [], ◌∷◌, All, AllPairs, ◌≢◌, drop, set, length, get_or, slice_get, Option, Some, None, IfSome, Result, Ok, Err, MatchOption, MatchResult, true, refl, sym, ◌∙◌, ap, subst, arith, inl, inr, length-set}
+use Rattle.std.proofs.lemmas.List.{get_or-set_same, get_or-set_other}
+use Rattle.cf_base.specs.Count.{HasRisen}
+use Rattle.scan_source.specs.World.{World, file_at}
+use Rattle.conform_job.specs.Answers.{count_after}
+use Rattle.conform_job.specs.Job.{JobData}
+use Rattle.reel_disk.specs.Disk.{moment_of, view_of}
+use Rattle.reel_disk.specs.Runs.{Spares}
+use Rattle.reel_writer.specs.Reel.{frames_of, IsReelRun}
+use Rattle.render_board.specs.declared.step.Step.{Step}
+use Rattle.station.specs.Crews.{AreWorked, IsUnstepped, WasCrewed}
+use Rattle.station.specs.Ends.{IsChange}
+use Rattle.station.specs.Run.{AreAllAcked, HasWhole, IsOwnFile}
+use Rattle.station.specs.declared.run_end.Report.{Report}
+use Rattle.station.specs.declared.run_end.RunEnd.{RunEnd}
+use Rattle.station.specs.declared.run_end.RunEnd.TheVariants as ends
+use Rattle.project_job.specs.Jobs.{HasPlanned, IsOfJob, AreLoaded, cube_count}
+use Rattle.outcome_line.specs.declared.outcome.Outcome.{Outcome}
+use Rattle.outcome_line.specs.declared.outcome.Outcome.TheVariants as outcomes
+use Rattle.project_run.specs.Crew.{HasFailed, HasFirstLoaded, IsCrewJobRun, IsCrewReply, IsUncrewed, told_by}
+use Rattle.project_run.specs.Run.{DiskState, IsReplyOf}
+
+-- what follows in each case of a result
+pub match_each : {A B : Type 0} (r : Result A B) (P P' : A → Type 0) (Q Q' : B → Type 0) → MatchResult r P Q → ((a : A) → P a → P' a) → ((b : B) → Q b → Q' b) → MatchResult r P' Q'
+match_each (Ok a) P P' Q Q' is first second = first a is
+match_each (Err b) P P' Q Q' is first second = second b is
+
+-- an error is the same error of another result
+same_error : {A : Type 0} (a b : Outcome) → ◌≡◌ {A = Result A Outcome} (Err a) (Err b) → a ≡ b
+same_error a b same = cc
+
+pub error_as : {A B : Type 0} (a b : Outcome) → ◌≡◌ {A = Result A Outcome} (Err a) (Err b) → ◌≡◌ {A = Result B Outcome} (Err a) (Err b)
+error_as a b same = ap Err (same_error a b same)
+
+module _ {S : Type 0} (world : S → Option World) (faults loads : S → ℕ) (same : S → S → Type 0) where
+  -- a load that failed raised the count of its scan
+  pub has_failed : (workers all : ℕ) (Failed : Type 0) (old new : List S) → AreWorked world faults loads same workers all Failed old new → Failed → HasFailed world faults loads same old new
+  has_failed workers all Failed old new worked is =
+      let at = worked.failed is in
+      (at.0, at.1, λ scan. (worked.each at.0 scan at.1).failed at.2)
+
+  pub crew_job_run : (job : JobData) (told : Option World) (workers count : ℕ) (old new : List S) (disk disk_after : DiskState) (how : RunEnd) (report : Report) (steps : Option (List Step)) → count ≡ length old
+      → report.frames ≡ frames_of job
+      → MatchOption steps (IsUnstepped job disk.tells disk.history disk_after.history how report) (λ all. WasCrewed job told disk.tells disk.history disk_after.history all how report)
+      → (disk.tells ≡ true → IsReelRun job told disk.history disk_after.history)
+      → (how ≡ ends.Done → disk.tells ≡ true → AreAllAcked job (moment_of disk_after.history))
+      → (how ≡ ends.Done → disk.tells ≡ true → HasWhole job told disk.history disk_after.history)
+      → (disk.tells ≡ true → Spares disk.history disk_after.history (IsOwnFile job (view_of disk.history)))
+      → AreWorked world faults loads same (min workers count) report.loads (how ≡ ends.SourceFault) old new
+      → (IsChange how → 1 ≤ report.loads)
+      → (reached : Outcome) (output : List ℕ) → IsReplyOf job how report reached output
+      → IsCrewJobRun world faults loads same job told workers old new disk disk_after reached output
+  crew_job_run job told workers count old new disk disk_after how report steps all frames ran run acked whole spares scans changed reached output reply = record {
+    how = how;
+    report = report;
+    reply = reply;
+    frames = frames;
+    steps = steps;
+    ran = ran;
+    run = run;
+    acked = acked;
+    whole = whole;
+    spares = spares;
+    scans = subst (λ n. AreWorked world faults loads same (min workers n) report.loads (how ≡ ends.SourceFault) old new) all scans;
+    changed = changed;
+  }
+
+  -- what the first scan tells, all tell
+  pub all_tell : (scans : List S) → AllPairs (λ a b. world a ≡ world b) scans → All (λ scan. world scan ≡ told_by world scans) scans
+  all_tell [] pairs k d lt = absurd (omega (arith, lt))
+  all_tell (first ∷ scans) pairs zero d lt = refl
+  all_tell (first ∷ scans) pairs (suc k) d lt = sym (pairs 0 (suc k) d (omega arith) lt)
+
+  -- the first of some scans, which was used
+  module _ (used : S) where
+    pub told_still : (scans : List S) (first : S) → 0 < length scans → get_or scans 0 first ≡ first → world used ≡ world first → told_by world (set scans 0 used) ≡ told_by world scans
+    told_still [] first some is told = absurd (omega (arith, some))
+    told_still (scan ∷ scans) first some is told = told ∙ ap world (sym is)
+
+    pub still_tell : (scans : List S) (first : S) → 0 < length scans → get_or scans 0 first ≡ first → world used ≡ world first
+        → All (λ scan. world scan ≡ told_by world scans) scans → All (λ scan. world scan ≡ told_by world (set scans 0 used)) (set scans 0 used)
+    still_tell [] first some is told all k d lt = absurd (omega (arith, some))
+    still_tell (scan ∷ scans) first some is told all zero d lt = refl
+    still_tell (scan ∷ scans) first some is told all (suc k) d lt = all (suc k) d lt ∙ sym (told ∙ ap world (sym is))
+
+    pub first_loaded : (texts : ℕ) (scans : List S) (first : S) → 0 < length scans → get_or scans 0 first ≡ first → loads used ≡ count_after texts (loads first) → faults used ≡ faults first → world used ≡ world first → same first used
+        → HasFirstLoaded world faults loads same texts scans (set scans 0 used)
+    first_loaded texts [] first some is loaded steady told lent = absurd (omega (arith, some))
+    first_loaded texts (scan ∷ scans) first some is loaded steady told lent = record {
+      size = refl;
+      loaded = λ d. loaded ∙ ap (λ s. count_after texts (loads s)) (sym is);
+      steady = λ d. steady ∙ ap faults (sym is);
+      told = λ d. told ∙ ap world (sym is);
+      lent = λ d. subst (λ s. same s used) (sym is) lent;
+      others = refl;
+    }
+
+    -- a count that rose later rose over both
+    pub failed_before : (scans new : List S) (first : S) → 0 < length scans → get_or scans 0 first ≡ first → faults used ≡ faults first
+        → HasFailed world faults loads same (set scans 0 used) new → HasFailed world faults loads same scans new
+    failed_before [] new first some is steady failed = absurd (omega (arith, some))
+    failed_before (scan ∷ scans) new first some is steady failed = by failed.0 failed.1 failed.2
+      where
+        by : (k : ℕ) → k < length (used ∷ scans) → ((d : S) → HasRisen (faults (get_or (used ∷ scans) k d)) (faults (get_or new k d))) → HasFailed world faults loads same (scan ∷ scans) new
+        by zero lt rose = (zero, omega arith, λ d. subst (λ n. HasRisen n (faults (get_or new 0 d))) (steady ∙ ap faults (sym is)) (rose d))
+        by (suc k) lt rose = (suc k, lt, λ d. rose d)
+
+    pub failed_first : (scans : List S) (first : S) → 0 < length scans → get_or scans 0 first ≡ first → HasRisen (faults first) (faults used) → HasFailed world faults loads same scans (set scans 0 used)
+    failed_first [] first some is rose = absurd (omega (arith, some))
+    failed_first (scan ∷ scans) first some is rose = (0, omega arith, λ d. subst (λ n. HasRisen n (faults used)) (ap faults (sym is)) rose)
+
+    pub uncrewed : (path : List ℕ) (workers : ℕ) (scans : List S) (first : S) (disk : DiskState) (reached : Outcome) (output : List ℕ) → 0 < length scans → get_or scans 0 first ≡ first
+        → IfSome (world first) (λ files. HasPlanned (file_at files) path (Err reached)) → IsOfJob reached → AreLoaded 1 3 (loads first) (loads used) → (reached ≢ outcomes.SourceFault → faults used ≡ faults first)
+        → IsCrewReply world faults loads same path workers scans (set scans 0 used) disk disk reached output
+    uncrewed path workers [] first disk reached output some is why kind texts steady = absurd (omega (arith, some))
+    uncrewed path workers (scan ∷ scans) first disk reached output some is why kind texts steady = inr (record {
+      why = subst (λ s. IfSome (world s) (λ files. HasPlanned (file_at files) path (Err reached))) (sym is) why;
+      kind = kind;
+      untouched = refl;
+      size = refl;
+      texts = λ d. subst (λ s. AreLoaded 1 3 (loads s) (loads used)) (sym is) texts;
+      steady = λ other d. steady other ∙ ap faults (sym is);
+      others = refl;
+    })
+
+    pub crewed : (job : JobData) (path : List ℕ) (workers : ℕ) (scans new : List S) (first : S) (disk disk_after : DiskState) (reached : Outcome) (output : List ℕ) → 0 < length scans → get_or scans 0 first ≡ first
+        → IfSome (world first) (λ files. HasPlanned (file_at files) path (Ok job)) → world used ≡ world first
+        → HasFirstLoaded world faults loads same (2 + cube_count job.parts.project.cube) scans (set scans 0 used)
+        → IsCrewJobRun world faults loads same job (told_by world (set scans 0 used)) workers (set scans 0 used) new disk disk_after reached output
+        → IsCrewReply world faults loads same path workers scans new disk disk_after reached output
+    crewed job path workers scans new first disk disk_after reached output some is comes told texts ran = inl (record {
+      job = job;
+      comes = subst (λ o. IfSome o (λ files. HasPlanned (file_at files) path (Ok job))) (told_first scans some is) comes;
+      planned = set scans 0 used;
+      texts = texts;
+      ran = subst (λ o. IsCrewJobRun world faults loads same job o workers (set scans 0 used) new disk disk_after reached output) (told_still scans first some is told) ran;
+    })
+      where
+        told_first : (scans : List S) → 0 < length scans → get_or scans 0 first ≡ first → world first ≡ told_by world scans
+        told_first [] some is = absurd (omega (arith, some))
+        told_first (scan ∷ scans) some is = ap world (sym is)

@@ -1,0 +1,92 @@
+-- From a run of a job to its reply.
+use Rattle.std.proofs.Common.{◌≡◌, ℕ, ◌+◌, ◌<◌, List, length, Option, Some, None, Ok, IfSome, refl, subst, inl, inr}
+use Rattle.std.specs.Prelude.{Bool, ◌⊎◌}
+use Rattle.std.proofs.lemmas.Option.{slice_get_cases}
+use Rattle.cf_base.specs.declared.key.Key.{Key}
+use Rattle.cf_base.specs.declared.reel.ReelEntry.{ReelEntry}
+use Rattle.scan_source.specs.World.{World, file_at}
+use Rattle.source_reels.specs.Reels.{path_of_key}
+use Rattle.conform_job.specs.Answers.{count_after}
+use Rattle.conform_job.specs.Job.{JobData}
+use Rattle.conform_job.specs.Names.{Tells}
+use Rattle.reel_disk.specs.Disk.{History}
+use Rattle.station.specs.Ends.{IsEnd}
+use Rattle.station.specs.Run.{WasOpened, WasRefused, HasRefused}
+use Rattle.station.specs.declared.run_end.Report.{Report}
+use Rattle.station.specs.declared.run_end.RunEnd.{RunEnd}
+use Rattle.station.specs.declared.run_end.RunEnd.TheVariants as ends
+use Rattle.project_job.specs.Jobs.{HasPlanned, IsOfJob, cube_count}
+use Rattle.project_run.specs.Run.{DiskState, IsKnown, IsOfRun, IsJobRun, IsRunReply}
+use Rattle.project_run.specs.Status.{IsStatus, IsStatusReply}
+use Rattle.outcome_line.specs.declared.outcome.Outcome.{Outcome}
+use Rattle.outcome_line.specs.declared.outcome.Outcome.TheVariants as outcomes
+
+-- a key that has a path is of a reel in the table
+pub in_table : (entries : List ReelEntry) (key : Key) (path : List ℕ) → Some path ≡ path_of_key entries key → key.reel < length entries
+in_table entries key path has = elim (slice_get_cases entries key.reel).1 [
+  | inl at ↦ at.1
+  | inr past ↦ absurd (let none : ◌≡◌ {A = Option (List ℕ)} (Some path) None = rw past.1 at has in cc)
+]
+
+-- the scan tells what it tells
+pub tells_itself : (told : Option World) → Tells told told
+tells_itself None = tt
+tells_itself (Some world) = refl
+
+-- a run that ended by a change found one of a file that the job has
+opened_end : (job : JobData) (told : Option World) (how : RunEnd) → IsEnd job told how → IsKnown job how
+opened_end job told ends.Done is = tt
+opened_end job told (ends.OtherJob kept wanted) is = tt
+opened_end job told (ends.BadLedger len) is = tt
+opened_end job told (ends.Changed key was now) is = is.known
+opened_end job told ends.SourceFault is = tt
+opened_end job told ends.DiskFault is = tt
+opened_end job told ends.NoMemory is = tt
+
+refused_end : (job : JobData) (tells : Bool) (old new : History) (how : RunEnd) → HasRefused job tells old new how → IsKnown job how
+refused_end job tells old new ends.Done is = tt
+refused_end job tells old new (ends.OtherJob kept wanted) is = tt
+refused_end job tells old new (ends.BadLedger len) is = tt
+refused_end job tells old new (ends.Changed key was now) is = absurd is
+refused_end job tells old new ends.SourceFault is = tt
+refused_end job tells old new ends.DiskFault is = tt
+refused_end job tells old new ends.NoMemory is = tt
+
+pub is_known : (job : JobData) (told : Option World) (tells : Bool) (old new : History) (how : RunEnd) (report : Report)
+    → WasOpened job told tells old new how report ⊎ WasRefused job tells old new how report → IsKnown job how
+is_known job told tells old new how report (inl opened) = opened_end job told how opened.is_end
+is_known job told tells old new how report (inr refused) = refused_end job tells old new how refused.why
+
+-- what a job may come to in place of its parts, a run may come to
+pub of_job : (outcome : Outcome) → IsOfJob outcome → IsOfRun outcome
+of_job outcomes.Done kind = absurd kind
+of_job outcomes.Usage kind = absurd kind
+of_job (outcomes.SinkFault instead) kind = absurd kind
+of_job (outcomes.Refused refusal) kind = tt
+of_job (outcomes.OtherJob kept wanted) kind = absurd kind
+of_job (outcomes.BadLedger len) kind = absurd kind
+of_job (outcomes.Changed reel key was now) kind = absurd kind
+of_job outcomes.SourceFault kind = tt
+of_job outcomes.DiskFault kind = absurd kind
+of_job outcomes.NoMemory kind = tt
+
+pub run_in : (job : JobData) (here told : Option World) (path : List ℕ) (disk disk_after : DiskState) (loads between loads_after : ℕ) (reached : Outcome) (output : List ℕ) → here ≡ told
+    → IfSome told (λ world. HasPlanned (file_at world) path (Ok job)) → between ≡ count_after (2 + cube_count job.parts.project.cube) loads
+    → IsJobRun job here disk disk_after between loads_after reached output → IsRunReply told path disk disk_after loads loads_after reached output
+run_in job here told path disk disk_after loads between loads_after reached output same comes texts ran = inl (record {
+  job = job;
+  comes = comes;
+  planned = between;
+  texts = texts;
+  ran = subst (λ told. IsJobRun job told disk disk_after between loads_after reached output) same ran;
+})
+
+pub status_in : (job : JobData) (told : Option World) (path : List ℕ) (disk disk_after : DiskState) (loads loads_after : ℕ) (reached : Outcome) (output : List ℕ)
+    → IfSome told (λ world. HasPlanned (file_at world) path (Ok job)) → loads_after ≡ count_after (2 + cube_count job.parts.project.cube) loads
+    → IsStatus job disk disk_after reached output → IsStatusReply told path disk disk_after loads loads_after reached output
+status_in job told path disk disk_after loads loads_after reached output comes texts status = inl (record {
+  job = job;
+  comes = comes;
+  texts = texts;
+  status = status;
+})

@@ -1,0 +1,24 @@
+-- A crew's run is the reply of its command.
+use Rattle.std.proofs.Common.{◌≡◌, length, rules, refl}
+use Rattle.std.specs.Prelude.{vec_len}
+use Rattle.project_run.proofs.Crews.{crew_job_run, has_failed, match_each}
+use Rattle.project_run.proofs.crew.run_job.Goals as goal
+
+pub run_crew-end-requires-clause-job : goal.run_crew-end-requires-clause-job
+run_crew-end-requires-clause-job g c κs within = refl
+
+pub run_crew-end-requires-clause-infos : goal.run_crew-end-requires-clause-infos
+run_crew-end-requires-clause-infos g c κs within = c.requires.infos
+
+pub run_crew-end-requires-clause-start : goal.run_crew-end-requires-clause-start
+run_crew-end-requires-clause-start g c κs within = refl
+
+pub returns-clause-ran : goal.returns-clause-ran
+returns-clause-ran g c =
+    let crew = c.run_crew-end.ensures in
+    let all : vec_len c.args.scans ≡ length c.args.scans.items = search rules in
+    let run = crew_job_run g.S.Scans.world g.S.Scans.faults g.S.Scans.loads g.S.Scans.same _ _ _ _ _ _ _ _ _ _ _ all crew.frames crew.ran crew.run crew.acked crew.whole crew.spares crew.scans crew.changed in
+    match_each _ _ _ _ _ c.reply_of-result.ensures.reply (λ text reply. run _ _ reply) (λ outcome reply. run _ _ reply)
+
+pub returns-clause-failed : goal.returns-clause-failed
+returns-clause-failed g c is = has_failed g.S.Scans.world g.S.Scans.faults g.S.Scans.loads g.S.Scans.same _ _ _ _ _ c.run_crew-end.ensures.scans (c.reply_of-result.ensures.source.0 is)

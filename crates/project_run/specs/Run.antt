@@ -1,0 +1,110 @@
+-- The command `run`: the reel of a project's job, rendered into the reel folder. All of it is this project's own rule.
+--     DiskState, disk_state      what a disk tells at a moment, and its count of faults
+--     HasRun      the project came to a job, and the job was run in the folder
+--     IsUnplanned      it came to none, and the folder is as it was
+use Rattle.std.specs.Prelude.{◌≡◌, ◌⊎◌, ℕ, ◌+◌, ◌≤◌, Bool, true, List, [], ◌∷◌, ◌++◌, codes, decimal, slice_get, unwrap_or, Option, Some, IfSome, Ok, Err}
+use Rattle.std.specs.Option.{option_map}
+use Rattle.cf_base.specs.declared.reel.ReelEntry.{ReelEntry}
+use Rattle.scan_source.specs.World.{World, file_at}
+use Rattle.reel_disk.specs.Disk.{History, moment_of, view_of}
+use Rattle.reel_disk.specs.Runs.{Spares}
+use Rattle.reel_writer.specs.Reel.{frames_of, IsReelRun}
+use Rattle.conform_job.specs.Answers.{count_after}
+use Rattle.conform_job.specs.Job.{JobData}
+use Rattle.conform_job.specs.Keys.{info_at}
+use Rattle.station.specs.Run.{WasOpened, WasRefused, AreAllAcked, HasWhole, IsOwnFile}
+use Rattle.station.specs.declared.run_end.Report.{Report}
+use Rattle.station.specs.declared.run_end.RunEnd.{RunEnd}
+use Rattle.station.specs.declared.run_end.RunEnd.TheVariants as ends
+use Rattle.project_job.specs.Jobs.{ComesTo, HasPlanned, IsOfJob, AreLoaded, cube_count}
+use Rattle.printed_text.specs.Text.{spaced_line}
+use Rattle.outcome_line.specs.declared.outcome.Outcome.{Outcome}
+use Rattle.outcome_line.specs.declared.outcome.Outcome.TheVariants as outcome
+
+-- from 1 to 16
+abbrev pub IsShareCount : ℕ → Type 0
+IsShareCount n = (1 ≤ n) × (n ≤ 16)
+
+pub record DiskState : Type 0 where
+  pub tells : Bool
+  pub history : History
+  pub faults : ℕ
+
+-- of a disk, by its meanings
+abbrev pub disk_state : {D : Type 0} → Bool → (D → History) → (D → ℕ) → D → DiskState
+disk_state tells history faults disk = record { tells = tells; history = history disk; faults = faults disk }
+
+-- the frames of the reel, those that were acknowledged at the opening, and the rendered ones
+abbrev pub run_text : Report → List ℕ
+run_text report =
+    spaced_line (codes "frames" ∷ decimal report.frames ∷ [])
+    ++ spaced_line (codes "kept" ∷ decimal report.kept ∷ [])
+    ++ spaced_line (codes "rendered" ∷ decimal report.rendered ∷ [])
+
+-- the name of a reel by its place
+abbrev pub name_in : List ReelEntry → ℕ → List ℕ
+name_in entries reel = unwrap_or (option_map (λ (e : ReelEntry). e.name) (slice_get entries reel)) []
+
+-- the outcome of a run that ended so
+abbrev pub outcome_of_end : List ReelEntry → RunEnd → Outcome
+outcome_of_end entries ends.Done = outcome.Done
+outcome_of_end entries (ends.OtherJob kept wanted) = outcome.OtherJob kept wanted
+outcome_of_end entries (ends.BadLedger len) = outcome.BadLedger len
+outcome_of_end entries (ends.Changed key was now) = outcome.Changed (name_in entries key.reel) key was now
+outcome_of_end entries ends.SourceFault = outcome.SourceFault
+outcome_of_end entries ends.DiskFault = outcome.DiskFault
+outcome_of_end entries ends.NoMemory = outcome.NoMemory
+
+-- What a run that ended so and did that comes to: the outcome of its end, or want of memory for the report.
+pub record IsReplyOf (job : JobData) (how : RunEnd) (report : Report) (reached : Outcome) (output : List ℕ) : Type 0 where
+  pub reached_is : (reached ≡ outcome_of_end job.parts.reels how) ⊎ (reached ≡ outcome.NoMemory)
+  pub form : reached ≡ outcome.Done → output ≡ run_text report
+
+-- a source file that changed is one that the job has
+abbrev pub IsKnown : JobData → RunEnd → Type 0
+IsKnown job (ends.Changed key was now) = info_at job.infos key ≡ Some was
+IsKnown job other = Unit {0}
+
+-- The job was run in the folder. At every moment of the run each frame that a crash leaves acknowledged is the definition's,
+-- and no acknowledgement is lost; at Done the folder has the whole reel.
+pub record IsJobRun (job : JobData) (told : Option World) (disk disk_after : DiskState) (loads loads_after : ℕ) (reached : Outcome) (output : List ℕ) : Type 0 where
+  pub how : RunEnd
+  pub report : Report
+  pub reply : IsReplyOf job how report reached output
+  pub frames : report.frames ≡ frames_of job
+  -- what the folder acknowledged and does now, what was rendered, and what was loaded; or why the folder was not opened
+  pub ran : WasOpened job told disk.tells disk.history disk_after.history how report ⊎ WasRefused job disk.tells disk.history disk_after.history how report
+  -- the crash promise
+  pub run : disk.tells ≡ true → IsReelRun job told disk.history disk_after.history
+  pub acked : how ≡ ends.Done → disk.tells ≡ true → AreAllAcked job (moment_of disk_after.history)
+  pub whole : how ≡ ends.Done → disk.tells ≡ true → HasWhole job told disk.history disk_after.history
+  -- what it wrote: the ledger's files, and those of frames that the folder didn't acknowledge
+  pub spares : disk.tells ≡ true → Spares disk.history disk_after.history (IsOwnFile job (view_of disk.history))
+  pub loaded : loads_after ≡ count_after report.loads loads
+
+-- The project came to this job, which was run in the folder.
+pub record HasRun (told : Option World) (path : List ℕ) (disk disk_after : DiskState) (loads loads_after : ℕ) (reached : Outcome) (output : List ℕ) : Type 0 where
+  pub job : JobData
+  pub comes : IfSome told (λ world. ComesTo (file_at world) path (Ok job.parts))
+  -- the loads when it was planned
+  pub planned : ℕ
+  pub texts : planned ≡ count_after (2 + cube_count job.parts.project.cube) loads
+  pub ran : IsJobRun job told disk disk_after planned loads_after reached output
+
+-- The project came to no job, and the folder is as it was.
+pub record IsUnplanned (told : Option World) (path : List ℕ) (disk disk_after : DiskState) (loads loads_after : ℕ) (reached : Outcome) : Type 0 where
+  pub why : IfSome told (λ world. HasPlanned (file_at world) path (Err reached))
+  pub kind : IsOfJob reached
+  pub untouched : disk_after ≡ disk
+  pub texts : AreLoaded 1 3 loads loads_after
+
+abbrev pub IsRunReply : Option World → List ℕ → DiskState → DiskState → ℕ → ℕ → Outcome → List ℕ → Type 0
+IsRunReply told path disk disk_after loads loads_after reached output =
+    HasRun told path disk disk_after loads loads_after reached output ⊎ IsUnplanned told path disk disk_after loads loads_after reached
+
+-- the outcomes that a run of a job may come to in place of Done
+abbrev pub IsOfRun : Outcome → Type 0
+IsOfRun outcome.Done = ⊥
+IsOfRun outcome.Usage = ⊥
+IsOfRun (outcome.SinkFault instead) = ⊥
+IsOfRun other = Unit {0}

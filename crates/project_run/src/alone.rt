@@ -1,0 +1,84 @@
+//! A run on one thread.
+ghost use Rattle.std.specs.Prelude.{◌≡◌, ◌≢◌, ◌≤◌, Err, MatchResult};
+ghost use Rattle.cf_base.specs.Count.{HasRisen};
+ghost use Rattle.conform_job.specs.Answers.{AreInfosOf};
+ghost use Rattle.outcome_line.specs.Output.{line_of};
+ghost use Rattle.project_run.specs.Run.{IsJobRun, IsOfRun, IsRunReply, IsShareCount, disk_state};
+
+use crate::report::reply_of;
+use cf_base::PathText;
+use conform_job::Job;
+use outcome_line::Outcome;
+use project_job::planned;
+use reel_disk::Disk;
+use scan_source::Scans;
+use station::run_alone;
+use std::alloc::Global;
+use std::marker::Brand;
+
+/// The report of a run of the project at a path in the reel folder, on one thread, or the outcome that was reached.
+///
+/// First the project is planned: what refuses it, `SourceFault` and `NoMemory` leave the folder as it was. Then the job is
+/// run: `OtherJob` and `BadLedger` where the folder is so, `Changed` where a source file isn't what the plan found,
+/// `SourceFault` and `DiskFault` only where the count of the scan or of the disk rose. `share` is from 1 to 16.
+pub fn run<S: Scans, D: Disk>(
+    alloc: Global,
+    path: &PathText,
+    share: u16,
+    scan: &mut S,
+    disk: &mut D,
+) -> Result<Vec<u8>, Outcome>
+    requires { IsShareCount share }
+    ensures folder { MatchResult result
+        (λ text. IsRunReply (S.world scan.old) path.now (disk_state D.tells D.history D.faults disk.old) (disk_state D.tells D.history D.faults disk.new) (S.loads scan.old) (S.loads scan.new) Outcome.Done text.items)
+        (λ outcome. IsRunReply (S.world scan.old) path.now (disk_state D.tells D.history D.faults disk.old) (disk_state D.tells D.history D.faults disk.new) (S.loads scan.old) (S.loads scan.new) outcome (line_of outcome)) }
+    ensures kind { MatchResult result (λ text. Unit {0}) IsOfRun }
+
+    ensures failed { result ≡ Err Outcome.SourceFault → HasRisen (S.faults scan.old) (S.faults scan.new) }
+    ensures steady { result ≢ Err Outcome.SourceFault → S.faults scan.new ≡ S.faults scan.old }
+    ensures later { S.faults scan.old ≤ S.faults scan.new }
+    ensures world { S.world scan.new ≡ S.world scan.old }
+    ensures same { S.same scan.old scan.new }
+
+    ensures disk_fault { result ≡ Err Outcome.DiskFault → HasRisen (D.faults disk.old) (D.faults disk.new) }
+    ensures disk_steady { result ≢ Err Outcome.DiskFault → D.faults disk.new ≡ D.faults disk.old }
+    ensures disk_later { D.faults disk.old ≤ D.faults disk.new }
+{
+    let job = match planned(alloc, path, scan) {
+        Ok(job) => job,
+        Err(outcome) => return Err(outcome),
+    };
+    match run_job(alloc, &job, share, scan, disk) {
+        Ok(text) => Ok(text),
+        Err(outcome) => Err(outcome),
+    }
+}
+
+/// The report of a run of a job, or the outcome that was reached.
+fn run_job<S: Scans, D: Disk>(
+    alloc: Global,
+    job: &Job,
+    share: u16,
+    scan: &mut S,
+    disk: &mut D,
+) -> Result<Vec<u8>, Outcome>
+    requires share { IsShareCount share }
+    requires infos { AreInfosOf job.now.parts (S.world scan.old) job.now.infos }
+    ensures ran { MatchResult result
+        (λ text. IsJobRun job.now (S.world scan.old) (disk_state D.tells D.history D.faults disk.old) (disk_state D.tells D.history D.faults disk.new) (S.loads scan.old) (S.loads scan.new) Outcome.Done text.items)
+        (λ outcome. IsJobRun job.now (S.world scan.old) (disk_state D.tells D.history D.faults disk.old) (disk_state D.tells D.history D.faults disk.new) (S.loads scan.old) (S.loads scan.new) outcome (line_of outcome)) }
+    ensures kind { MatchResult result (λ text. Unit {0}) IsOfRun }
+
+    ensures failed { result ≡ Err Outcome.SourceFault → HasRisen (S.faults scan.old) (S.faults scan.new) }
+    ensures steady { result ≢ Err Outcome.SourceFault → S.faults scan.new ≡ S.faults scan.old }
+    ensures later { S.faults scan.old ≤ S.faults scan.new }
+    ensures world { S.world scan.new ≡ S.world scan.old }
+    ensures same { S.same scan.old scan.new }
+
+    ensures disk_fault { result ≡ Err Outcome.DiskFault → HasRisen (D.faults disk.old) (D.faults disk.new) }
+    ensures disk_steady { result ≢ Err Outcome.DiskFault → D.faults disk.new ≡ D.faults disk.old }
+    ensures disk_later { D.faults disk.old ≤ D.faults disk.new }
+{
+    let (end, report, _) = run_alone::<Brand, S, D>(alloc, job, scan, disk, u32::from(share));
+    reply_of(alloc, job, end, &report)
+}

@@ -1,0 +1,117 @@
+//! A run by a crew.
+ghost use Rattle.std.specs.Prelude.{◌≡◌, ◌≢◌, ◌≤◌, true, All, AllPairs, Err, MatchResult, length, vec_len};
+ghost use Rattle.cf_base.specs.Count.{HasRisen};
+ghost use Rattle.conform_job.specs.Answers.{AreInfosOf};
+ghost use Rattle.outcome_line.specs.Output.{line_of};
+ghost use Rattle.project_run.specs.Crew.{HasFailed, IsCrewJobRun, IsCrewReply, told_by};
+ghost use Rattle.project_run.specs.Run.{IsOfRun, IsShareCount, disk_state};
+
+use crate::report::reply_of;
+use cf_base::PathText;
+use conform_job::Job;
+use outcome_line::Outcome;
+use project_job::planned;
+use reel_disk::Disk;
+use scan_source::Scans;
+use station::{Crew, run_crew};
+use std::alloc::Global;
+use std::marker::Brand;
+use std::sync::Wait;
+use std::thread::Threads;
+
+/// What a run by a crew comes to, with what it was handed.
+pub struct CrewEnded<S, D> {
+    /// The report, or the outcome that was reached.
+    pub result: Result<Vec<u8>, Outcome>,
+    /// The scans, the k-th as the k-th.
+    pub scans: Vec<S>,
+    /// The disk.
+    pub disk: D,
+}
+
+/// The report of a run of the project at a path in the reel folder, by so many workers, or the outcome that was reached. The
+/// scans tell one world, or none does; the disk was never used.
+///
+/// The project is planned with the first scan; then each of the first `workers` scans has a worker. The outcomes are those of
+/// a run on one thread, and come for the same causes. It may wait for the lock that the workers share.
+pub fn run_crewed<S: Scans + Send, D: Disk + Send, R: Threads + Wait + Sync>(
+    rt: &R,
+    alloc: Global,
+    path: &PathText,
+    workers: u16,
+    share: u16,
+    mut scans: Vec<S>,
+    disk: D,
+) -> CrewEnded<S, D>
+    requires scans { (1 ≤ vec_len scans) × (vec_len scans ≤ 16) }
+    requires one_world { AllPairs (λ a b. S.world a ≡ S.world b) scans.items }
+    requires workers { (1 ≤ workers) × (workers ≤ 16) }
+    requires share { IsShareCount share }
+    requires no_fault { D.faults disk ≡ 0 }
+    requires first_moment { D.tells ≡ true → (D.history disk).now ≡ 0 }
+    ensures reply { MatchResult result.result
+        (λ text. IsCrewReply S.world S.faults S.loads S.same path.now workers scans.items result.scans.items (disk_state D.tells D.history D.faults disk) (disk_state D.tells D.history D.faults result.disk) Outcome.Done text.items)
+        (λ outcome. IsCrewReply S.world S.faults S.loads S.same path.now workers scans.items result.scans.items (disk_state D.tells D.history D.faults disk) (disk_state D.tells D.history D.faults result.disk) outcome (line_of outcome)) }
+    ensures kind { MatchResult result.result (λ text. Unit {0}) IsOfRun }
+    ensures handed_back { vec_len result.scans ≡ vec_len scans }
+
+    ensures failed { result.result ≡ Err Outcome.SourceFault → HasFailed S.world S.faults S.loads S.same scans.items result.scans.items }
+    ensures disk_fault { result.result ≡ Err Outcome.DiskFault → HasRisen (D.faults disk) (D.faults result.disk) }
+    ensures disk_later { D.faults disk ≤ D.faults result.disk }
+{
+    let job = match planned(alloc, path, &mut scans[0]) {
+        Ok(job) => job,
+        Err(outcome) => {
+            return CrewEnded {
+                result: Err(outcome),
+                scans,
+                disk,
+            };
+        }
+    };
+    run_job(rt, alloc, &job, workers, share, scans, disk)
+}
+
+/// The report of a run of a job by so many workers, or the outcome that was reached.
+fn run_job<S: Scans + Send, D: Disk + Send, R: Threads + Wait + Sync>(
+    rt: &R,
+    alloc: Global,
+    job: &Job,
+    workers: u16,
+    share: u16,
+    scans: Vec<S>,
+    disk: D,
+) -> CrewEnded<S, D>
+    requires scans { (1 ≤ vec_len scans) × (vec_len scans ≤ 16) }
+    requires one_world { All (λ scan. S.world scan ≡ told_by S.world scans.items) scans.items }
+    requires workers { (1 ≤ workers) × (workers ≤ 16) }
+    requires share { IsShareCount share }
+    requires infos { AreInfosOf job.now.parts (told_by S.world scans.items) job.now.infos }
+    requires no_fault { D.faults disk ≡ 0 }
+    requires first_moment { D.tells ≡ true → (D.history disk).now ≡ 0 }
+    ensures ran { MatchResult result.result
+        (λ text. IsCrewJobRun S.world S.faults S.loads S.same job.now (told_by S.world scans.items) workers scans.items result.scans.items (disk_state D.tells D.history D.faults disk) (disk_state D.tells D.history D.faults result.disk) Outcome.Done text.items)
+        (λ outcome. IsCrewJobRun S.world S.faults S.loads S.same job.now (told_by S.world scans.items) workers scans.items result.scans.items (disk_state D.tells D.history D.faults disk) (disk_state D.tells D.history D.faults result.disk) outcome (line_of outcome)) }
+    ensures kind { MatchResult result.result (λ text. Unit {0}) IsOfRun }
+    ensures handed_back { vec_len result.scans ≡ vec_len scans }
+
+    ensures failed { result.result ≡ Err Outcome.SourceFault → HasFailed S.world S.faults S.loads S.same scans.items result.scans.items }
+    ensures disk_fault { result.result ≡ Err Outcome.DiskFault → HasRisen (D.faults disk) (D.faults result.disk) }
+    ensures disk_later { D.faults disk ≤ D.faults result.disk }
+{
+    let _ = job.count();
+    let Crew {
+        end,
+        report,
+        history: _,
+        log: _,
+        scans,
+        disk,
+    } = run_crew::<Brand, S, D, R>(rt, alloc, job, scans, workers, disk, u32::from(share));
+    let result = reply_of(alloc, job, end, &report);
+    CrewEnded {
+        result,
+        scans,
+        disk,
+    }
+}

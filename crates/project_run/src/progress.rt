@@ -1,0 +1,99 @@
+//! The command `status`.
+ghost use Rattle.std.specs.Prelude.{◌≡◌, ◌≢◌, ◌≤◌, Ok, Err, IfOk, MatchResult};
+ghost use Rattle.cf_base.specs.Count.{HasRisen};
+ghost use Rattle.outcome_line.specs.Output.{line_of};
+ghost use Rattle.project_run.specs.Run.{IsOfRun, disk_state};
+ghost use Rattle.project_run.specs.Status.{IsStatus, IsStatusReply, outcome_of_peek, status_text};
+
+use cf_base::PathText;
+use conform_job::Job;
+use outcome_line::Outcome;
+use printed_text::{put_bytes, put_number};
+use project_job::planned;
+use reel_disk::Disk;
+use resume_ledger::{Ledger, OpenFault};
+use scan_source::Scans;
+use std::alloc::{AllocError, Global};
+
+/// How many frames the reel of the project at a path has, and how many of them the reel folder acknowledges, or the outcome
+/// that was reached. The folder is looked at alone: no call but a length and a read is made on it, and none at all where the
+/// project is refused.
+///
+/// `OtherJob`, `BadLedger` and `DiskFault` come as they do for a run.
+pub fn status<S: Scans, D: Disk>(
+    alloc: Global,
+    path: &PathText,
+    scan: &mut S,
+    disk: &mut D,
+) -> Result<Vec<u8>, Outcome>
+    ensures folder { MatchResult result
+        (λ text. IsStatusReply (S.world scan.old) path.now (disk_state D.tells D.history D.faults disk.old) (disk_state D.tells D.history D.faults disk.new) (S.loads scan.old) (S.loads scan.new) Outcome.Done text.items)
+        (λ outcome. IsStatusReply (S.world scan.old) path.now (disk_state D.tells D.history D.faults disk.old) (disk_state D.tells D.history D.faults disk.new) (S.loads scan.old) (S.loads scan.new) outcome (line_of outcome)) }
+    ensures kind { MatchResult result (λ text. Unit {0}) IsOfRun }
+
+    ensures failed { result ≡ Err Outcome.SourceFault → HasRisen (S.faults scan.old) (S.faults scan.new) }
+    ensures steady { result ≢ Err Outcome.SourceFault → S.faults scan.new ≡ S.faults scan.old }
+    ensures later { S.faults scan.old ≤ S.faults scan.new }
+    ensures world { S.world scan.new ≡ S.world scan.old }
+    ensures same { S.same scan.old scan.new }
+
+    ensures disk_fault { result ≡ Err Outcome.DiskFault → HasRisen (D.faults disk.old) (D.faults disk.new) }
+    ensures disk_steady { result ≢ Err Outcome.DiskFault → D.faults disk.new ≡ D.faults disk.old }
+    ensures disk_later { D.faults disk.old ≤ D.faults disk.new }
+{
+    let job = match planned(alloc, path, scan) {
+        Ok(job) => job,
+        Err(outcome) => return Err(outcome),
+    };
+    match status_of(alloc, &job, disk) {
+        Ok(text) => Ok(text),
+        Err(outcome) => Err(outcome),
+    }
+}
+
+/// How many frames of a job the reel folder acknowledges, or the outcome that was reached.
+fn status_of<D: Disk>(alloc: Global, job: &Job, disk: &mut D) -> Result<Vec<u8>, Outcome>
+    ensures status { MatchResult result
+        (λ text. IsStatus job.now (disk_state D.tells D.history D.faults disk.old) (disk_state D.tells D.history D.faults disk.new) Outcome.Done text.items)
+        (λ outcome. IsStatus job.now (disk_state D.tells D.history D.faults disk.old) (disk_state D.tells D.history D.faults disk.new) outcome (line_of outcome)) }
+    ensures kind { MatchResult result (λ text. Unit {0}) IsOfRun }
+    ensures never { result ≢ Err Outcome.SourceFault }
+
+    ensures disk_fault { result ≡ Err Outcome.DiskFault → HasRisen (D.faults disk.old) (D.faults disk.new) }
+    ensures disk_steady { result ≢ Err Outcome.DiskFault → D.faults disk.new ≡ D.faults disk.old }
+    ensures disk_later { D.faults disk.old ≤ D.faults disk.new }
+{
+    let count = job.timeline().count();
+    match Ledger::peek(alloc, disk, job.digest(), count) {
+        Ok(acked) => match status_text(alloc, count, acked) {
+            Ok(text) => Ok(text),
+            Err(_) => Err(Outcome::NoMemory),
+        },
+        Err(fault) => Err(outcome_of_peek(fault)),
+    }
+}
+
+/// The outcome of a look at the folder.
+fn outcome_of_peek(fault: OpenFault) -> Outcome
+    ensures { result ≡ outcome_of_peek (Err fault) }
+{
+    match fault {
+        OpenFault::OtherJob { kept, wanted } => Outcome::OtherJob { kept, wanted },
+        OpenFault::BadLedger { len } => Outcome::BadLedger { len },
+        OpenFault::DiskFault => Outcome::DiskFault,
+        OpenFault::NoMemory => Outcome::NoMemory,
+    }
+}
+
+/// The frames of the reel, and those that the folder acknowledges.
+fn status_text(alloc: Global, frames: u32, acked: u32) -> Result<Vec<u8>, AllocError>
+    ensures { IfOk result (λ text. text.items ≡ status_text frames acked) }
+{
+    let mut text = Vec::new(alloc);
+    put_bytes(&mut text, b"frames ")?;
+    put_number(&mut text, frames)?;
+    put_bytes(&mut text, b"\nacknowledged ")?;
+    put_number(&mut text, acked)?;
+    put_bytes(&mut text, b"\n")?;
+    Ok(text)
+}

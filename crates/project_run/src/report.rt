@@ -1,0 +1,85 @@
+//! What a run of a job comes to: its report, or an outcome.
+ghost use Rattle.std.specs.Prelude.{◌≡◌, ◌↔◌, Some, Err, IfOk, MatchResult};
+ghost use Rattle.conform_job.specs.Keys.{info_at};
+ghost use Rattle.outcome_line.specs.Output.{line_of};
+ghost use Rattle.project_run.specs.Run.{IsKnown, IsOfRun, IsReplyOf, name_in, outcome_of_end, run_text};
+ghost use Rattle.outcome_line.specs.declared.outcome.Outcome.TheVariants as outcomes;
+
+use cf_base::Key;
+use conform_job::Job;
+use dpx_header::FrameInfo;
+use outcome_line::Outcome;
+use printed_text::{put_bytes, put_number};
+use source_reels::Seen;
+use station::{Report, RunEnd};
+use std::alloc::{AllocError, Global};
+
+/// The report of a run that ended so, or its outcome.
+pub(crate) fn reply_of(
+    alloc: Global,
+    job: &Job,
+    end: RunEnd,
+    report: &Report,
+) -> Result<Vec<u8>, Outcome>
+    requires { IsKnown job.now end }
+    ensures reply { MatchResult result
+        (λ text. IsReplyOf job.now end report.now Outcome.Done text.items)
+        (λ outcome. IsReplyOf job.now end report.now outcome (line_of outcome)) }
+    ensures kind { MatchResult result (λ text. Unit {0}) IsOfRun }
+    ensures source { (result ≡ Err Outcome.SourceFault) ↔ (end ≡ RunEnd.SourceFault) }
+    ensures disk { (result ≡ Err Outcome.DiskFault) ↔ (end ≡ RunEnd.DiskFault) }
+{
+    if let RunEnd::Done = end {
+        return match run_text(alloc, report) {
+            Ok(text) => Ok(text),
+            Err(_) => Err(Outcome::NoMemory),
+        };
+    }
+    Err(outcome_of_end(job, end))
+}
+
+/// The frames of the reel, those that were acknowledged at the opening, and the rendered ones.
+fn run_text(alloc: Global, report: &Report) -> Result<Vec<u8>, AllocError>
+    ensures { IfOk result (λ text. text.items ≡ run_text report.now) }
+{
+    let mut text = Vec::new(alloc);
+    put_bytes(&mut text, b"frames ")?;
+    put_number(&mut text, report.frames)?;
+    put_bytes(&mut text, b"\nkept ")?;
+    put_number(&mut text, report.kept)?;
+    put_bytes(&mut text, b"\nrendered ")?;
+    put_number(&mut text, report.rendered)?;
+    put_bytes(&mut text, b"\n")?;
+    Ok(text)
+}
+
+/// The outcome of a run that ended so.
+fn outcome_of_end(job: &Job, end: RunEnd) -> Outcome
+    requires { IsKnown job.now end }
+    ensures { result ≡ outcome_of_end job.now.parts.reels end }
+{
+    match end {
+        RunEnd::Done => Outcome::Done,
+        RunEnd::OtherJob { kept, wanted } => Outcome::OtherJob { kept, wanted },
+        RunEnd::BadLedger { len } => Outcome::BadLedger { len },
+        RunEnd::Changed { key, was, now } => changed(job, key, was, now),
+        RunEnd::SourceFault => Outcome::SourceFault,
+        RunEnd::DiskFault => Outcome::DiskFault,
+        RunEnd::NoMemory => Outcome::NoMemory,
+    }
+}
+
+/// The outcome of a source file that isn't what the job has for its key.
+fn changed(job: &Job, key: Key, was: FrameInfo, now: Seen) -> Outcome
+    requires { info_at job.now.infos key ≡ Some was }
+    ensures { result ≡ outcomes.Changed (name_in job.now.parts.reels key.reel) key was now }
+{
+    let _ = job.count();
+    let _ = job.path_of(key);
+    Outcome::Changed {
+        reel: *job.reels().name_of(key.reel),
+        key,
+        was,
+        now,
+    }
+}

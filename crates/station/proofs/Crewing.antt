@@ -1,0 +1,162 @@
+-- What a crew leaves, from what the station kept.
+use Rattle.std.proofs.Common.{◌≡◌, inl, inr, ℕ, zero, suc, ◌+◌, ◌<◌, ◌≤◌, Bool, true, false, List, [], ◌∷◌, length, get_or, slice_get, refl, sym, ◌∙◌, ap, subst, arith}
+use Rattle.std.specs.Prelude.{◌↔◌, ◌⊎◌, Option, Some, None, IfSome, MatchOption, count_by, is_some}
+use Rattle.std.proofs.lemmas.Bool.{false≢true, true≢false}
+use Rattle.std.proofs.lemmas.Option.{same_Some}
+use Rattle.cf_base.specs.declared.file.FileId.{FileId}
+use Rattle.scan_source.specs.World.{World}
+use Rattle.conform_job.specs.Job.{JobData}
+use Rattle.reel_disk.specs.Disk.{Files, Moment, History, IsLoose, moment_of, view_of}
+use Rattle.reel_disk.specs.Runs.{Spares, Surely}
+use Rattle.reel_disk.proofs.Sparing.{spares_wider}
+use Rattle.resume_ledger.specs.Ledger.{IsFit}
+use Rattle.render_board.specs.Board.{Log, has_stop, is_done}
+use Rattle.render_board.specs.History.{finished_of, first_why, is_disk, stops_of}
+use Rattle.render_board.specs.declared.step.Step.{Step}
+use Rattle.render_board.specs.declared.step.Step.TheVariants.{Claim, Finish, Stop}
+use Rattle.render_board.specs.declared.step.Why.{Why}
+use Rattle.render_board.specs.declared.step.Why.TheVariants.{Source, Disk, Memory, Changed}
+use Rattle.reel_writer.specs.Reel.{frames_of, HasAcked, IsReelRun}
+use Rattle.station.specs.declared.run_end.Report.{Report}
+use Rattle.station.specs.declared.run_end.RunEnd.{RunEnd}
+use Rattle.station.specs.declared.run_end.RunEnd.TheVariants.{Done, Changed as IsNow, SourceFault, DiskFault, NoMemory}
+use Rattle.station.specs.Crews.{IsCrewRun, WasCrewed, end_by, log_of}
+use Rattle.station.specs.Ends.{IsEnd}
+use Rattle.station.specs.Run.{AreAllAcked, IsOwnFile}
+use Rattle.station.specs.Station.{IsStation, StationView, HasChanges, IsCrewFile, ShowsDone, at_start, start_of}
+use Rattle.reel_writer.specs.View.{IsReelOf}
+use Rattle.station.proofs.Closing.{images_acked, own_file}
+use Rattle.station.proofs.Gathering.{end_done, no_first}
+use Rattle.station.proofs.Opening.{run_back, start_at}
+use Rattle.station.proofs.Resting.{closed_has_stop}
+use Rattle.station.proofs.StationKeeps.{open_shows}
+
+-- where the first stop stands
+first_at : (steps : List Step) (why : Why) → first_why steps ≡ Some why → (k : ℕ) × (w : ℕ) × (slice_get steps k ≡ Some (Stop w why))
+first_at [] why first = cc
+first_at (Claim w i ∷ steps) why first = let found = first_at steps why first in (suc found.0, found.1, found.2)
+first_at (Finish w i ∷ steps) why first = let found = first_at steps why first in (suc found.0, found.1, found.2)
+first_at (Stop w other ∷ steps) why first = (0, w, ap (λ (y : Why). Some (Stop w y)) (same_Some _ _ first))
+
+-- a run that goes by its steps ends as one may
+ends_so : (job : JobData) (told : Option World) (steps : List Step) (why : Option Why) → HasChanges job told steps → first_why steps ≡ why → IsEnd job told (end_by why)
+ends_so job told steps None changes first = tt
+ends_so job told steps (Some Source) changes first = tt
+ends_so job told steps (Some Disk) changes first = tt
+ends_so job told steps (Some Memory) changes first = tt
+ends_so job told steps (Some (Changed key was now)) changes first = let at = first_at steps (Changed key was now) first in changes at.0 at.1 key was now at.2
+
+-- a board that was made has steps
+pub by_steps : {A : Type 0} (o : Option A) (N : Type 0) (P Q : A → Type 0) → is_some o ≡ true → IfSome o P → ((a : A) → P a → Q a) → MatchOption o N Q
+by_steps None N P Q some made each = absurd (false≢true some)
+by_steps (Some a) N P Q some made each = each a made
+
+pub with_steps : {A : Type 0} (o : Option A) (P : A → Type 0) (Q : Type 0) → is_some o ≡ true → IfSome o P → ((a : A) → P a → Q) → Q
+with_steps None P Q some made each = absurd (false≢true some)
+with_steps (Some a) P Q some made each = each a made
+
+module _ {D : Type 0} (job : JobData) (told : Option World) (start : Option Moment) (tells : Bool) (history : D → History) (faults : D → ℕ) (disk other : D) (steps : List Step) (end : RunEnd) (report : Report)
+    (start_is : start ≡ start_of tells (history disk)) (at_zero : tells ≡ true → (history disk).now ≡ 0) (made : IsCrewRun job told start tells history faults steps end report other) where
+  abbrev v : StationView D
+  v = made.station
+
+  began : tells ≡ true → (history disk).past 0 ≡ (history v.reel.disk).past 0
+  began = by tells (sym start_is ∙ made.is.began)
+    where
+      by : (t : Bool) → start_of t (history disk) ≡ start_of t (history v.reel.disk) → t ≡ true → (history disk).past 0 ≡ (history v.reel.disk).past 0
+      by true same is = same_Some _ _ same
+      by false same is = absurd (true≢false (sym is))
+
+  pub crew_run : tells ≡ true → IsReelRun job told (history disk) (history other)
+  crew_run t =
+      subst (λ (d : D). IsReelRun job told (history disk) (history d)) made.disk_is
+      (run_back job told (history disk) (history v.reel.disk) (at_zero t)
+      (start_at job told (history disk) (history v.reel.disk) (began t) (made.is.run t)))
+
+  opening : tells ≡ true → (k : ℕ) → (get_or v.log.start k false ≡ true) ↔ HasAcked job k (view_of (history disk))
+  opening t = by tells start_is made.is.from t
+    where
+      by : (b : Bool) → start ≡ start_of b (history disk) → IfSome start (λ moment. (i : ℕ) → (get_or v.log.start i false ≡ true) ↔ HasAcked job i moment.view) → b ≡ true
+          → (k : ℕ) → (get_or v.log.start k false ≡ true) ↔ HasAcked job k (view_of (history disk))
+      by true same from is =
+          subst (λ (n : ℕ). (k : ℕ) → (get_or v.log.start k false ≡ true) ↔ HasAcked job k ((history disk).past n).view) (sym (at_zero t))
+          (subst (λ (s : Option Moment). IfSome s (λ moment. (i : ℕ) → (get_or v.log.start i false ≡ true) ↔ HasAcked job i moment.view)) same from)
+      by false same from is = absurd (true≢false (sym is))
+
+  pub crew_spares : tells ≡ true → Spares (history disk) (history other) (IsOwnFile job (view_of (history disk)))
+  crew_spares t =
+      subst (λ (d : D). Spares (history disk) (history d) (IsOwnFile job (view_of (history disk)))) made.disk_is
+      (spares_wider (history disk) (history v.reel.disk) (IsCrewFile job v.log.start) (IsOwnFile job (view_of (history disk))) own
+      (based (made.is.spares t)))
+    where
+      own : (q : FileId) → IsCrewFile job v.log.start q → IsOwnFile job (view_of (history disk)) q
+      own q (inl ledger) = inl ledger
+      own q (inr frame) = own_file job v.log.start (view_of (history disk)) (opening t) q frame
+
+      same : (history disk).past (history disk).now ≡ (history v.reel.disk).past 0
+      same = ap (history disk).past (at_zero t) ∙ began t
+
+      based : Spares (at_start (history v.reel.disk)) (history v.reel.disk) (IsCrewFile job v.log.start) → Spares (history disk) (history v.reel.disk) (IsCrewFile job v.log.start)
+      based spares = record {
+        files = λ m from to q others. spares.files m (omega arith) to q others ∙ ap (λ (x : Moment). x.view q) (sym same);
+        loose = λ m from to p others there. subst (λ (x : Moment). IsLoose x.loose p) (sym same) (spares.loose m (omega arith) to p others there);
+      }
+
+  ends_here : end ≡ end_by (first_why v.log.steps)
+  ends_here = made.ends ∙ ap (λ (l : List Step). end_by (first_why l)) (sym made.steps_are)
+
+  open_still : stops_of is_disk v.log.steps ≡ 0 → v.reel.ledger.closed ≡ false
+  open_still none = by v.reel.ledger.closed made.is.closed.0
+    where
+      by : (b : Bool) → (b ≡ true → 1 ≤ stops_of is_disk v.log.steps) → b ≡ false
+      by true some = absurd (omega (arith, none, some refl))
+      by false some = refl
+
+  pub crewed : (tells ≡ true → IsFit job.parts.digest (frames_of job) (view_of (history disk))) → WasCrewed job told tells (history disk) (history other) steps end report
+  crewed fit =
+      subst (λ (l : List Step). WasCrewed job told tells (history disk) (history other) l end report) made.steps_are
+      (subst (λ (d : D). WasCrewed job told tells (history disk) (history d) v.log.steps end report) made.disk_is (record {
+        gates = v.log.start;
+        workers = v.log.workers;
+        size = made.is.size;
+        opening = opening;
+        fit = fit;
+        legal = made.is.legal;
+        ends = ends_here;
+        is_end = subst (IsEnd job told) (sym ends_here) (ends_so job told v.log.steps (first_why v.log.steps) made.is.changed refl);
+        unstopped = (
+          (λ done. end_done v.log.steps (first_why v.log.steps) refl (sym ends_here ∙ done)),
+          (λ none. ends_here ∙ ap end_by (no_first v.log.steps none)),
+        );
+        all = λ done. made.whole (ap has_stop (sym made.steps_are) ∙ end_done v.log.steps (first_why v.log.steps) refl (sym ends_here ∙ done));
+        kept = made.kept ∙ made.is.kept;
+        rendered = made.rendered ∙ ap (λ (l : List Step). length (finished_of l)) (sym made.steps_are);
+        exit = λ t none. open_shows job told v.log v.reel.ledger.closed (view_of (history v.reel.disk)) (open_still none) (made.is.shown t);
+        failed_exit = λ t some. subst (λ (b : Bool). ShowsDone job v.log b (view_of (history v.reel.disk))) (made.is.closed.1 some) (made.is.shown t);
+      }))
+
+  -- the disk's count of faults: it was 0 at the start
+  pub crew_failed : 1 ≤ stops_of is_disk steps → 1 ≤ faults other
+  crew_failed some =
+      subst (λ (d : D). 1 ≤ faults d) made.disk_is (made.is.failed (made.is.closed.1 (subst (λ (l : List Step). 1 ≤ stops_of is_disk l) (sym made.steps_are) some)))
+
+  pub crew_steady : (1 ≤ stops_of is_disk steps → ⊥) → faults other ≡ 0
+  crew_steady never =
+      subst (λ (d : D). faults d ≡ 0) made.disk_is (made.is.steady (open_still
+      (let few : stops_of is_disk v.log.steps ≡ stops_of is_disk steps = ap (stops_of is_disk) made.steps_are in zero_of (stops_of is_disk v.log.steps) (λ some. never (omega (arith, some, few))))))
+    where
+      zero_of : (n : ℕ) → (1 ≤ n → ⊥) → n ≡ 0
+      zero_of zero none = refl
+      zero_of (suc n) none = absurd (none (omega arith))
+
+module _ {D : Type 0} (job : JobData) (told : Option World) (start : Option Moment) (tells : Bool) (history : D → History) (faults : D → ℕ) where
+  -- where every frame is done and no worker stopped, every image acknowledges every frame
+  pub crew_acked : (v : StationView D) → IsStation job told start tells history faults v → IsReelOf job tells history v.reel → has_stop v.log.steps ≡ false
+      → ((i : ℕ) → i < frames_of job → is_done v.log i ≡ true) → tells ≡ true → AreAllAcked job (moment_of (history v.reel.disk))
+  crew_acked v is of none all t = record {
+    each = λ i lt. images_acked job tells history v.reel of (of.agrees (still v.reel.ledger.closed is.closed.0) t) i (is.gates i ∙ all i lt);
+  }
+    where
+      still : (b : Bool) → (b ≡ true → 1 ≤ stops_of is_disk v.log.steps) → b ≡ false
+      still true some = absurd (true≢false (sym (closed_has_stop v.log.steps (some refl)) ∙ none))
+      still false some = refl

@@ -1,0 +1,188 @@
+-- What the workers did, gathered from their seats.
+use Rattle.std.proofs.Common.{◌≡◌, inl, inr, cond, ℕ, zero, suc, ◌+◌, ◌<◌, ◌≤◌, Bool, true, false, List, [], ◌∷◌, All, length, get_or, map, refl, sym, ◌∙◌, ap, subst, arith}
+use Rattle.std.specs.Prelude.{◌⊎◌, Option, None, Some, sum_by}
+use Rattle.std.proofs.lemmas.Option.{same_Some}
+use Rattle.std.proofs.lemmas.List.{get_or-map, get_or_default, get_or_past, length-map}
+use Rattle.std.proofs.lemmas.List.Sums.{sum_by-cons}
+use Rattle.std.proofs.lemmas.Bool.{cases_lt, true≢false}
+use Rattle.scan_source.specs.World.{World}
+use Rattle.render_board.specs.declared.step.Step.{Step}
+use Rattle.render_board.specs.declared.step.Step.TheVariants.{Claim, Finish, Stop}
+use Rattle.render_board.specs.declared.step.Why.{Why}
+use Rattle.render_board.specs.declared.step.Why.TheVariants.{Source, Disk, Memory, Changed}
+use Rattle.render_board.specs.History.{first_why, is_changed, is_disk, is_source, is_stop_by, stops_of}
+use Rattle.render_board.specs.Board.{has_stop}
+use Rattle.station.specs.declared.run_end.RunEnd.{RunEnd}
+use Rattle.station.specs.declared.run_end.RunEnd.TheVariants.{Done, OtherJob, BadLedger, Changed as IsNow, SourceFault, DiskFault, NoMemory}
+use Rattle.station.specs.Crews.{AreWorked, IsWorked, end_by}
+use Rattle.station.specs.Ends.{IsChange}
+use Rattle.station.specs.Marks.{Tallies, fresh}
+use Rattle.station.specs.Scanned.{IsScanned}
+use Rattle.station.proofs.Scanning.{scanned_itself}
+
+module _ {X : Type 0} (f : X → ℕ) where
+  -- a sum that is not 0 has an item that is not 0
+  pub some_item : (xs : List X) → 1 ≤ sum_by f xs → (k : ℕ) × (k < length xs) × ((d : X) → 1 ≤ f (get_or xs k d))
+  some_item [] some = absurd (omega (arith, some))
+  some_item (x ∷ xs) some = elim (cases_lt 0 (f x)) [
+    | inl here ↦ (0, omega arith, λ d. here)
+    | inr none ↦
+        let rest = some_item xs (let all = sum_by-cons f x xs in omega (arith, all, some, none)) in
+        (suc rest.0, omega (arith, rest.1), λ d. rest.2 d)
+  ]
+
+  -- an item is at most the sum
+  pub item_within : (xs : List X) (k : ℕ) (d : X) → k < length xs → f (get_or xs k d) ≤ sum_by f xs
+  item_within [] k d lt = absurd (omega (arith, lt))
+  item_within (x ∷ xs) zero d lt = let all = sum_by-cons f x xs in omega (arith, all)
+  item_within (x ∷ xs) (suc k) d lt = let all = sum_by-cons f x xs in let less = item_within xs k d (omega (arith, lt)) in omega (arith, all, less)
+
+  pub sum_mapped : (xs : List X) → sum_by (λ n. n) (map f xs) ≡ sum_by f xs
+  sum_mapped [] = refl
+  sum_mapped (x ∷ xs) = sum_by-cons (λ n. n) (f x) (map f xs) ∙ ap (λ n. f x + n) (sum_mapped xs) ∙ sym (sum_by-cons f x xs)
+
+-- a seat, where there is one
+first_of : {X : Type 0} (xs : List X) (k : ℕ) → k < length xs → X
+first_of [] k lt = absurd (omega (arith, lt))
+first_of (x ∷ xs) k lt = x
+
+-- a fact of two seats, as one of what they have
+mapped_at : {X S : Type 0} (f : X → S) (R : S → S → Type 0) (xs ys : List X) (k : ℕ) (s : S) → length ys ≡ length xs → k < length xs
+    → ((d : X) → R (f (get_or xs k d)) (f (get_or ys k d))) → R (get_or (map f xs) k s) (get_or (map f ys) k s)
+mapped_at f R xs ys k s same lt each =
+    let d = first_of xs k lt in
+    subst (λ (a : _). R a (get_or (map f ys) k s)) (sym (get_or-map f xs k d s lt))
+    (subst (λ (b : _). R (f (get_or xs k d)) b) (sym (get_or-map f ys k d s (omega (arith, lt, same)))) (each d))
+
+module _ {X S : Type 0} (told : Option World) (world : S → Option World) (faults loads : S → ℕ) (same : S → S → Type 0) (scan : X → S) (count : X → ℕ) (has : X → Bool) (marks : X → Tallies)
+    (xs ys : List X) (threads : ℕ) (size : length ys ≡ length xs)
+    (each : (k : ℕ) (d : X) → k < length xs → IsWorked told world faults loads (scan (get_or xs k d)) (scan (get_or ys k d)) (count (get_or ys k d)) (has (get_or ys k d)) (marks (get_or xs k d)) (marks (get_or ys k d)))
+    (idle : All (λ x. marks x ≡ fresh) xs) where
+  -- a stop for a source file was counted at a seat whose load failed
+  source_seat : 1 ≤ sum_by (λ x. (marks x).source.amount) ys → (k : ℕ) × (k < length xs) × ((d : X) → has (get_or ys k d) ≡ true)
+  source_seat some =
+      let found = some_item (λ x. (marks x).source.amount) ys some in
+      let within : found.0 < length xs = omega (arith, found.1, size) in (
+        found.0,
+        within,
+        λ d.
+            let none = ap (λ (m : Tallies). m.source.amount) (idle found.0 d within) in
+            (each found.0 d within).causes.source (omega (arith, none, found.2 d)),
+      )
+
+  -- and for one that has changed at a seat that loaded
+  pub changed_seat : 1 ≤ sum_by (λ x. (marks x).changed.amount) ys → 1 ≤ sum_by count ys
+  changed_seat some =
+      let found = some_item (λ x. (marks x).changed.amount) ys some in
+      let within : found.0 < length xs = omega (arith, found.1, size) in
+      let d = first_of xs found.0 within in
+      let none = ap (λ (m : Tallies). m.changed.amount) (idle found.0 d within) in
+      let loaded = ((each found.0 d within).causes.changed (omega (arith, none, found.2 d))).0 in
+      omega (arith, loaded, item_within count ys found.0 d found.1)
+
+  abbrev IsScannedAt : ℕ → S → S → Type 0
+  IsScannedAt k a b = IsScanned world faults loads (get_or (map count ys) k 0) (get_or (map has ys) k false ≡ true) a b
+
+  pub gathered : (before after : List S) (all : ℕ) (Failed : Type 0) → map scan xs ≡ before → after ≡ map scan ys → all ≡ sum_by count ys
+      → ((k : ℕ) (d : X) → k < length xs → same (scan (get_or xs k d)) (scan (get_or ys k d)))
+      → ((k : ℕ) (d : X) → threads ≤ k → get_or ys k d ≡ get_or xs k d)
+      → (Failed → 1 ≤ sum_by (λ x. (marks x).source.amount) ys)
+      → AreWorked world faults loads same threads all Failed before after
+  gathered before after all Failed first last total lent unused fails =
+      subst (λ (l : List S). AreWorked world faults loads same threads all Failed l after) first
+      (subst (λ (l : List S). AreWorked world faults loads same threads all Failed (map scan xs) l) (sym last) (record {
+        size = length-map ys scan ∙ size ∙ sym (length-map xs scan);
+        counts = map count ys;
+        flags = map has ys;
+        sum = sum_mapped count ys ∙ sym total;
+        each = λ k s lt.
+            let within : k < length xs = omega (arith, lt, length-map xs scan) in
+            mapped_at scan (λ a b. IsScannedAt k a b) xs ys k s size within (λ d. at_seat k d within);
+        lent = λ k s lt. let within : k < length xs = omega (arith, lt, length-map xs scan) in mapped_at scan same xs ys k s size within (λ d. lent k d within);
+        unused = λ k s late. same_at k s late (cases_lt k (length xs));
+        failed = λ is.
+            let found = source_seat (fails is) in
+            let d = first_of xs found.0 found.1 in
+            (found.0, omega (arith, found.1, length-map xs scan), get_or-map has ys found.0 d false (omega (arith, found.1, size)) ∙ found.2 d);
+      }))
+    where
+      at_seat : (k : ℕ) (d : X) → k < length xs → IsScannedAt k (scan (get_or xs k d)) (scan (get_or ys k d))
+      at_seat k d within =
+          subst (λ (n : ℕ). IsScanned world faults loads n (get_or (map has ys) k false ≡ true) (scan (get_or xs k d)) (scan (get_or ys k d))) (sym (get_or-map count ys k d 0 (omega (arith, within, size))))
+          (subst (λ (b : Bool). IsScanned world faults loads (count (get_or ys k d)) (b ≡ true) (scan (get_or xs k d)) (scan (get_or ys k d))) (sym (get_or-map has ys k d false (omega (arith, within, size))))
+          (each k d within).scanned)
+
+      same_at : (k : ℕ) (s : S) → threads ≤ k → (k < length xs) ⊎ (length xs ≤ k) → get_or (map scan ys) k s ≡ get_or (map scan xs) k s
+      same_at k s late (inl within) =
+          let d = first_of xs k within in
+          get_or-map scan ys k d s (omega (arith, within, size)) ∙ ap scan (unused k d late) ∙ sym (get_or-map scan xs k d s within)
+      same_at k s late (inr past) =
+          get_or_past (map scan ys) k s (omega (arith, past, size, length-map ys scan)) ∙ sym (get_or_past (map scan xs) k s (omega (arith, past, length-map xs scan)))
+
+-- where no worker was made, no scan was used
+pub unworked : {S : Type 0} (world : S → Option World) (faults loads : S → ℕ) (same : S → S → Type 0) → ((s : S) → same s s) → (threads all : ℕ) (Failed : Type 0) (before after : List S)
+    → after ≡ before → all ≡ 0 → (Failed → ⊥) → AreWorked world faults loads same threads all Failed before after
+unworked world faults loads same itself threads all Failed before after is none never =
+    subst (λ (l : List _). AreWorked world faults loads same threads all Failed before l) (sym is) (record {
+      size = refl;
+      counts = [];
+      flags = [];
+      sum = sym none;
+      each = λ k s lt. scanned_itself world faults loads (false ≡ true) (λ e. true≢false (sym e)) (get_or before k s);
+      lent = λ k s lt. itself (get_or before k s);
+      unused = λ k s late. refl;
+      failed = λ is. absurd (never is);
+    })
+
+-- the first stop is counted
+pub stop_counted : (kind : Why → Bool) (steps : List Step) (why : Why) → first_why steps ≡ Some why → kind why ≡ true → 1 ≤ stops_of kind steps
+stop_counted kind [] why first is = cc
+stop_counted kind (Claim w i ∷ steps) why first is = let all = sum_by-cons (λ s. cond (is_stop_by kind s) 1 0) (Claim w i) steps in let less = stop_counted kind steps why first is in omega (arith, all, less)
+stop_counted kind (Finish w i ∷ steps) why first is = let all = sum_by-cons (λ s. cond (is_stop_by kind s) 1 0) (Finish w i) steps in let less = stop_counted kind steps why first is in omega (arith, all, less)
+stop_counted kind (Stop w other ∷ steps) why first is =
+    let all = sum_by-cons (λ s. cond (is_stop_by kind s) 1 0) (Stop w other) steps in
+    let same : other ≡ why = same_Some _ _ first in
+    let here : ◌≡◌ {A = ℕ} (cond (kind other) 1 0) 1 = ap (λ (b : Bool). cond b 1 0) (ap kind same ∙ is) in
+    omega (arith, all, here)
+
+-- without a stop there is no first one
+pub no_first : (steps : List Step) → has_stop steps ≡ false → first_why steps ≡ None
+no_first [] none = refl
+no_first (Claim w i ∷ steps) none = no_first steps none
+no_first (Finish w i ∷ steps) none = no_first steps none
+no_first (Stop w why ∷ steps) none = absurd (true≢false none)
+
+some_first : (steps : List Step) → first_why steps ≡ None → has_stop steps ≡ false
+some_first [] none = refl
+some_first (Claim w i ∷ steps) none = some_first steps none
+some_first (Finish w i ∷ steps) none = some_first steps none
+some_first (Stop w why ∷ steps) none = cc
+
+-- the ends by their stops
+pub end_source : (steps : List Step) (why : Option Why) → first_why steps ≡ why → end_by why ≡ SourceFault → 1 ≤ stops_of is_source steps
+end_source steps None first is = cc
+end_source steps (Some Source) first is = stop_counted is_source steps Source first refl
+end_source steps (Some Disk) first is = cc
+end_source steps (Some Memory) first is = cc
+end_source steps (Some (Changed key was now)) first is = cc
+
+pub end_disk : (steps : List Step) (why : Option Why) → first_why steps ≡ why → end_by why ≡ DiskFault → 1 ≤ stops_of is_disk steps
+end_disk steps None first is = cc
+end_disk steps (Some Source) first is = cc
+end_disk steps (Some Disk) first is = stop_counted is_disk steps Disk first refl
+end_disk steps (Some Memory) first is = cc
+end_disk steps (Some (Changed key was now)) first is = cc
+
+pub end_changed : (steps : List Step) (why : Option Why) → first_why steps ≡ why → IsChange (end_by why) → 1 ≤ stops_of is_changed steps
+end_changed steps None first is = let never = is.3 in cc
+end_changed steps (Some Source) first is = let never = is.3 in cc
+end_changed steps (Some Disk) first is = let never = is.3 in cc
+end_changed steps (Some Memory) first is = let never = is.3 in cc
+end_changed steps (Some (Changed key was now)) first is = stop_counted is_changed steps (Changed key was now) first refl
+
+pub end_done : (steps : List Step) (why : Option Why) → first_why steps ≡ why → end_by why ≡ Done → has_stop steps ≡ false
+end_done steps None first is = some_first steps first
+end_done steps (Some Source) first is = cc
+end_done steps (Some Disk) first is = cc
+end_done steps (Some Memory) first is = cc
+end_done steps (Some (Changed key was now)) first is = cc

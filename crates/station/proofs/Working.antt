@@ -1,0 +1,46 @@
+-- How a worker's rounds add up.
+use Rattle.std.proofs.Common.{◌≡◌, ℕ, ◌+◌, ◌-◌, ◌<◌, ◌≤◌, Bool, true, length, sym, ◌∙◌, ap, subst, arith}
+use Rattle.std.specs.Prelude.{Option, None, Some}
+use Rattle.scan_source.specs.World.{World}
+use Rattle.render_board.specs.declared.board.Claim.TheVariants.{Take}
+use Rattle.render_board.specs.Board.{Log, claim_of}
+use Rattle.render_board.proofs.Holding.{claim_takes, least_free_is}
+use Rattle.station.specs.Marks.{Tallies}
+use Rattle.station.specs.Scanned.{IsScanned}
+use Rattle.station.specs.Worked.{HasCauses, KeepsParts, KeepsSources}
+use Rattle.station.proofs.Scanning.{scanned_along}
+
+-- a frame that is taken is one of the reel's
+pub take_within : (log : Log) (i n : ℕ) → claim_of log ≡ Take i → length log.start ≡ n → i < n
+take_within log i n takes size = let is = least_free_is log i (claim_takes log i takes).1 in omega (arith, is.1, size)
+
+pub parts_along : (a b c : Tallies) → KeepsParts a b → KeepsParts b c → KeepsParts a c
+parts_along a b c first second = record {
+  source = second.source ∙ first.source;
+  disk = second.disk ∙ first.disk;
+  memory = second.memory ∙ first.memory;
+  changed = second.changed ∙ first.changed;
+}
+
+pub sources_along : (a b c : Tallies) → KeepsSources a b → KeepsSources b c → KeepsSources a c
+sources_along a b c first second = record { source = second.source ∙ first.source; changed = second.changed ∙ first.changed }
+
+module _ (told : Option World) where
+  -- rounds that stop for nothing, and then one that may
+  pub causes_along : (a b c : Tallies) (more all : ℕ) (failed : Bool) → KeepsParts a b → KeepsSources a b → HasCauses told more failed b c → more ≤ all → HasCauses told all failed a c
+  causes_along a b c more all failed parts sources causes le = record {
+    parts = parts_along a b c parts causes.parts;
+    source = λ rose. causes.source (omega (arith, rose, sources.source));
+    changed = λ rose. let cause = causes.changed (omega (arith, rose, sources.changed)) in (omega (arith, cause.0, le), cause.1);
+  }
+
+  pub causes_none : (a b : Tallies) (all : ℕ) (failed : Bool) → KeepsParts a b → KeepsSources a b → HasCauses told all failed a b
+  causes_none a b all failed parts sources = record {
+    parts = parts;
+    source = λ rose. absurd (omega (arith, rose, sources.source));
+    changed = λ rose. absurd (omega (arith, rose, sources.changed));
+  }
+
+module _ {S : Type 0} (world : S → Option World) (faults loads : S → ℕ) where
+  pub round_along : (old mid new : S) (n k : ℕ) (B : Type 0) → n ≤ k → IsScanned world faults loads n ⊥ old mid → IsScanned world faults loads (k - n) B mid new → IsScanned world faults loads k B old new
+  round_along old mid new n k B le first second = scanned_along world faults loads old mid new n (k - n) k ⊥ B (omega (arith, le)) (λ none. none) first second

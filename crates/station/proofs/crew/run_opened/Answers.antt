@@ -1,0 +1,73 @@
+use Rattle.std.proofs.Common.{◌≡◌, ◌≤◌, ◌∙◌, All, true, Vec, length, map, sum_by, rules, arith, refl, sym, ap, subst}
+use Rattle.std.specs.declared.alloc.Global.{Global}
+use Rattle.conform_job.specs.Names.{Tells}
+use Rattle.render_board.specs.Board.{has_stop, is_done}
+use Rattle.render_board.specs.History.{first_why, is_changed, is_source, stops_of}
+use Rattle.station.specs.Ends.{IsChange}
+use Rattle.station.specs.Marks.{fresh}
+use Rattle.station.specs.Seats.{IsOnePart}
+use Rattle.station.specs.Station.{StationView}
+use Rattle.station.proofs.Gathering.{changed_seat, end_changed, end_source, gathered}
+use Rattle.station.proofs.Seating.{all_after, all_at, one_part, refilled}
+use Rattle.station.proofs.crew.run_opened.Goals as goal
+
+pub work_all-station-requires-clause-files : goal.work_all-station-requires-clause-files
+work_all-station-requires-clause-files g c κs within =
+    all_at _ _ (λ s. s.scan) (λ s. Tells g.N.Work.files (g.S.Scans.world s)) c.deref_mut.result.now c.args.scans.items (search rules) c.requires.files
+
+pub work_all-station-requires-clause-idle : goal.work_all-station-requires-clause-idle
+work_all-station-requires-clause-idle g c κs within =
+    rw c.deref_mut.ensures.value (λ k d lt. let is = c.seat_all-seats.ensures.fresh k d lt in (is.1, is.2))
+
+pub unseat-scans-requires-clause-few : goal.unseat-scans-requires-clause-few
+unseat-scans-requires-clause-few g c =
+    all_after (λ s. s.loads ≤ 2097152) c.deref_mut.result.now c.work_all-station.new.seats c.seat_all-seats.result.items c.seat_all-seats.result.len c.work_all-station.ensures.size (search rules) c.work_all-station.ensures.few
+
+pub unseat-scans-requires-clause-one : goal.unseat-scans-requires-clause-one
+unseat-scans-requires-clause-one g c =
+    let all : All (λ s. s.marks ≡ fresh) c.deref_mut.result.now = rw c.deref_mut.ensures.value (λ k d lt. (c.seat_all-seats.ensures.fresh k d lt).0) in
+    all_after (λ s. IsOnePart s.marks) c.deref_mut.result.now c.work_all-station.new.seats c.seat_all-seats.result.items c.seat_all-seats.result.len c.work_all-station.ensures.size (search rules)
+    (λ k d lt. one_part _ _ (all k d lt) (c.work_all-station.ensures.each k d lt).causes.parts)
+
+pub closing-requires-clause-whole : goal.closing-requires-clause-whole
+closing-requires-clause-whole g c none i lt =
+    subst (λ (v : StationView _). is_done v.log i ≡ true) (sym c.settle.ensures.same) (c.work_all-station.ensures.whole (ap (λ (v : StationView _). has_stop v.log.steps) (sym c.settle.ensures.same) ∙ none) i lt)
+
+pub returns-clause-changed : goal.returns-clause-changed
+returns-clause-changed g c change =
+    let xs = c.deref_mut.result.now in
+    let ys = c.work_all-station.new.seats in
+    let steps = c.settle.new.self.log.steps in
+    let idle : All (λ s. s.marks ≡ fresh) xs = rw c.deref_mut.ensures.value (λ k d lt. (c.seat_all-seats.ensures.fresh k d lt).0) in
+    let full : c.seat_all-seats.result.len ≡ length c.deref_mut.result.now = search rules in
+    let back = refilled ys c.seat_all-seats.result.items c.seat_all-seats.result.len (omega (arith, c.work_all-station.ensures.size, full)) in
+    let stops = end_changed steps (first_why steps) refl (subst IsChange c.closing.ensures.end change) in
+    let settled = c.settle.ensures.settled.changed ∙ ap (λ (v : StationView _). stops_of is_changed v.log.steps) (sym c.settle.ensures.same) in
+    let counted = c.unseat-scans.ensures.changed in
+    let none = c.seat_all-seats.ensures.given.changed.1 ∙ c.new-station.ensures.changed.1 in
+    let sum = ap (sum_by (λ s. s.marks.changed.amount)) back in
+    let loaded = changed_seat g.N.Work.files g.S.Scans.world g.S.Scans.faults g.S.Scans.loads g.S.Scans.same (λ s. s.scan) (λ s. s.loads) (λ s. s.has_failed) (λ s. s.marks)
+    xs ys c.args.threads c.work_all-station.ensures.size c.work_all-station.ensures.each idle (omega (arith, stops, settled, counted, none, sum)) in
+    let total = c.closing.ensures.loads.0 ∙ c.unseat-scans.ensures.loads ∙ ap (sum_by (λ s. s.loads)) back in
+    omega (arith, loaded, total)
+
+pub returns-clause-scans : goal.returns-clause-scans
+returns-clause-scans g c =
+    let xs = c.deref_mut.result.now in
+    let ys = c.work_all-station.new.seats in
+    let steps = c.settle.new.self.log.steps in
+    let idle : All (λ s. s.marks ≡ fresh) xs = rw c.deref_mut.ensures.value (λ k d lt. (c.seat_all-seats.ensures.fresh k d lt).0) in
+    let full : c.seat_all-seats.result.len ≡ length c.deref_mut.result.now = search rules in
+    let back = refilled ys c.seat_all-seats.result.items c.seat_all-seats.result.len (omega (arith, c.work_all-station.ensures.size, full)) in
+    let settled = c.settle.ensures.settled.source ∙ ap (λ (v : StationView _). stops_of is_source v.log.steps) (sym c.settle.ensures.same) in
+    let counted = c.unseat-scans.ensures.source in
+    let none = c.seat_all-seats.ensures.given.source.1 ∙ c.new-station.ensures.source.1 in
+    let sum = ap (sum_by (λ s. s.marks.source.amount)) back in
+    gathered g.N.Work.files g.S.Scans.world g.S.Scans.faults g.S.Scans.loads g.S.Scans.same (λ s. s.scan) (λ s. s.loads) (λ s. s.has_failed) (λ s. s.marks)
+    xs ys c.args.threads c.work_all-station.ensures.size c.work_all-station.ensures.each idle
+    c.args.scans.items c.closing.result.scans.items c.closing.result.report.loads _
+    (search rules)
+    (ap (λ (v : Vec _ Global). v.items) c.closing.ensures.scans ∙ c.unseat-scans.ensures.scans ∙ ap (map (λ s. s.scan)) back)
+    (c.closing.ensures.loads.0 ∙ c.unseat-scans.ensures.loads ∙ ap (sum_by (λ s. s.loads)) back)
+    c.work_all-station.ensures.same c.work_all-station.ensures.unused
+    (λ failed. let stops = end_source steps (first_why steps) refl (sym c.closing.ensures.end ∙ failed) in omega (arith, stops, settled, counted, none, sum))

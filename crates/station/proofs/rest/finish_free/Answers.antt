@@ -1,0 +1,51 @@
+use Rattle.std.proofs.Common.{◌≡◌, ◌∙◌, Bool, List, length, rules, arith, ap}
+use Rattle.render_board.specs.declared.step.Step.TheVariants.{Claim}
+use Rattle.render_board.specs.Board.{Log, with_step}
+use Rattle.station.proofs.Resting.{free_most, holds_after, round_over, stepped_along, stepped_itself}
+use Rattle.station.proofs.rest.finish_free.Goals as goal
+
+pub loop-init : goal.loop-init
+loop-init g c =
+    let most = free_most c.args.station.now.log in
+    let size = c.workers.ensures.kept.size in
+    record {
+      within = search rules;
+      ending = search rules;
+      short = search rules;
+      some = search rules;
+      size = size;
+      idle = c.requires.idle;
+      free = omega (arith, most, size);
+      most = omega arith;
+      stepped = stepped_itself g.N.Work.files g.S.Scans.world g.S.Scans.faults g.S.Scans.loads c.args.seat.now.scan c.args.seat.now.loads c.args.seat.now.has_failed c.args.seat.now.marks;
+      same = g.met.S.Scans.same_refl c.args.seat.now.scan;
+    }
+
+pub finish_as-requires-clause-holds : goal.finish_as-requires-clause-holds
+finish_as-requires-clause-holds g c = holds_after c.loop.station.log c.claim_first.new.station.log c.in-Some.i c.in-Some.ensures.taken.0
+
+pub returns-then-not-finish_as-clause-stepped : goal.returns-then-not-finish_as-clause-stepped
+returns-then-not-finish_as-clause-stepped g c =
+    stepped_along g.N.Work.files g.S.Scans.world g.S.Scans.faults g.S.Scans.loads c.args.seat.now.scan c.loop.seat.scan c.finish_as.new.seat.scan
+    c.args.seat.now.loads c.loop.seat.loads c.finish_as.new.seat.loads c.args.seat.now.has_failed c.loop.seat.has_failed c.finish_as.new.seat.has_failed
+    c.args.seat.now.marks c.loop.seat.marks c.finish_as.new.seat.marks c.loop.invariant.stepped c.finish_as.ensures.stepped
+
+pub loop-preserved : goal.loop-preserved
+loop-preserved g c =
+    let inv = c.loop.invariant in
+    let over = round_over c.loop.station.log c.claim_first.new.station.log c.finish_as.new.station.log c.in-Some.i c.in-Some.ensures.taken.1 c.in-Some.ensures.taken.0 (c.finish_as.ensures.done c.if-not-finish_as.false) inv.idle in
+    let mid : c.claim_first.new.station.log ≡ with_step c.loop.station.log (Claim 0 c.in-Some.i) = c.in-Some.ensures.taken.0 in
+    record {
+      within = search rules;
+      ending = inv.ending;
+      short = inv.short;
+      some = let same = c.finish_as.ensures.workers ∙ ap (λ (l : Log). l.workers) mid in let some = inv.some in omega (arith, some, same);
+      size = ap (λ (l : List Bool). length l) (c.finish_as.ensures.start ∙ ap (λ (l : Log). l.start) mid) ∙ inv.size;
+      idle = over.idle;
+      free = let fewer = over.fewer in let free = inv.free in omega (arith, fewer, free);
+      most = let before = inv.most in let most = c.finish_as.ensures.most in omega (arith, before, most);
+      stepped = stepped_along g.N.Work.files g.S.Scans.world g.S.Scans.faults g.S.Scans.loads c.args.seat.now.scan c.loop.seat.scan c.finish_as.new.seat.scan
+          c.args.seat.now.loads c.loop.seat.loads c.finish_as.new.seat.loads c.args.seat.now.has_failed c.loop.seat.has_failed c.finish_as.new.seat.has_failed
+          c.args.seat.now.marks c.loop.seat.marks c.finish_as.new.seat.marks inv.stepped c.finish_as.ensures.stepped;
+      same = g.met.S.Scans.same_trans _ _ _ inv.same c.finish_as.ensures.same;
+    }

@@ -1,0 +1,21 @@
+use Rattle.std.proofs.Common.{◌≡◌, ℕ, ◌+◌, ◌*◌, ◌<◌, ◌≤◌, length}
+use Rattle.render_board.specs.Board.{free_count, turn_of}
+use Rattle.render_board.specs.declared.board.Turn.TheVariants as turns
+use Rattle.reel_writer.specs.Reel.{frames_of}
+use Rattle.station.specs.Stepped.{HasStepped}
+use Rattle.station.proofs.rest.finish_free.Given as goal
+
+-- all workers are idle, and each round left one frame fewer free
+abbrev pub invariant-loop : goal.invariant-loop
+invariant-loop g l = record {
+  within : l.counter ≤ l.end;
+  ending : l.end ≡ frames_of g.N.Work.job + 1;
+  short : frames_of g.N.Work.job ≤ 262144;
+  some : 1 ≤ l.station.log.workers;
+  size : length l.station.log.start ≡ frames_of g.N.Work.job;
+  idle : (w : ℕ) → w < l.station.log.workers → turn_of l.station.log w ≡ turns.Idle;
+  free : free_count l.station.log + l.counter ≤ frames_of g.N.Work.job;
+  most : l.seat.loads ≤ l.fn.seat.loads + 2 * l.counter;
+  stepped : HasStepped g.N.Work.files g.S.Scans.world g.S.Scans.faults g.S.Scans.loads l.fn.seat.scan l.seat.scan l.fn.seat.loads l.seat.loads l.fn.seat.has_failed l.seat.has_failed l.fn.seat.marks l.seat.marks;
+  same : g.S.Scans.same l.fn.seat.scan l.seat.scan;
+}

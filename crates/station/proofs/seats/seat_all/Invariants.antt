@@ -1,0 +1,16 @@
+use Rattle.std.proofs.Common.{◌≡◌, All, length, map, false, vec_len, vec_capacity}
+use Rattle.station.specs.Marks.{fresh}
+use Rattle.station.specs.Seats.{HasGiven}
+use Rattle.station.proofs.seats.seat_all.Given as goal
+
+abbrev pub invariant-loop-scan : goal.invariant-loop-scan
+invariant-loop-scan g l = record {
+  can : (goal.iterator-loop-scan g).can_next l.scan-iterator;
+  ends : (goal.iterator-loop-scan g).is_finite l.scan-iterator;
+  number : l.number ≡ length l.yielded;
+  capacity : vec_capacity l.seats ≡ vec_capacity l.initial.seats;
+  len : vec_len l.seats ≡ length l.yielded;
+  scans : map (λ s. s.scan) l.seats.items ≡ l.yielded;
+  fresh : All (λ s. (s.marks ≡ fresh) × (s.loads ≡ 0) × (s.has_failed ≡ false)) l.seats.items;
+  given : HasGiven l.initial.marks (length l.yielded) l.marks;
+}

@@ -1,0 +1,31 @@
+use Rattle.std.proofs.Common.{◌∙◌, arith}
+use Rattle.std.proofs.lemmas.List.{get_or-set_other}
+use Rattle.station.proofs.Resting.{few_all, lent_all, worked_all}
+use Rattle.station.proofs.work.work_all.Goals as goal
+
+pub finish_rest-requires-clause-few : goal.finish_rest-requires-clause-few
+finish_rest-requires-clause-few g c = c.drive_first.ensures.few 0 c.index-seats-0.result c.requires.some
+
+pub returns-clause-each : goal.returns-clause-each
+returns-clause-each g c =
+    worked_all g.N.Work.files g.S.Scans.world g.S.Scans.faults g.S.Scans.loads (λ s. s.scan) (λ s. s.loads) (λ s. s.has_failed) (λ s. s.marks)
+    c.args.seats.now c.drive_first.new.seats c.finish_rest.new.seat c.args.threads c.requires.some c.drive_first.ensures.size c.requires.idle c.drive_first.ensures.each c.drive_first.ensures.others
+    c.index-seats-0.result c.finish_rest.ensures.stepped
+
+pub returns-clause-few : goal.returns-clause-few
+returns-clause-few g c =
+    few_all g.N.Work.files g.S.Scans.world g.S.Scans.faults g.S.Scans.loads (λ s. s.scan) (λ s. s.loads) (λ s. s.has_failed) (λ s. s.marks)
+    c.args.seats.now c.drive_first.new.seats c.finish_rest.new.seat c.args.threads c.requires.some c.drive_first.ensures.size c.requires.idle c.drive_first.ensures.each c.drive_first.ensures.others
+    524288 2097152 (omega arith) c.drive_first.ensures.few c.finish_rest.ensures.most
+
+pub returns-clause-unused : goal.returns-clause-unused
+returns-clause-unused g c k d late =
+    let some = c.requires.some in
+    get_or-set_other c.drive_first.new.seats 0 k c.finish_rest.new.seat d (λ zero. absurd (omega (arith, some, late, zero))) ∙ c.drive_first.ensures.others k d late
+
+pub returns-clause-same : goal.returns-clause-same
+returns-clause-same g c =
+    let met = g.met.S.Scans g.world.𝓛 g.world.𝓜 g.world.𝓡 ((λ s x. x), (λ x. x), (λ x. x), (λ x. x)) in
+    lent_all g.S.Scans.same met.same_refl met.same_trans (λ s. s.scan)
+    c.args.seats.now c.drive_first.new.seats c.finish_rest.new.seat c.args.threads c.requires.some c.drive_first.ensures.size c.drive_first.ensures.same c.drive_first.ensures.others
+    c.index-seats-0.result c.finish_rest.ensures.same

@@ -1,0 +1,101 @@
+-- What a crew leaves. All of it is this project's own rule.
+--     WasCrewed      a run whose folder was opened and whose board was made: its steps, and what the folder acknowledges
+--     WasUnmade      a run whose board could not be made
+--     AreWorked      what the workers did with their scans
+use Rattle.std.specs.Prelude.{◌≡◌, ◌≢◌, ◌↔◌, ◌⊎◌, ℕ, ◌+◌, ◌<◌, ◌≤◌, Bool, true, false, List, length, sum_by, count_by, slice_index_or, Option, Some, None, MatchOption}
+use Rattle.scan_source.specs.World.{World}
+use Rattle.conform_job.specs.Job.{JobData}
+use Rattle.reel_disk.specs.Disk.{Moment, History, view_of}
+use Rattle.render_board.specs.Board.{Log, IsLegal, has_stop, is_done}
+use Rattle.render_board.specs.History.{finished_of, first_why, is_disk, stops_of}
+use Rattle.render_board.specs.declared.step.Step.{Step}
+use Rattle.render_board.specs.declared.step.Why.{Why}
+use Rattle.render_board.specs.declared.step.Why.TheVariants.{Source, Disk, Memory, Changed}
+use Rattle.resume_ledger.specs.Ledger.{IsFit}
+use Rattle.reel_writer.specs.Reel.{frames_of, HasAcked}
+use Rattle.station.specs.declared.run_end.Report.{Report}
+use Rattle.station.specs.declared.run_end.RunEnd.{RunEnd}
+use Rattle.station.specs.declared.run_end.RunEnd.TheVariants.{Done, Changed as IsNow, SourceFault, DiskFault, NoMemory}
+use Rattle.station.specs.Ends.{IsEnd}
+use Rattle.station.specs.Marks.{Tallies}
+use Rattle.station.specs.Run.{WasRefused}
+use Rattle.station.specs.Scanned.{IsScanned}
+use Rattle.station.specs.Station.{StationView, IsStation, ShowsDone}
+use Rattle.station.specs.Worked.{HasCauses}
+
+-- how a run ends whose first stop has this why
+abbrev pub end_by : Option Why → RunEnd
+end_by None = Done
+end_by (Some Source) = SourceFault
+end_by (Some Disk) = DiskFault
+end_by (Some Memory) = NoMemory
+end_by (Some (Changed key was now)) = IsNow key was now
+
+-- a board's log: the frames that were done at its start, the number of workers, and the steps
+abbrev pub log_of : List Bool → ℕ → List Step → Log
+log_of gates workers steps = record { start = gates; workers = workers; steps = steps }
+
+-- The folder was unsealed or this job's, and the board has these steps. `gates` are the frames that the folder acknowledged
+-- then. The run is Done just where no worker stopped, and then every frame is done; else it ends as the first stop says.
+pub record WasCrewed (job : JobData) (told : Option World) (tells : Bool) (old new : History) (steps : List Step) (end : RunEnd) (report : Report) : Type 0 where
+  pub gates : List Bool
+  pub workers : ℕ
+  pub size : length gates ≡ frames_of job
+  pub opening : tells ≡ true → (k : ℕ) → (slice_index_or gates k false ≡ true) ↔ HasAcked job k (view_of old)
+  pub fit : tells ≡ true → IsFit job.parts.digest (frames_of job) (view_of old)
+  pub legal : IsLegal (log_of gates workers steps)
+  pub ends : end ≡ end_by (first_why steps)
+  pub is_end : IsEnd job told end
+  pub unstopped : (end ≡ Done) ↔ (has_stop steps ≡ false)
+  pub all : end ≡ Done → (i : ℕ) → i < frames_of job → is_done (log_of gates workers steps) i ≡ true
+  pub kept : report.kept ≡ count_by (λ gate. gate) gates
+  pub rendered : report.rendered ≡ length (finished_of steps)
+  -- The folder acknowledges just the frames that are done; where the disk failed in a finish, these but for one gate.
+  pub exit : tells ≡ true → stops_of is_disk steps ≡ 0 → (k : ℕ) → HasAcked job k (view_of new) ↔ (is_done (log_of gates workers steps) k ≡ true)
+  pub failed_exit : tells ≡ true → 1 ≤ stops_of is_disk steps → ShowsDone job (log_of gates workers steps) true (view_of new)
+
+-- No memory was left for the board. No worker took a step, and no source file was loaded.
+pub record WasUnmade (end : RunEnd) (report : Report) : Type 0 where
+  pub no_memory : end ≡ NoMemory
+  pub kept : report.kept ≡ 0
+  pub rendered : report.rendered ≡ 0
+  pub loads : report.loads ≡ 0
+
+-- Why there are no steps: the folder was not opened, or the board could not be made.
+abbrev pub IsUnstepped : JobData → Bool → History → History → RunEnd → Report → Type 0
+IsUnstepped job tells old new end report = WasRefused job tells old new end report ⊎ WasUnmade end report
+
+-- the disk failed: a worker stopped for it, or the folder could not be opened
+abbrev pub HasDiskFailed : Option (List Step) → RunEnd → Type 0
+HasDiskFailed steps end = MatchOption steps (end ≡ DiskFault) (λ all. 1 ≤ stops_of is_disk all)
+
+-- Each scan is handed back in its place, with so many loads made of it, and all those past the workers unused. In some a load
+-- failed: in one of them at least, where the run ended so.
+pub record AreWorked {S : Type 0} (world : S → Option World) (faults loads : S → ℕ) (same : S → S → Type 0) (workers all : ℕ) (Failed : Type 0) (old new : List S) : Type 0 where
+  pub size : length new ≡ length old
+  -- how many loads were made of each, and whether one of them failed
+  pub counts : List ℕ
+  pub flags : List Bool
+  pub sum : sum_by (λ count. count) counts ≡ all
+  pub each : (k : ℕ) (scan : S) → k < length old → IsScanned world faults loads (slice_index_or counts k 0) (slice_index_or flags k false ≡ true) (slice_index_or old k scan) (slice_index_or new k scan)
+  pub lent : (k : ℕ) (scan : S) → k < length old → same (slice_index_or old k scan) (slice_index_or new k scan)
+  pub unused : (k : ℕ) (scan : S) → workers ≤ k → slice_index_or new k scan ≡ slice_index_or old k scan
+  pub failed : Failed → (k : ℕ) × (k < length old) × (slice_index_or flags k false ≡ true)
+
+-- The rest is said of parts of a crew's run.
+
+-- what a worker did from its start on
+pub record IsWorked {S : Type 0} (told : Option World) (world : S → Option World) (faults loads : S → ℕ) (scan now : S) (more : ℕ) (failed : Bool) (before after : Tallies) : Type 0 where
+  pub scanned : IsScanned world faults loads more (failed ≡ true) scan now
+  pub causes : HasCauses told more failed before after
+
+-- what the station keeps holds to the end
+pub record IsCrewRun {D : Type 0} (job : JobData) (told : Option World) (start : Option Moment) (tells : Bool) (history : D → History) (faults : D → ℕ) (steps : List Step) (end : RunEnd) (report : Report) (disk : D) : Type 0 where
+  pub station : StationView D
+  pub is : IsStation job told start tells history faults station
+  pub disk_is : station.reel.disk ≡ disk
+  pub steps_are : station.log.steps ≡ steps
+  pub ends : end ≡ end_by (first_why steps)
+  pub whole : has_stop steps ≡ false → (i : ℕ) → i < frames_of job → is_done station.log i ≡ true
+  pub kept : report.kept ≡ station.reel.kept
+  pub rendered : report.rendered ≡ length (finished_of steps)

@@ -1,0 +1,28 @@
+-- What a worker does to its marks and its scan. All of it is this project's own rule.
+use Rattle.std.specs.Prelude.{◌≡◌, ◌⊎◌, ℕ, ◌<◌, ◌≤◌, Bool, true, Option, None}
+use Rattle.scan_source.specs.World.{World}
+use Rattle.render_board.specs.declared.step.Why.{Why}
+use Rattle.station.specs.Marks.{Tallies, raised_by}
+use Rattle.station.specs.Scanned.{IsScanned}
+
+-- at most one stop is counted, of this why
+abbrev pub MayRaise : Why → Tallies → Tallies → Type 0
+MayRaise why before now = (now ≡ before) ⊎ (now ≡ raised_by why before)
+
+-- the parts stay
+pub record KeepsParts (before now : Tallies) : Type 0 where
+  pub source : now.source.parts ≡ before.source.parts
+  pub disk : now.disk.parts ≡ before.disk.parts
+  pub memory : now.memory.parts ≡ before.memory.parts
+  pub changed : now.changed.parts ≡ before.changed.parts
+
+-- no stop for a source file is counted
+pub record KeepsSources (before now : Tallies) : Type 0 where
+  pub source : now.source.amount ≡ before.source.amount
+  pub changed : now.changed.amount ≡ before.changed.amount
+
+-- A stop for a source file has its cause: a load failed, or a file was loaded that has changed, where no files are told.
+pub record HasCauses (told : Option World) (loads : ℕ) (failed : Bool) (before now : Tallies) : Type 0 where
+  pub parts : KeepsParts before now
+  pub source : before.source.amount < now.source.amount → failed ≡ true
+  pub changed : before.changed.amount < now.changed.amount → (1 ≤ loads) × (told ≡ None)

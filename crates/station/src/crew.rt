@@ -1,0 +1,366 @@
+//! A crew: a worker for each of several scans over one reel, and what is known once all have returned.
+ghost use Rattle.std.specs.Prelude.{◌≡◌, ◌≢◌, ◌<◌, ◌≤◌, ℕ, All, [], true, false, length, vec_len, vec_capacity, min, is_some, IfSome, MatchOption, Some, None};
+ghost use Rattle.cf_base.specs.Count.{HasCause};
+ghost use Rattle.conform_job.specs.Answers.{AreInfosOf};
+ghost use Rattle.conform_job.specs.Names.{Tells};
+ghost use Rattle.reel_disk.specs.Disk.{moment_of, view_of};
+ghost use Rattle.reel_disk.specs.Runs.{Spares};
+ghost use Rattle.render_board.specs.Board.{has_stop, is_done};
+ghost use Rattle.render_board.specs.History.{first_why};
+ghost use Rattle.reel_writer.specs.Reel.{frames_of, IsReelRun};
+ghost use Rattle.station.specs.Crews.{AreWorked, HasDiskFailed, IsCrewRun, IsUnstepped, WasCrewed, end_by};
+ghost use Rattle.station.specs.Ends.{IsChange};
+ghost use Rattle.station.specs.Marks.{IsBlankOf};
+ghost use Rattle.station.specs.Run.{AreAllAcked, HasWhole, IsOwnFile};
+ghost use Rattle.station.specs.Station.{start_of};
+ghost use Rattle.station.specs.StationSteps.{IsBeginning};
+
+use crate::alone::{end_of_opening, report_of};
+use crate::seat::Seat;
+use crate::seats::{push_within, seat_all, unseat};
+use crate::station::Station;
+use crate::work::work_all;
+use crate::{Report, RunEnd, ShareLog};
+use conform_job::{Job, Work};
+use reel_disk::{Disk, Start};
+use reel_writer::Reel;
+use render_board::{Board, History, Step, Why};
+use scan_source::Scans;
+use std::alloc::Global;
+use std::marker::Brand;
+use std::sync::Wait;
+use std::sync::ledger::{Blank, Ledger};
+use std::thread::Threads;
+
+/// What a crew hands back: every scan in its place, and the disk.
+pub struct Crew<S, D> {
+    /// How the run ended.
+    pub end: RunEnd,
+    /// What it did.
+    pub report: Report,
+    /// The steps of its workers: none where the folder wasn't opened, or no memory was left for the board.
+    pub history: Option<History>,
+    /// The log of the source frames that were shared.
+    pub log: ShareLog,
+    /// The scans that were handed over, in their order.
+    pub scans: Vec<S>,
+    /// The disk that was handed over.
+    pub disk: D,
+}
+
+/// The end that a history tells.
+fn end_of(history: &[Step]) -> RunEnd
+    ensures { result ≡ end_by (first_why history.now) }
+{
+    for step in history {
+        if let Step::Stop { worker: _, why } = *step {
+            return end_of_why(why);
+        }
+    }
+    RunEnd::Done
+}
+
+/// The end of a run whose first stop has this why.
+fn end_of_why(why: Why) -> RunEnd
+    ensures { result ≡ end_by (Some why) }
+{
+    match why {
+        Why::Source => RunEnd::SourceFault,
+        Why::Disk => RunEnd::DiskFault,
+        Why::Memory => RunEnd::NoMemory,
+        Why::Changed { key, was, now } => RunEnd::Changed { key, was, now },
+    }
+}
+
+/// A crew without a step.
+fn unmade<S, D>(job: &Job, end: RunEnd, scans: Vec<S>, disk: D) -> Crew<S, D>
+    ensures end { result.end ≡ end }
+    ensures frames { result.report.frames ≡ frames_of job.now }
+    ensures kept { (result.report.kept ≡ 0) × (result.report.rendered ≡ 0) }
+    ensures loads { (result.report.loads ≡ 0) × (result.report.misses ≡ 0) }
+    ensures history { result.history ≡ None }
+    ensures scans { result.scans ≡ scans }
+    ensures disk { result.disk ≡ disk }
+{
+    Crew {
+        end,
+        report: Report {
+            frames: job.count(),
+            kept: 0,
+            rendered: 0,
+            loads: 0,
+            misses: 0,
+        },
+        history: None,
+        log: ShareLog,
+        scans,
+        disk,
+    }
+}
+
+/// The board of a reel that was opened: the frames that it acknowledges are done.
+fn board_of<D: Disk, N: Work>(
+    alloc: Global,
+    job: &Job,
+    reel: &Reel<D, N>,
+    workers: u16,
+) -> Option<Board>
+    requires job { job.now ≡ N.job }
+    requires size { length reel.now.ledger.gates ≡ frames_of N.job }
+    requires some { 1 ≤ workers }
+    requires most { workers ≤ 16 }
+    ensures board { IfSome result (λ board. board ≡ record { start = reel.now.ledger.gates; workers = workers; steps = [] }) }
+{
+    let count = job.timeline().count();
+    let mut done = match Vec::with_capacity(alloc, count as usize) {
+        Ok(done) => done,
+        Err(_) => return None,
+    };
+    for i in 0..count {
+        push_within(&mut done, reel.is_acked(i));
+    }
+    match Board::new(alloc, &done, workers) {
+        Ok(board) => Some(board),
+        Err(_) => None,
+    }
+}
+
+/// What is known of a station that nobody shares any more.
+fn closing<N: Work + Start, A: Ledger, B: Ledger, C: Ledger, E: Ledger, S: Scans, D: Disk>(
+    job: &Job,
+    station: Station<D, N, A, B, C, E>,
+    scans: Vec<S>,
+    loads: u64,
+) -> Crew<S, D>
+    requires job { job.now ≡ N.job }
+    requires whole { has_stop station.log.steps ≡ false → (i : ℕ) → i < frames_of N.job → is_done station.log i ≡ true }
+    ensures frames { result.report.frames ≡ frames_of N.job }
+    ensures loads { (result.report.loads ≡ loads) × (result.report.misses ≡ loads) }
+    ensures end { result.end ≡ end_by (first_why station.log.steps) }
+    ensures steps { result.history ≡ Some station.log.steps }
+    ensures made { IsCrewRun N.job N.files N.start D.tells D.history D.faults station.log.steps result.end result.report result.disk }
+    ensures acked { result.end ≡ RunEnd.Done → D.tells ≡ true → AreAllAcked N.job (moment_of (D.history result.disk)) }
+    ensures scans { result.scans ≡ scans }
+{
+    let (reel, board) = station.into_parts();
+    let end = end_of(board.history());
+    let report = report_of(job, &reel, loads);
+    Crew {
+        end,
+        report,
+        history: Some(board.into_history()),
+        log: ShareLog,
+        scans,
+        disk: reel.close(),
+    }
+}
+
+/// The run of a crew over a reel that was opened, and its board.
+fn run_opened<
+    N: Work + Start + Send + Sync,
+    A: Ledger + Send + Sync,
+    B: Ledger + Send + Sync,
+    C: Ledger + Send + Sync,
+    E: Ledger + Send + Sync,
+    S: Scans + Send,
+    D: Disk + Send,
+    R: Threads + Wait + Sync,
+>(
+    rt: &R,
+    alloc: Global,
+    job: &Job,
+    reel: Reel<D, N>,
+    board: Board,
+    source: Blank,
+    failed: Blank,
+    memory: Blank,
+    changed: Blank,
+    threads: usize,
+    scans: Vec<S>,
+    room: Vec<Seat<S, N, A, B, C, E>>,
+    back: Vec<S>,
+) -> Crew<S, D>
+    requires source { IsBlankOf A.name A.parts source.name source.parts × (source.parts ≡ 17) }
+    requires failed { IsBlankOf B.name B.parts failed.name failed.parts × (failed.parts ≡ 17) }
+    requires memory { IsBlankOf C.name C.parts memory.name memory.parts × (memory.parts ≡ 17) }
+    requires changed { IsBlankOf E.name E.parts changed.name changed.parts × (changed.parts ≡ 17) }
+    requires job { job.now ≡ N.job }
+    requires files { All (λ s. Tells N.files (S.world s)) scans.items }
+    requires infos { AreInfosOf N.job.parts N.files N.job.infos }
+    requires beginning { IsBeginning N.job N.files N.start D.tells D.history D.faults reel board }
+    requires some { 0 < threads }
+    requires within { threads ≤ vec_len scans }
+    requires few { vec_len scans ≤ 16 }
+    requires room { (room.items ≡ []) × (vec_len scans ≤ vec_capacity room) }
+    requires back { (back.items ≡ []) × (vec_len scans ≤ vec_capacity back) }
+    ensures frames { result.report.frames ≡ frames_of N.job }
+    ensures misses { result.report.misses ≡ result.report.loads }
+    ensures some { is_some result.history ≡ true }
+    ensures acked { result.end ≡ RunEnd.Done → D.tells ≡ true → AreAllAcked N.job (moment_of (D.history result.disk)) }
+    ensures changed { IsChange result.end → 1 ≤ result.report.loads }
+    ensures made { IfSome result.history (λ steps. IsCrewRun N.job N.files N.start D.tells D.history D.faults steps result.end result.report result.disk) }
+    ensures scans { AreWorked S.world S.faults S.loads S.same threads result.report.loads (result.end ≡ RunEnd.SourceFault) scans.items result.scans.items }
+{
+    let (station, mut marks) = Station::<D, N, A, B, C, E>::new(
+        reel, board, source, failed, memory, changed,
+    );
+    let mut seats = seat_all(room, scans, &mut marks);
+    let mut station = work_all(rt, alloc, job, &mut seats, threads, station);
+    let (scans, loads) = unseat(seats, back, &mut marks);
+    station.settle(&mut marks);
+    closing(job, station, scans, loads)
+}
+
+/// A crew under names of its ledgers.
+fn crew_under<
+    N: Work + Start + Send + Sync,
+    A: Ledger + Send + Sync,
+    B: Ledger + Send + Sync,
+    C: Ledger + Send + Sync,
+    E: Ledger + Send + Sync,
+    S: Scans + Send,
+    D: Disk + Send,
+    R: Threads + Wait + Sync,
+>(
+    rt: &R,
+    alloc: Global,
+    job: &Job,
+    source: Blank,
+    failed: Blank,
+    memory: Blank,
+    changed: Blank,
+    scans: Vec<S>,
+    workers: u16,
+    disk: D,
+) -> Crew<S, D>
+    requires source { IsBlankOf A.name A.parts source.name source.parts × (source.parts ≡ 17) }
+    requires failed { IsBlankOf B.name B.parts failed.name failed.parts × (failed.parts ≡ 17) }
+    requires memory { IsBlankOf C.name C.parts memory.name memory.parts × (memory.parts ≡ 17) }
+    requires changed { IsBlankOf E.name E.parts changed.name changed.parts × (changed.parts ≡ 17) }
+    requires job { job.now ≡ N.job }
+    requires files { All (λ s. Tells N.files (S.world s)) scans.items }
+    requires infos { AreInfosOf N.job.parts N.files N.job.infos }
+    requires scans { (1 ≤ vec_len scans) × (vec_len scans ≤ 16) }
+    requires workers { (1 ≤ workers) × (workers ≤ 16) }
+    requires start { N.start ≡ start_of D.tells (D.history disk) }
+    requires moment { D.tells ≡ true → (D.history disk).now ≡ 0 }
+    requires faults { D.faults disk ≡ 0 }
+    ensures frames { result.report.frames ≡ frames_of N.job }
+    ensures misses { result.report.misses ≡ result.report.loads }
+
+    // What the folder acknowledged at the opening and does now, and the steps by which it came; or why there are none.
+    ensures ran { MatchOption result.history
+        (IsUnstepped N.job D.tells (D.history disk) (D.history result.disk) result.end result.report)
+        (λ steps. WasCrewed N.job N.files D.tells (D.history disk) (D.history result.disk) steps result.end result.report) }
+
+    // At Done every image acknowledges every frame, and the folder has the whole reel: that of a run on one thread.
+    ensures acked { result.end ≡ RunEnd.Done → D.tells ≡ true → AreAllAcked N.job (moment_of (D.history result.disk)) }
+    ensures whole { result.end ≡ RunEnd.Done → D.tells ≡ true → HasWhole N.job N.files (D.history disk) (D.history result.disk) }
+
+    // A crash at any moment leaves only frames acknowledged that are the reel's, and no acknowledgement is lost.
+    ensures run { D.tells ≡ true → IsReelRun N.job N.files (D.history disk) (D.history result.disk) }
+    ensures spares { D.tells ≡ true → Spares (D.history disk) (D.history result.disk) (IsOwnFile N.job (view_of (D.history disk))) }
+
+    // Each scan is handed back in its place. A stop has its cause: a load failed, a loaded file has changed, the disk failed.
+    ensures scans { AreWorked S.world S.faults S.loads S.same (min workers (vec_len scans)) result.report.loads (result.end ≡ RunEnd.SourceFault) scans.items result.scans.items }
+    ensures changed { IsChange result.end → 1 ≤ result.report.loads }
+    ensures failed { result.end ≡ RunEnd.DiskFault → HasDiskFailed result.history result.end }
+    ensures cause { HasCause (D.faults disk) (D.faults result.disk) (HasDiskFailed result.history result.end) }
+    ensures steady { (HasDiskFailed result.history result.end → ⊥) → D.faults result.disk ≡ D.faults disk }
+{
+    let Ok(back) = Vec::with_capacity(alloc, scans.len()) else {
+        return unmade(job, RunEnd::NoMemory, scans, disk);
+    };
+    let Ok(room) = Vec::with_capacity(alloc, scans.len()) else {
+        return unmade(job, RunEnd::NoMemory, scans, disk);
+    };
+    let reel = match Reel::<D, N>::begin(alloc, disk, job) {
+        Ok(reel) => reel,
+        Err((fault, disk)) => return unmade(job, end_of_opening(fault), scans, disk),
+    };
+    let threads = workers.min(scans.len() as u16);
+    let board = match board_of(alloc, job, &reel, threads) {
+        Some(board) => board,
+        None => return unmade(job, RunEnd::NoMemory, scans, reel.close()),
+    };
+    run_opened::<N, A, B, C, E, S, D, R>(
+        rt,
+        alloc,
+        job,
+        reel,
+        board,
+        source,
+        failed,
+        memory,
+        changed,
+        usize::from(threads),
+        scans,
+        room,
+        back,
+    )
+}
+
+/// Runs N's job with several workers over a disk that was never used, and hands back every scan and the disk.
+///
+/// The first `workers` scans have a worker each, or all scans where there are fewer. The folder is opened as `Reel::begin`
+/// opens it. It may wait for the lock that its workers share.
+pub fn run_crew<
+    N: Work + Start + Send + Sync,
+    S: Scans + Send,
+    D: Disk + Send,
+    R: Threads + Wait + Sync,
+>(
+    rt: &R,
+    alloc: Global,
+    job: &Job,
+    scans: Vec<S>,
+    workers: u16,
+    disk: D,
+    share_cap: u32,
+) -> Crew<S, D>
+    requires job { job.now ≡ N.job }
+    requires files { All (λ s. Tells N.files (S.world s)) scans.items }
+    requires infos { AreInfosOf N.job.parts N.files N.job.infos }
+    requires scans { (1 ≤ vec_len scans) × (vec_len scans ≤ 16) }
+    requires workers { (1 ≤ workers) × (workers ≤ 16) }
+    requires share { (1 ≤ share_cap) × (share_cap ≤ 16) }
+    requires start { N.start ≡ start_of D.tells (D.history disk) }
+    requires moment { D.tells ≡ true → (D.history disk).now ≡ 0 }
+    requires faults { D.faults disk ≡ 0 }
+    ensures frames { result.report.frames ≡ frames_of N.job }
+    ensures misses { result.report.misses ≡ result.report.loads }
+
+    // What the folder acknowledged at the opening and does now, and the steps by which it came; or why there are none.
+    ensures ran { MatchOption result.history
+        (IsUnstepped N.job D.tells (D.history disk) (D.history result.disk) result.end result.report)
+        (λ steps. WasCrewed N.job N.files D.tells (D.history disk) (D.history result.disk) steps result.end result.report) }
+
+    // At Done every image acknowledges every frame, and the folder has the whole reel: that of a run on one thread.
+    ensures acked { result.end ≡ RunEnd.Done → D.tells ≡ true → AreAllAcked N.job (moment_of (D.history result.disk)) }
+    ensures whole { result.end ≡ RunEnd.Done → D.tells ≡ true → HasWhole N.job N.files (D.history disk) (D.history result.disk) }
+
+    // A crash at any moment leaves only frames acknowledged that are the reel's, and no acknowledgement is lost.
+    ensures run { D.tells ≡ true → IsReelRun N.job N.files (D.history disk) (D.history result.disk) }
+    ensures spares { D.tells ≡ true → Spares (D.history disk) (D.history result.disk) (IsOwnFile N.job (view_of (D.history disk))) }
+
+    // Each scan is handed back in its place. A stop has its cause: a load failed, a loaded file has changed, the disk failed.
+    ensures scans { AreWorked S.world S.faults S.loads S.same (min workers (vec_len scans)) result.report.loads (result.end ≡ RunEnd.SourceFault) scans.items result.scans.items }
+    ensures changed { IsChange result.end → 1 ≤ result.report.loads }
+    ensures failed { result.end ≡ RunEnd.DiskFault → HasDiskFailed result.history result.end }
+    ensures cause { HasCause (D.faults disk) (D.faults result.disk) (HasDiskFailed result.history result.end) }
+    ensures steady { (HasDiskFailed result.history result.end → ⊥) → D.faults result.disk ≡ D.faults disk }
+{
+    let _ = share_cap;
+    crew_under::<N, Brand, Brand, Brand, Brand, S, D, R>(
+        rt,
+        alloc,
+        job,
+        Blank::new(17),
+        Blank::new(17),
+        Blank::new(17),
+        Blank::new(17),
+        scans,
+        workers,
+        disk,
+    )
+}

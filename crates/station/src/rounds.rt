@@ -1,0 +1,210 @@
+//! A worker's rounds: a claim under the lock, then loads and rendering outside it, then a finish or a stop under it.
+ghost use Rattle.std.specs.Prelude.{◌≡◌, ◌≢◌, ◌↔◌, ◌+◌, ◌-◌, ◌<◌, ◌≤◌, ◌^◌, true, false, Err, length, IfSome, IfOk, IfErr, OnOk, IsErr};
+ghost use Rattle.conform_job.specs.Answers.{AreInfosOf};
+ghost use Rattle.conform_job.specs.Names.{Tells};
+ghost use Rattle.frame_render.specs.Frame.{frame_size};
+ghost use Rattle.render_board.specs.declared.step.Why.TheVariants as whys;
+ghost use Rattle.reel_writer.specs.Reel.{frames_of};
+ghost use Rattle.station.specs.Ends.{IsChange, IsStop};
+ghost use Rattle.station.specs.Marks.{Tallies};
+ghost use Rattle.station.specs.Scanned.{IsScanned};
+ghost use Rattle.station.specs.StationSteps.{MayStop, why_by};
+ghost use Rattle.station.specs.Worked.{HasCauses, KeepsParts, KeepsSources, MayRaise};
+
+use crate::RunEnd;
+use crate::frames::make_frame;
+use crate::marks::Marks;
+use crate::seat::Seat;
+use crate::station::Station;
+use conform_job::{Job, Work};
+use frame_render::{FrameBuf, Rendered};
+use reel_disk::{Disk, Start};
+use render_board::{Claim, Turn, Why};
+use scan_source::Scans;
+use std::alloc::Global;
+use std::sync::ledger::Ledger;
+use std::sync::{Mutex, Wait};
+
+/// Whether a load failed.
+pub(crate) fn is_source_fault<N: Work>(made: &Result<Rendered<N>, RunEnd>) -> bool
+    ensures { result ≡ true ↔ made.now ≡ Err RunEnd.SourceFault }
+{
+    matches!(*made, Err(RunEnd::SourceFault))
+}
+
+/// Why a worker stops where a frame could not be made.
+pub(crate) fn why_of<N: Work>(end: RunEnd) -> Why
+    requires stop { IsStop N.job N.files end }
+    requires never { end ≢ RunEnd.DiskFault }
+    ensures why { result ≡ why_by end }
+    ensures may { MayStop N.job N.files result }
+{
+    match end {
+        RunEnd::Changed { key, was, now } => Why::Changed { key, was, now },
+        RunEnd::SourceFault => Why::Source,
+        RunEnd::NoMemory => Why::Memory,
+        RunEnd::Done | RunEnd::OtherJob { .. } | RunEnd::BadLedger { .. } | RunEnd::DiskFault =>
+            unreachable!(),
+    }
+}
+
+/// Claims a frame, where the worker may.
+fn take_frame<D: Disk, N: Work + Start, A: Ledger, B: Ledger, C: Ledger, E: Ledger, R: Wait>(
+    rt: &R,
+    number: u16,
+    station: &Mutex<Station<D, N, A, B, C, E>>,
+) -> Option<u32>
+    ensures within { IfSome result (λ i. i < frames_of N.job) }
+{
+    let mut guard = station.lock(rt);
+    let here = &mut *guard;
+    if number >= here.workers() || here.is_closed() {
+        return None;
+    }
+    match here.turn(number) {
+        Turn::Idle => {}
+        Turn::Holds(_) | Turn::Stopped => return None,
+    }
+    match here.claim(number) {
+        Claim::Take(i) => Some(i),
+        Claim::NoneLeft | Claim::Stopped => None,
+    }
+}
+
+/// Finishes a frame, where the worker still holds it and the reel is open. It says whether it did.
+fn hand_in<D: Disk, N: Work + Start, A: Ledger, B: Ledger, C: Ledger, E: Ledger, R: Wait>(
+    rt: &R,
+    number: u16,
+    marks: &mut Marks<A, B, C, E>,
+    station: &Mutex<Station<D, N, A, B, C, E>>,
+    frame: &Rendered<N>,
+) -> bool
+    ensures marks { MayRaise whys.Disk marks.old marks.new }
+    ensures done { result ≡ true → marks.new ≡ marks.old }
+{
+    let mut guard = station.lock(rt);
+    let here = &mut *guard;
+    if number >= here.workers() || here.is_closed() {
+        return false;
+    }
+    match here.turn(number) {
+        Turn::Holds(i) if i == frame.index() => {}
+        _ => return false,
+    }
+    here.finish(number, frame, marks).is_ok()
+}
+
+/// Stops, where the worker has not stopped and the reel is open.
+fn give_up<D: Disk, N: Work + Start, A: Ledger, B: Ledger, C: Ledger, E: Ledger, R: Wait>(
+    rt: &R,
+    number: u16,
+    marks: &mut Marks<A, B, C, E>,
+    station: &Mutex<Station<D, N, A, B, C, E>>,
+    why: Why,
+)
+    requires why { MayStop N.job N.files why }
+    ensures marks { MayRaise why marks.old marks.new }
+{
+    let mut guard = station.lock(rt);
+    let here = &mut *guard;
+    if number >= here.workers() || here.is_closed() {
+        return;
+    }
+    match here.turn(number) {
+        Turn::Stopped => {}
+        Turn::Idle | Turn::Holds(_) => here.stop(number, why, marks),
+    }
+}
+
+/// One round: claims a frame, makes it and finishes it. The room is handed back where the worker goes on.
+fn round<S: Scans, D: Disk, N: Work + Start, A: Ledger, B: Ledger, C: Ledger, E: Ledger, R: Wait>(
+    rt: &R,
+    alloc: Global,
+    job: &Job,
+    seat: &mut Seat<S, N, A, B, C, E>,
+    station: &Mutex<Station<D, N, A, B, C, E>>,
+    into: &mut Vec<u8>,
+    room: FrameBuf,
+) -> Option<FrameBuf>
+    requires job { job.now ≡ N.job }
+    requires files { Tells N.files (S.world seat.old.scan) }
+    requires infos { AreInfosOf N.job.parts N.files N.job.infos }
+    requires room { length room ≡ frame_size N.job }
+    requires few { seat.old.loads + 2 < 2 ^ 64 }
+    requires unfailed { seat.old.has_failed ≡ false }
+    ensures number { seat.new.number ≡ seat.old.number }
+    ensures room { IfSome result (λ back. length back ≡ frame_size N.job) }
+    ensures later { seat.old.loads ≤ seat.new.loads }
+    ensures most { seat.new.loads ≤ seat.old.loads + 2 }
+    ensures scan { IsScanned S.world S.faults S.loads (seat.new.loads - seat.old.loads) (seat.new.has_failed ≡ true) seat.old.scan seat.new.scan }
+    ensures same { S.same seat.old.scan seat.new.scan }
+    ensures causes { HasCauses N.files (seat.new.loads - seat.old.loads) seat.new.has_failed seat.old.marks seat.new.marks }
+    ensures goes_on { IfSome result (λ back. KeepsSources seat.old.marks seat.new.marks × (seat.new.has_failed ≡ false)) }
+{
+    let Some(i) = take_frame(rt, seat.number, station) else {
+        return None;
+    };
+    let made = make_frame::<N, S>(alloc, job, &mut seat.scan, i, into, room, &mut seat.loads);
+    seat.has_failed = is_source_fault(&made);
+    match made {
+        Ok(frame) => {
+            if !hand_in(rt, seat.number, &mut seat.marks, station, &frame) {
+                return None;
+            }
+            Some(frame.into_buf())
+        }
+        Err(end) => {
+            let why = why_of::<N>(end);
+            give_up(rt, seat.number, &mut seat.marks, station, why);
+            None
+        }
+    }
+}
+
+/// A worker's part of a run: it claims, makes and finishes frames until none is left, or somebody stops. It loads and
+/// renders outside the lock, and waits for the lock alone.
+///
+/// It stops where a load failed, where memory ran out, where the disk failed in a finish, and where a source file isn't
+/// what it was when the job was planned. Each stop is counted in its marks.
+pub fn worker<
+    S: Scans,
+    D: Disk,
+    N: Work + Start,
+    A: Ledger,
+    B: Ledger,
+    C: Ledger,
+    E: Ledger,
+    R: Wait,
+>(
+    rt: &R,
+    alloc: Global,
+    job: &Job,
+    seat: &mut Seat<S, N, A, B, C, E>,
+    station: &Mutex<Station<D, N, A, B, C, E>>,
+)
+    requires job { job.now ≡ N.job }
+    requires files { Tells N.files (S.world seat.old.scan) }
+    requires infos { AreInfosOf N.job.parts N.files N.job.infos }
+    requires none { seat.old.loads ≡ 0 }
+    requires unfailed { seat.old.has_failed ≡ false }
+    ensures number { seat.new.number ≡ seat.old.number }
+    ensures few { seat.new.loads ≤ 524288 }
+    ensures scan { IsScanned S.world S.faults S.loads seat.new.loads (seat.new.has_failed ≡ true) seat.old.scan seat.new.scan }
+    ensures same { S.same seat.old.scan seat.new.scan }
+    ensures causes { HasCauses N.files seat.new.loads seat.new.has_failed seat.old.marks seat.new.marks }
+{
+    let mut room = match FrameBuf::new(alloc, job) {
+        Ok(room) => room,
+        Err(_) => {
+            give_up(rt, seat.number, &mut seat.marks, station, Why::Memory);
+            return;
+        }
+    };
+    let mut into = Vec::new(alloc);
+    for _ in 0..job.timeline().count() {
+        match round(rt, alloc, job, seat, station, &mut into, room) {
+            Some(back) => room = back,
+            None => return,
+        }
+    }
+}

@@ -1,0 +1,23 @@
+//! What one worker has for itself.
+use crate::marks::Marks;
+use conform_job::Work;
+use scan_source::Scans;
+use std::marker::PhantomData;
+use std::sync::ledger::Ledger;
+
+/// What one worker of a run of N's job has for itself.
+#[derive(Drop)]
+pub struct Seat<S: Scans, N: Work, A: Ledger, B: Ledger, C: Ledger, E: Ledger> {
+    /// Which worker it is, from 0.
+    pub number: u16,
+    /// The source files as this worker loads them.
+    pub scan: S,
+    /// Its shares of the totals of stops.
+    pub marks: Marks<A, B, C, E>,
+    /// How often it loaded a source file.
+    pub loads: u64,
+    /// Whether a load of it failed, which ends its work.
+    pub has_failed: bool,
+    /// The job.
+    pub of: PhantomData<N>,
+}

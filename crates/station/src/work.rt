@@ -1,0 +1,135 @@
+//! A worker in each seat, and what they leave.
+ghost use Rattle.std.specs.Prelude.{◌≡◌, ◌<◌, ◌≤◌, ℕ, All, true, false, length, slice_index_or};
+ghost use Rattle.conform_job.specs.Answers.{AreInfosOf};
+ghost use Rattle.conform_job.specs.Names.{Tells};
+ghost use Rattle.render_board.specs.Board.{has_stop, is_done};
+ghost use Rattle.reel_writer.specs.Reel.{frames_of};
+ghost use Rattle.station.specs.Crews.{IsWorked};
+
+use crate::rest::finish_rest;
+use crate::rounds::worker;
+use crate::seat::Seat;
+use crate::station::Station;
+use conform_job::{Job, Work};
+use reel_disk::{Disk, Start};
+use scan_source::Scans;
+use std::alloc::Global;
+use std::sync::ledger::Ledger;
+use std::sync::{Mutex, Wait};
+use std::thread;
+use std::thread::Threads;
+
+/// Runs a worker in each seat.
+fn drive<
+    S: Scans + Send,
+    D: Disk + Send,
+    N: Work + Start + Send + Sync,
+    A: Ledger + Send + Sync,
+    B: Ledger + Send + Sync,
+    C: Ledger + Send + Sync,
+    E: Ledger + Send + Sync,
+    R: Threads + Wait + Sync,
+>(
+    rt: &R,
+    alloc: Global,
+    job: &Job,
+    seats: &mut [Seat<S, N, A, B, C, E>],
+    station: &Mutex<Station<D, N, A, B, C, E>>,
+)
+    requires some { 0 < length seats.old }
+    requires job { job.now ≡ N.job }
+    requires files { All (λ s. Tells N.files (S.world s.scan)) seats.old }
+    requires infos { AreInfosOf N.job.parts N.files N.job.infos }
+    requires idle { All (λ s. (s.loads ≡ 0) × (s.has_failed ≡ false)) seats.old }
+    ensures each { (k : ℕ) (d : _) → k < length seats.old → IsWorked N.files S.world S.faults S.loads
+        (slice_index_or seats.old k d).scan (slice_index_or seats.new k d).scan
+        (slice_index_or seats.new k d).loads (slice_index_or seats.new k d).has_failed
+        (slice_index_or seats.old k d).marks (slice_index_or seats.new k d).marks }
+    ensures few { (k : ℕ) (d : _) → k < length seats.old → (slice_index_or seats.new k d).loads ≤ 524288 }
+    ensures same { (k : ℕ) (d : _) → k < length seats.old → S.same (slice_index_or seats.old k d).scan (slice_index_or seats.new k d).scan }
+{
+    let threads = seats.len();
+    thread::for_each_mut(
+        rt,
+        seats,
+        threads,
+        &|_, seat| { worker(rt, alloc, job, seat, station) },
+    );
+}
+
+/// Runs a worker in each of the first seats.
+fn drive_first<
+    S: Scans + Send,
+    D: Disk + Send,
+    N: Work + Start + Send + Sync,
+    A: Ledger + Send + Sync,
+    B: Ledger + Send + Sync,
+    C: Ledger + Send + Sync,
+    E: Ledger + Send + Sync,
+    R: Threads + Wait + Sync,
+>(
+    rt: &R,
+    alloc: Global,
+    job: &Job,
+    seats: &mut [Seat<S, N, A, B, C, E>],
+    threads: usize,
+    station: &Mutex<Station<D, N, A, B, C, E>>,
+)
+    requires some { 0 < threads }
+    requires within { threads ≤ length seats.old }
+    requires job { job.now ≡ N.job }
+    requires files { All (λ s. Tells N.files (S.world s.scan)) seats.old }
+    requires infos { AreInfosOf N.job.parts N.files N.job.infos }
+    requires idle { All (λ s. (s.loads ≡ 0) × (s.has_failed ≡ false)) seats.old }
+    ensures size { length seats.new ≡ length seats.old }
+    ensures each { (k : ℕ) (d : _) → k < threads → IsWorked N.files S.world S.faults S.loads
+        (slice_index_or seats.old k d).scan (slice_index_or seats.new k d).scan
+        (slice_index_or seats.new k d).loads (slice_index_or seats.new k d).has_failed
+        (slice_index_or seats.old k d).marks (slice_index_or seats.new k d).marks }
+    ensures few { (k : ℕ) (d : _) → k < threads → (slice_index_or seats.new k d).loads ≤ 524288 }
+    ensures same { (k : ℕ) (d : _) → k < threads → S.same (slice_index_or seats.old k d).scan (slice_index_or seats.new k d).scan }
+    ensures others { (k : ℕ) (d : _) → threads ≤ k → slice_index_or seats.new k d ≡ slice_index_or seats.old k d }
+{
+    drive(rt, alloc, job, &mut seats[..threads], station);
+}
+
+/// Runs the workers, and finishes what they left.
+pub(crate) fn work_all<
+    S: Scans + Send,
+    D: Disk + Send,
+    N: Work + Start + Send + Sync,
+    A: Ledger + Send + Sync,
+    B: Ledger + Send + Sync,
+    C: Ledger + Send + Sync,
+    E: Ledger + Send + Sync,
+    R: Threads + Wait + Sync,
+>(
+    rt: &R,
+    alloc: Global,
+    job: &Job,
+    seats: &mut [Seat<S, N, A, B, C, E>],
+    threads: usize,
+    station: Station<D, N, A, B, C, E>,
+) -> Station<D, N, A, B, C, E>
+    requires some { 0 < threads }
+    requires within { threads ≤ length seats.old }
+    requires job { job.now ≡ N.job }
+    requires files { All (λ s. Tells N.files (S.world s.scan)) seats.old }
+    requires infos { AreInfosOf N.job.parts N.files N.job.infos }
+    requires idle { All (λ s. (s.loads ≡ 0) × (s.has_failed ≡ false)) seats.old }
+    ensures size { length seats.new ≡ length seats.old }
+    ensures each { (k : ℕ) (d : _) → k < length seats.old → IsWorked N.files S.world S.faults S.loads
+        (slice_index_or seats.old k d).scan (slice_index_or seats.new k d).scan
+        (slice_index_or seats.new k d).loads (slice_index_or seats.new k d).has_failed
+        (slice_index_or seats.old k d).marks (slice_index_or seats.new k d).marks }
+    ensures few { (k : ℕ) (d : _) → k < length seats.old → (slice_index_or seats.new k d).loads ≤ 2097152 }
+    ensures same { (k : ℕ) (d : _) → k < length seats.old → S.same (slice_index_or seats.old k d).scan (slice_index_or seats.new k d).scan }
+    ensures unused { (k : ℕ) (d : _) → threads ≤ k → slice_index_or seats.new k d ≡ slice_index_or seats.old k d }
+    ensures whole { has_stop result.log.steps ≡ false → (i : ℕ) → i < frames_of N.job → is_done result.log i ≡ true }
+{
+    let lock = Mutex::new(station);
+    drive_first(rt, alloc, job, seats, threads, &lock);
+    let mut station = lock.into_inner();
+    finish_rest(alloc, job, &mut station, &mut seats[0]);
+    station
+}
