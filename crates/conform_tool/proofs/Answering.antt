@@ -4,7 +4,7 @@ use Rattle.scan_source.specs.World.{World}
 use Rattle.conform_tool.specs.Answer.{SinkState, IsPut, IsLinePut, IsUnread, Answered}
 use Rattle.command_words.specs.Commands.{Spells, IsNoCommand}
 use Rattle.outcome_line.specs.Output.{line_of, IsMade}
-use Rattle.conform_tool.specs.Reply.{ScanState, UsesDisk, IsWholeReply}
+use Rattle.conform_tool.specs.Reply.{ScanState, IsKindOf, UsesDisk, IsWholeReply}
 use Rattle.project_run.specs.Run.{DiskState, IsRunReply}
 use Rattle.project_run.specs.Status.{IsStatusReply}
 use Rattle.command_words.specs.declared.command.Command.{Command}
@@ -58,7 +58,7 @@ answered_by words command scan scan_after disk disk_after sink sink_after result
   reached = reached;
   output = output;
   put = put;
-  usage = λ same. absurd (whole.reply.spelled same);
+  usage = λ same. absurd (subst (IsKindOf command) same whole.reply.kind);
   no_command = λ none. absurd (none command spelled);
   reply = λ other spells. inl (subst (λ c. IsWholeReply c scan scan_after disk disk_after reached output) (one_spelled words command other spelled spells) whole);
 }
@@ -123,9 +123,7 @@ or_no_memory command before after disk disk_after outcome output made whole = re
   reply = record {
     right = memory_right command (line_of outcomes.NoMemory) before after;
     line = λ _. refl;
-    spelled = λ same. cc;
-    not_the_sink = λ instead same. cc;
-    not_the_disk = λ same. absurd (cc);
+    kind = tt;
     source_fault = λ same. absurd (cc);
     steady = λ _. whole.reply.steady (made_apart outcome made).0;
     later = whole.reply.later;

@@ -1,11 +1,10 @@
 -- From a crew, and from a reply on one thread, to the answer of the top call.
-use Rattle.std.proofs.Common.{◌≡◌, ◌≢◌, ℕ, ◌≤◌, List, Vec, Option, Some, None, Result, Ok, Err, MatchOption, MatchResult, refl, sym, ◌∙◌, ap, subst, arith, inl, inr}
-use Rattle.std.specs.Prelude.{◌⊎◌}
+use Rattle.std.proofs.Common.{◌≡◌, ℕ, ◌≤◌, List, Vec, Option, Some, None, Result, Ok, Err, MatchResult, refl, sym, ◌∙◌, ap, subst, inl, inr}
 use Rattle.std.specs.declared.alloc.Global.{Global}
 use Rattle.std.proofs.lemmas.Option.{same_Some}
 use Rattle.cf_base.specs.Count.{HasRisen}
 use Rattle.scan_source.specs.World.{World}
-use Rattle.command_words.specs.Commands.{Spells, IsNoCommand}
+use Rattle.command_words.specs.Commands.{Spells}
 use Rattle.command_words.specs.declared.command.Command.{Command}
 use Rattle.command_words.specs.declared.command.Command.TheVariants as commands
 use Rattle.command_words.proofs.Commands.{one_spelled}
@@ -133,6 +132,9 @@ run_found words found p path w s workers share says is spells =
 
 pub found_run : (words : List (List ℕ)) (found : Option Command) (p : List ℕ) (w s : ℕ) → IsFoundIn words found → found ≡ Some (commands.Run p w s) → Spells words (commands.Run p w s)
 found_run words found p w s says is = subst (IsFoundIn words) is says
+
+pub found_command : (words : List (List ℕ)) (found : Option Command) (command : Command) (p : List ℕ) (w s : ℕ) → IsFoundIn words found → found ≡ Some (commands.Run p w s) → Spells words command → command ≡ commands.Run p w s
+found_command words found command p w s says is spells = same_Some _ _ (sym (spelled_found words found command says spells) ∙ is)
 
 -- where no run with several workers was found, the words spell none
 pub alone_found : (words : List (List ℕ)) (found : Option Command) → IsFoundIn words found → ((path : List ℕ) (workers share : ℕ) → found ≡ Some (commands.Run path workers share) → workers ≤ 1) → IsAlone words

@@ -1,5 +1,5 @@
 -- From the demonstration to the reply of its command, which leaves the scan and the disk as they are.
-use Rattle.std.proofs.Common.{◌≡◌, ◌≢◌, ℕ, ◌≤◌, List, Vec, Global, MatchResult, refl, sym, subst, arith}
+use Rattle.std.proofs.Common.{◌≡◌, ◌≢◌, ℕ, List, Vec, Global, MatchResult, refl, sym, subst, arith}
 use Rattle.std.specs.Prelude.{Result, Ok, Err}
 use Rattle.scan_source.specs.World.{file_at}
 use Rattle.demo_run.specs.Demo.{demo_world, IsShown, IsInstead}
@@ -9,8 +9,8 @@ use Rattle.command_words.specs.declared.command.Command.{Command}
 use Rattle.command_words.specs.declared.command.Command.TheVariants as commands
 use Rattle.outcome_line.specs.declared.outcome.Outcome.{Outcome}
 use Rattle.outcome_line.specs.declared.outcome.Outcome.TheVariants as outcomes
-use Rattle.conform_tool.specs.Reply.{ScanState, IsDemoReply, IsReply, IsWholeReply}
-use Rattle.conform_tool.proofs.Replies.{IsReplied, reply_of}
+use Rattle.conform_tool.specs.Reply.{ScanState, IsDemoReply, IsKindOf, IsReply, IsWholeReply}
+use Rattle.conform_tool.proofs.Replies.{reply_of}
 
 -- with no call on either, nothing failed
 untouched : (count : ℕ) (scan : ScanState) (disk : DiskState) (reached : Outcome) (output : List ℕ)
@@ -29,7 +29,7 @@ shown count scan output is =
 
 -- the outcomes in its place are those of a command that makes no call on the disk, and not the scan's
 instead_replied : (count : ℕ) (outcome : Outcome) (output : List ℕ) → IsInstead (file_at (demo_world count)) outcome
-    → IsReplied (commands.Demo count) outcome × IsDemoReply count outcome output × (outcome ≢ outcomes.SourceFault) × (outcome ≢ outcomes.DiskFault)
+    → IsKindOf (commands.Demo count) outcome × IsDemoReply count outcome output × (outcome ≢ outcomes.SourceFault) × (outcome ≢ outcomes.DiskFault)
 instead_replied count outcomes.Done output is = absurd is
 instead_replied count outcomes.Usage output is = absurd is
 instead_replied count (outcomes.Refused refusal) output is = (tt, is, λ same. cc, λ same. cc)

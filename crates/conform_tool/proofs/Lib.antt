@@ -1,7 +1,10 @@
+mod Alone
 mod Answering
+mod Completes
 mod Conforming
 mod Demos
 mod Frames
+mod Headlines
 mod Lists
 mod Plans
 mod Replies

@@ -8,12 +8,11 @@ use Rattle.conform_job.specs.Job.{JobData}
 use Rattle.scan_source.specs.World.{World, file_at}
 use Rattle.project_job.specs.Jobs.{HasPlanned, IsOfJob}
 use Rattle.printed_tables.specs.Plan.{plan_of}
-use Rattle.conform_tool.specs.Reply.{ScanState, IsPlanReply}
+use Rattle.conform_tool.specs.Reply.{ScanState, IsPlanReply, IsKindOf}
 use Rattle.outcome_line.specs.declared.outcome.Outcome.{Outcome}
 use Rattle.outcome_line.specs.declared.outcome.Outcome.TheVariants as outcomes
 use Rattle.outcome_line.specs.declared.outcome.Outcome.TheVariants.{Done, Usage, Refused, SourceFault, SinkFault, NoMemory}
 use Rattle.command_words.specs.declared.command.Command.{Command}
-use Rattle.conform_tool.proofs.Replies.{IsReplied}
 
 plan_at : (files : World) (path output : List ℕ) (before after : ScanState) (job : JobData) → HasPlanned (file_at files) path (Ok job) → output ≡ plan_of job.parts.timeline
     → Grows job.parts before.world (asks_of job.parts.timeline) [] job.infos → HasEachOnce job.infos → HeadsGrow before.heads after.heads 0 (length job.infos)
@@ -54,7 +53,7 @@ plan_without None = tt
 plan_without (Some world) = tt
 
 -- the outcomes that a job comes to are its command's own
-pub replied_job : (command : Command) (outcome : Outcome) → IsOfJob outcome → IsReplied command outcome
+pub replied_job : (command : Command) (outcome : Outcome) → IsOfJob outcome → IsKindOf command outcome
 replied_job command (Refused refusal) kind = tt
 replied_job command SourceFault kind = tt
 replied_job command NoMemory kind = tt

@@ -19,7 +19,7 @@ use Rattle.outcome_line.specs.declared.outcome.Which.TheVariants as which
 use Rattle.conform_tool.specs.Faults.{IfFault}
 use Rattle.outcome_line.specs.Output.{line_of}
 use Rattle.project_run.specs.Run.{IsOfRun}
-use Rattle.conform_tool.specs.Reply.{ScanState, ByFile, IsRight, IsRightBy, HasLoaded, LooksAtHeads, CallsDisk, IsReply}
+use Rattle.conform_tool.specs.Reply.{ScanState, ByFile, IsRight, IsRightBy, HasLoaded, LooksAtHeads, CallsDisk, IsKindOf, IsReply}
 use Rattle.command_words.specs.declared.command.Command.{Command}
 use Rattle.command_words.specs.declared.command.Command.TheVariants as commands
 use Rattle.outcome_line.specs.declared.outcome.Outcome.{Outcome}
@@ -84,14 +84,7 @@ by_missing world path absent (Refused (Cube fault_)) P told kind gone fault memo
 by_missing world path absent (Refused (Job fault_)) P told kind gone fault memory = absurd kind
 by_missing world path absent (Refused (Frame fault_)) P told kind gone fault memory = absurd kind
 
--- the outcomes that a command comes to by itself
-abbrev pub IsReplied : Command → Outcome → Type 0
-IsReplied command Usage = ⊥
-IsReplied command (SinkFault instead) = ⊥
-IsReplied command outcomes.DiskFault = CallsDisk command
-IsReplied command outcome = Unit {0}
-
-pub reply_of : (command : Command) (before after : ScanState) (reached : Outcome) (output : List ℕ) → IsReplied command reached
+pub reply_of : (command : Command) (before after : ScanState) (reached : Outcome) (output : List ℕ) → IsKindOf command reached
     → IsRight command reached output before after
     → (reached ≢ Done → output ≡ line_of reached)
     → (reached ≡ SourceFault → HasRisen before.faults after.faults)
@@ -99,12 +92,10 @@ pub reply_of : (command : Command) (before after : ScanState) (reached : Outcome
     → before.faults ≤ after.faults → HasLoaded command before.loads after.loads
     → LooksAtHeads command before.heads after.heads → after.world ≡ before.world
     → IsReply command before after reached output
-reply_of command before after reached output replied right line cause steady later loads heads world = record {
+reply_of command before after reached output kind right line cause steady later loads heads world = record {
   right = right;
   line = line;
-  spelled = λ same. subst (IsReplied command) same replied;
-  not_the_sink = λ instead same. subst (IsReplied command) same replied;
-  not_the_disk = λ same. subst (IsReplied command) same replied;
+  kind = kind;
   source_fault = cause;
   steady = steady;
   later = later;
@@ -158,7 +149,7 @@ pub outcome_of : {A : Type 0} (a b : Outcome) → ◌≡◌ {A = Result A Outcom
 outcome_of a b same = cc
 
 -- the outcome of a load is its command's own
-pub replied_load : (command : Command) (absent : Which) (outcome : Outcome) → IsOfLoad absent outcome → IsReplied command outcome
+pub replied_load : (command : Command) (absent : Which) (outcome : Outcome) → IsOfLoad absent outcome → IsKindOf command outcome
 replied_load command absent Done kind = absurd kind
 replied_load command absent Usage kind = absurd kind
 replied_load command absent (outcomes.OtherJob kept wanted) kind = absurd kind
@@ -174,14 +165,14 @@ pub load_isnt_done : (absent : Which) (outcome : Outcome) → IsOfLoad absent ou
 load_isnt_done absent outcome kind same = subst (IsOfLoad absent) same kind
 
 -- the outcomes of a run are those of a command that makes calls on the disk
-pub replied_run : (command : Command) (outcome : Outcome) → CallsDisk command → IsOfRun outcome → IsReplied command outcome
+pub replied_run : (command : Command) (outcome : Outcome) → CallsDisk command → IsOfRun outcome → IsKindOf command outcome
 replied_run command outcomes.Done calls kind = absurd kind
 replied_run command outcomes.Usage calls kind = absurd kind
 replied_run command (outcomes.SinkFault instead) calls kind = absurd kind
 replied_run command (outcomes.Refused refusal) calls kind = tt
-replied_run command (outcomes.OtherJob kept wanted) calls kind = tt
-replied_run command (outcomes.BadLedger len) calls kind = tt
-replied_run command (outcomes.Changed reel key was now) calls kind = tt
+replied_run command (outcomes.OtherJob kept wanted) calls kind = calls
+replied_run command (outcomes.BadLedger len) calls kind = calls
+replied_run command (outcomes.Changed reel key was now) calls kind = calls
 replied_run command outcomes.SourceFault calls kind = tt
 replied_run command outcomes.DiskFault calls kind = calls
 replied_run command outcomes.NoMemory calls kind = tt

@@ -106,13 +106,22 @@ CallsDisk (commands.Run path workers share) = Unit {0}
 CallsDisk (commands.Status path) = Unit {0}
 CallsDisk other = ⊥
 
+-- The outcomes that a command may come to, whatever the scan and the disk tell. A folder's state, a fault of the disk and a
+-- source file that changed are outcomes of those commands alone that make calls on the disk.
+abbrev pub IsKindOf : Command → Outcome → Type 0
+IsKindOf command Done = Unit {0}
+IsKindOf command (IsRefused refusal) = Unit {0}
+IsKindOf command SourceFault = Unit {0}
+IsKindOf command NoMemory = Unit {0}
+IsKindOf command Usage = ⊥
+IsKindOf command (SinkFault instead) = ⊥
+IsKindOf command other = CallsDisk command
+
 pub record IsReply (command : Command) (before after : ScanState) (reached : Outcome) (output : List ℕ) : Type 0 where
   pub right : IsRight command reached output before after
   pub line : reached ≢ Done → output ≡ line_of reached
   -- causes
-  pub spelled : reached ≢ Usage
-  pub not_the_sink : (instead : ℕ) → reached ≢ SinkFault instead
-  pub not_the_disk : reached ≡ DiskFault → CallsDisk command
+  pub kind : IsKindOf command reached
   pub source_fault : reached ≡ SourceFault → HasRisen before.faults after.faults
   -- the scan: it fails in no other case
   pub steady : reached ≢ SourceFault → after.faults ≡ before.faults

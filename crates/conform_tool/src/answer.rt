@@ -1,10 +1,14 @@
 //! A command on one thread, and what is put for it.
-ghost use Rattle.std.specs.Prelude.{◌≤◌, ℕ, List, map, IfSome, MatchResult};
+ghost use Rattle.std.specs.Prelude.{◌≡◌, ◌≤◌, ℕ, List, map, Some, IfSome, MatchResult};
+ghost use Rattle.conform_job.specs.Job.{JobData};
+ghost use Rattle.scan_source.specs.World.{World};
 ghost use Rattle.conform_tool.specs.Answer.{Answered, IsFoundIn, IsPut, IsLinePut, sink_state};
+ghost use Rattle.conform_tool.specs.Complete.{IsAccepted, HasNotRisen, IsComplete, IsUnfailed};
+ghost use Rattle.conform_tool.specs.Headline.{RunsJob, KeepsItsPromise, HasEnded};
 ghost use Rattle.outcome_line.specs.Output.{line_of};
 ghost use Rattle.conform_tool.specs.Reply.{IsWholeReply, scan_state};
 ghost use Rattle.project_run.specs.Run.{disk_state};
-ghost use Rattle.command_words.specs.Commands.{HasCounts};
+ghost use Rattle.command_words.specs.Commands.{HasCounts, Spells};
 
 use crate::frame::frame;
 use crate::list::list;
@@ -15,13 +19,15 @@ use cf_base::{Put, Sink};
 use command_words::{Command, command_of};
 use demo_run::demo;
 use outcome_line::{Outcome, made_line, plain_line};
+use project_job::job_laws;
 use reel_disk::Disk;
 use scan_source::Scans;
 use std::alloc::Global;
 
 /// Does the command that the words spell, on one thread, and puts its output or its line. `run` renders into the disk and
 /// `status` looks at it; no other command makes a call on it. Words of no command come to `Usage`, and words for which no
-/// memory is left to `NoMemory`, before anything is read.
+/// memory is left to `NoMemory`, before anything is read. A run keeps the headline's promise, wherever it is stopped and
+/// whatever it answers.
 pub fn answer<S: Scans, D: Disk, K: Sink>(
     alloc: Global,
     words: &[&str],
@@ -35,7 +41,21 @@ pub fn answer<S: Scans, D: Disk, K: Sink>(
         (sink_state K.written K.faults out.old) (sink_state K.written K.faults out.new) result }
     ensures later { K.faults out.old ≤ K.faults out.new }
     ensures same { S.same scan.old scan.new }
+
+    // The headline.
+    ensures headline { (world : World) (job : JobData) → RunsJob (map (λ w. w.now) words.now) (S.world scan.old) D.tells world job
+        → KeepsItsPromise job world (D.history disk.old) (D.history disk.new) (HasEnded result) }
+
+    // Where nothing stands in the way of the command and no call failed, it is done, or memory ran out.
+    ensures complete { (command : Command) (world : World) → Spells (map (λ w. w.now) words.now) command → S.world scan.old ≡ Some world
+        → IsAccepted command world (disk_state D.tells D.history D.faults disk.old)
+        → HasNotRisen (S.faults scan.old) (S.faults scan.new) → HasNotRisen (D.faults disk.old) (D.faults disk.new) → HasNotRisen (K.faults out.old) (K.faults out.new)
+        → IsComplete result }
+    ensures unfailed { (command : Command) → Spells (map (λ w. w.now) words.now) command
+        → HasNotRisen (S.faults scan.old) (S.faults scan.new) → HasNotRisen (D.faults disk.old) (D.faults disk.new) → HasNotRisen (K.faults out.old) (K.faults out.new)
+        → IsUnfailed command result }
 {
+    job_laws();
     let Ok(found) = command_of(alloc, words) else {
         return put_line(alloc, &Outcome::NoMemory, out);
     };

@@ -5,13 +5,19 @@ ghost use Rattle.command_words.specs.Lines.{HasCount};
 ghost use Rattle.command_words.specs.declared.command.Command.TheVariants as commands;
 ghost use Rattle.conform_tool.specs.Answer.{Answered, IsFoundIn, sink_state};
 ghost use Rattle.conform_tool.specs.Conform.{CrewAnswered, IsAlone};
+ghost use Rattle.conform_tool.specs.Complete.{IsAccepted, HasNotRisen, IsComplete, IsUnfailed};
+ghost use Rattle.conform_tool.specs.Headline.{RunsJob, KeepsItsPromise, HasEnded};
 ghost use Rattle.conform_tool.specs.Reply.{scan_state};
+ghost use Rattle.conform_job.specs.Job.{JobData};
+ghost use Rattle.project_run.specs.Crew.{HasFailed, told_by};
 ghost use Rattle.project_run.specs.Run.{disk_state};
+ghost use Rattle.scan_source.specs.World.{World};
 
 use crate::answer::{answer_found, put_line, put_result};
 use cf_base::{PathText, Sink};
 use command_words::{Command, command_of};
 use outcome_line::Outcome;
+use project_job::job_laws;
 use project_run::{CrewEnded, run_crewed};
 use reel_disk::Disk;
 use scan_source::Scans;
@@ -29,7 +35,8 @@ pub struct Ended<S, D> {
 
 /// Does the command that the words spell. It takes 1 to 16 scans that all tell one world or tell none, and a disk before its
 /// first call; a run with more than one worker is a crew's, with all scans, and all else goes to the first scan alone. It
-/// hands all scans back in their order, and the disk.
+/// hands all scans back in their order, and the disk. A run keeps the headline's promise, by any number of workers, wherever it
+/// is stopped and whatever it answers.
 pub fn conform<S: Scans + Send, D: Disk + Send, K: Sink, R: Threads + Wait + Sync>(
     rt: &R,
     alloc: Global,
@@ -61,7 +68,21 @@ pub fn conform<S: Scans + Send, D: Disk + Send, K: Sink, R: Threads + Wait + Syn
 
     ensures handed_back { vec_len result.scans ≡ vec_len scans }
     ensures later { K.faults out.old ≤ K.faults out.new }
+
+    // The headline, for any number of workers.
+    ensures headline { (world : World) (job : JobData) → RunsJob (map (λ w. w.now) words.now) (told_by S.world scans.items) D.tells world job
+        → KeepsItsPromise job world (D.history disk) (D.history result.disk) (HasEnded result.outcome) }
+
+    // Where nothing stands in the way of the command and no call failed, it is done, or memory ran out.
+    ensures complete { (command : Command) (world : World) → Spells (map (λ w. w.now) words.now) command → told_by S.world scans.items ≡ Some world
+        → IsAccepted command world (disk_state D.tells D.history D.faults disk)
+        → (HasFailed S.world S.faults S.loads S.same scans.items result.scans.items → ⊥) → HasNotRisen (D.faults disk) (D.faults result.disk) → HasNotRisen (K.faults out.old) (K.faults out.new)
+        → IsComplete result.outcome }
+    ensures unfailed { (command : Command) → Spells (map (λ w. w.now) words.now) command
+        → (HasFailed S.world S.faults S.loads S.same scans.items result.scans.items → ⊥) → HasNotRisen (D.faults disk) (D.faults result.disk) → HasNotRisen (K.faults out.old) (K.faults out.new)
+        → IsUnfailed command result.outcome }
 {
+    job_laws();
     let Ok(found) = command_of(alloc, words) else {
         let outcome = put_line(alloc, &Outcome::NoMemory, out);
         return Ended {

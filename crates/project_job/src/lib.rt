@@ -4,5 +4,16 @@
 mod loads;
 mod project;
 
+ghost use Rattle.project_job.specs.Laws.{OneAnswer, OneJob};
+
 pub use loads::{Front, load};
 pub use project::{MOST_LIST, planned};
+use project_file::project_laws;
+
+/// A project comes to one answer: to one job, or to one first refusal.
+pub fn job_laws()
+    ensures answer { OneAnswer }
+    ensures job { OneJob }
+{
+    project_laws();
+}

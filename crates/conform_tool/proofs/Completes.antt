@@ -1,0 +1,294 @@
+-- Completeness: where nothing stands in the way of a command and no count rose, all causes but want of memory are shut out.
+use Rattle.std.proofs.Common.{◌≡◌, ◌≢◌, ℕ, Bool, true, List, Option, Some, None, IfSome, MatchOption, Result, Ok, Err, refl, sym, ap, subst, ◌∙◌, inl, inr}
+use Rattle.std.specs.Prelude.{◌⊎◌, IsOk, IsSomeAnd}
+use Rattle.std.proofs.lemmas.Option.{same_Some}
+use Rattle.cf_base.specs.declared.reel.ReelEntry.{ReelEntry}
+use Rattle.cf_base.specs.declared.timing.Rate.{Rate}
+use Rattle.dpx_header.specs.declared.fault.DpxFault.{DpxFault}
+use Rattle.edl_events.specs.Lists.{list_of}
+use Rattle.edl_events.specs.declared.ListRefusal.{ListRefusal}
+use Rattle.scan_source.specs.World.{World, file_at}
+use Rattle.conform_job.specs.Job.{JobData}
+use Rattle.record_timeline.specs.Accepted.{frame_count}
+use Rattle.reel_disk.specs.Disk.{History, view_of}
+use Rattle.render_board.specs.declared.step.Step.{Step}
+use Rattle.resume_ledger.specs.Attach.{IsOtherJob, IsBadLedger}
+use Rattle.resume_ledger.specs.Body.{digest_of}
+use Rattle.resume_ledger.specs.Ledger.{IsFit}
+use Rattle.resume_ledger.specs.Peek.{HasPeeked}
+use Rattle.resume_ledger.specs.declared.attach.OpenFault.{OpenFault}
+use Rattle.resume_ledger.specs.declared.attach.OpenFault.TheVariants as faults
+use Rattle.reel_writer.specs.Reel.{frames_of}
+use Rattle.station.specs.Crews.{WasCrewed, IsUnstepped}
+use Rattle.station.specs.Ends.{IsEnd}
+use Rattle.station.specs.Run.{HasRefused}
+use Rattle.station.specs.declared.run_end.Report.{Report}
+use Rattle.station.specs.declared.run_end.RunEnd.{RunEnd}
+use Rattle.station.specs.declared.run_end.RunEnd.TheVariants as ends
+use Rattle.project_job.specs.Jobs.{ComesTo, HasPlanned, IsOfJob}
+use Rattle.project_job.specs.Laws.{OneJob}
+use Rattle.project_run.specs.Crew.{HasFailed, IsCrewReply, told_by}
+use Rattle.project_run.specs.Run.{DiskState, IsOfRun, IsRunReply, outcome_of_end}
+use Rattle.project_run.specs.Status.{IsStatusReply, outcome_of_peek}
+use Rattle.demo_job.specs.Files.{project_path}
+use Rattle.demo_run.specs.Demo.{demo_world}
+use Rattle.command_words.specs.Commands.{Spells}
+use Rattle.command_words.specs.declared.command.Command.{Command}
+use Rattle.command_words.specs.declared.command.Command.TheVariants as commands
+use Rattle.outcome_line.specs.declared.outcome.Outcome.{Outcome}
+use Rattle.outcome_line.specs.declared.outcome.Outcome.TheVariants as outcomes
+use Rattle.outcome_line.specs.declared.outcome.Refused.TheVariants as refused
+use Rattle.outcome_line.specs.declared.outcome.Which.TheVariants as which
+use Rattle.conform_tool.specs.Frame.{IsFrameCase, info_in}
+use Rattle.conform_tool.specs.List.{IsListCase}
+use Rattle.conform_tool.specs.Reply.{ScanState, IsKindOf, IsPlanReply, IsDemoReply, IsWholeReply}
+use Rattle.conform_tool.specs.Answer.{SinkState, IsPut, Answered}
+use Rattle.conform_tool.specs.Conform.{CrewAnswered}
+use Rattle.conform_tool.specs.Complete.{HasFitFolder, HasJob, IsAccepted, HasNotRisen, IsComplete, IsUnfailed}
+use Rattle.conform_tool.proofs.Headlines.{at_world}
+
+-- ---- one file
+
+frame_well : (file : Option (List ℕ)) (fault : DpxFault) → IsFrameCase file outcomes.Done → IsSomeAnd file (λ bytes. info_in bytes ≡ Err fault) → ⊥
+frame_well None fault well bad = well
+frame_well (Some bytes) fault well bad = absurd (let no = subst IsOk bad well in cc)
+
+frame_complete : (file : Option (List ℕ)) (reached : Outcome) → IsFrameCase file outcomes.Done → IsFrameCase file reached → reached ≢ outcomes.SourceFault → IsComplete reached
+frame_complete file outcomes.Done well case no_source = inl refl
+frame_complete file (outcomes.Refused (refused.NoFile which.Frame)) well case no_source = absurd (subst (λ f. IsFrameCase f outcomes.Done) case well)
+frame_complete file (outcomes.Refused (refused.Frame fault)) well case no_source = absurd (frame_well file fault well case)
+frame_complete file (outcomes.Refused other) well case no_source = absurd case
+frame_complete file outcomes.SourceFault well case no_source = absurd (no_source refl)
+frame_complete file outcomes.NoMemory well case no_source = inr refl
+frame_complete file other well case no_source = absurd case
+
+list_well : (rate : Rate) (file : Option (List ℕ)) (refusal : ListRefusal) → IsListCase rate file outcomes.Done → IsSomeAnd file (λ text. list_of rate text ≡ Err refusal) → ⊥
+list_well rate None refusal well bad = well
+list_well rate (Some text) refusal well bad = absurd (let no = subst IsOk bad well in cc)
+
+list_complete : (rate : Rate) (file : Option (List ℕ)) (reached : Outcome) → IsListCase rate file outcomes.Done → IsListCase rate file reached → reached ≢ outcomes.SourceFault → IsComplete reached
+list_complete rate file outcomes.Done well case no_source = inl refl
+list_complete rate file (outcomes.Refused (refused.NoFile which.List)) well case no_source = absurd (subst (λ f. IsListCase rate f outcomes.Done) case well)
+list_complete rate file (outcomes.Refused (refused.List refusal)) well case no_source = absurd (list_well rate file refusal well case)
+list_complete rate file (outcomes.Refused other) well case no_source = absurd case
+list_complete rate file outcomes.SourceFault well case no_source = absurd (no_source refl)
+list_complete rate file outcomes.NoMemory well case no_source = inr refl
+list_complete rate file other well case no_source = absurd case
+
+-- ---- the folder is unsealed or this job's
+
+other_apart : (digest kept wanted : List ℕ) (count : ℕ) (old new : History) → IsFit digest count (view_of old) → IsOtherJob digest kept wanted old new → ⊥
+other_apart digest kept wanted count old new fit other =
+    let own = fit other.sealed in
+    other.others.differ (subst (λ body. digest_of body ≡ digest) (same_Some own.0 other.body (sym own.1 ∙ other.there)) own.2.job)
+
+bad_apart : (digest : List ℕ) (count len : ℕ) (old new : History) → IsFit digest count (view_of old) → IsBadLedger digest count len old new → ⊥
+bad_apart digest count len old new fit bad =
+    let own = fit bad.sealed in
+    (bad.bad.bad own.0 own.1 own.2.well).1 own.2.size
+
+-- a run whose folder was opened
+opened_complete : (job : JobData) (told : Option World) (world : World) (how : RunEnd) → told ≡ Some world → IsEnd job told how → how ≢ ends.SourceFault → how ≢ ends.DiskFault → (how ≡ ends.Done) ⊎ (how ≡ ends.NoMemory)
+opened_complete job told world ends.Done is end no_source no_disk = inl refl
+opened_complete job told world (ends.OtherJob kept wanted) is end no_source no_disk = absurd end
+opened_complete job told world (ends.BadLedger len) is end no_source no_disk = absurd end
+opened_complete job told world (ends.Changed key was now) is end no_source no_disk = absurd (let no = sym is ∙ end.untold in cc)
+opened_complete job told world ends.SourceFault is end no_source no_disk = absurd (no_source refl)
+opened_complete job told world ends.DiskFault is end no_source no_disk = absurd (no_disk refl)
+opened_complete job told world ends.NoMemory is end no_source no_disk = inr refl
+
+-- a run whose folder was not
+refused_complete : (job : JobData) (tells : Bool) (old new : History) (how : RunEnd) → tells ≡ true → IsFit job.parts.digest (frames_of job) (view_of old) → HasRefused job tells old new how → how ≢ ends.DiskFault → (how ≡ ends.Done) ⊎ (how ≡ ends.NoMemory)
+refused_complete job tells old new ends.Done told fit why no_disk = absurd why
+refused_complete job tells old new (ends.OtherJob kept wanted) told fit why no_disk = absurd (other_apart job.parts.digest kept wanted (frames_of job) old new fit (why.2 told))
+refused_complete job tells old new (ends.BadLedger len) told fit why no_disk = absurd (bad_apart job.parts.digest (frames_of job) len old new fit (why told))
+refused_complete job tells old new (ends.Changed key was now) told fit why no_disk = absurd why
+refused_complete job tells old new ends.SourceFault told fit why no_disk = absurd why
+refused_complete job tells old new ends.DiskFault told fit why no_disk = absurd (no_disk refl)
+refused_complete job tells old new ends.NoMemory told fit why no_disk = inr refl
+
+-- a look at it
+peek_complete : (digest : List ℕ) (count : ℕ) (old new : History) (answer : Result ℕ OpenFault) → IsFit digest count (view_of old) → HasPeeked digest count old new answer → outcome_of_peek answer ≢ outcomes.DiskFault → IsComplete (outcome_of_peek answer)
+peek_complete digest count old new (Ok acked) fit peeked no_disk = inl refl
+peek_complete digest count old new (Err (faults.OtherJob kept wanted)) fit peeked no_disk = absurd (other_apart digest kept wanted count old new fit peeked)
+peek_complete digest count old new (Err (faults.BadLedger len)) fit peeked no_disk = absurd (bad_apart digest count len old new fit peeked)
+peek_complete digest count old new (Err faults.DiskFault) fit peeked no_disk = absurd (no_disk refl)
+peek_complete digest count old new (Err faults.NoMemory) fit peeked no_disk = inr refl
+
+-- ---- a project
+
+-- what came in place of a job
+planned_complete : OneJob → (told : Option World) (world : World) (path : List ℕ) (reached : Outcome) → told ≡ Some world → HasJob world path
+    → IfSome told (λ files. HasPlanned (file_at files) path (Err reached)) → IsOfJob reached → reached ≢ outcomes.SourceFault → IsComplete reached
+planned_complete laws told world path (outcomes.Refused refusal) is has why kind no_source =
+    absurd (laws.apart (file_at world) path has.0.parts refusal has.1 (at_world told world (λ files. ComesTo (file_at files) path (Err refusal)) is why))
+planned_complete laws told world path outcomes.SourceFault is has why kind no_source = absurd (no_source refl)
+planned_complete laws told world path outcomes.NoMemory is has why kind no_source = inr refl
+planned_complete laws told world path other is has why kind no_source = absurd kind
+
+plan_complete : OneJob → (world : World) (path output : List ℕ) (before after : ScanState) (reached : Outcome) → HasJob world path → IsPlanReply (file_at world) path reached output before after → reached ≢ outcomes.SourceFault → IsComplete reached
+plan_complete laws world path output before after outcomes.Done has reply no_source = inl refl
+plan_complete laws world path output before after (outcomes.Refused refusal) has reply no_source = absurd (laws.apart (file_at world) path has.0.parts refusal has.1 reply)
+plan_complete laws world path output before after outcomes.SourceFault has reply no_source = absurd (no_source refl)
+plan_complete laws world path output before after outcomes.NoMemory has reply no_source = inr refl
+plan_complete laws world path output before after other has reply no_source = absurd reply
+
+demo_complete : OneJob → (count : ℕ) (output : List ℕ) (reached : Outcome) → HasJob (demo_world count) project_path → IsDemoReply count reached output → IsComplete reached
+demo_complete laws count output outcomes.Done has reply = inl refl
+demo_complete laws count output (outcomes.Refused refusal) has reply = absurd (laws.apart (file_at (demo_world count)) project_path has.0.parts refusal has.1 reply)
+demo_complete laws count output outcomes.NoMemory has reply = inr refl
+demo_complete laws count output other has reply = absurd reply
+
+-- the outcome of an end
+by_end : (reels : List ReelEntry) (how : RunEnd) (reached : Outcome) → reached ≡ outcome_of_end reels how → (how ≡ ends.Done) ⊎ (how ≡ ends.NoMemory) → IsComplete reached
+by_end reels how reached is (inl done) = inl (is ∙ ap (outcome_of_end reels) done)
+by_end reels how reached is (inr memory) = inr (is ∙ ap (outcome_of_end reels) memory)
+
+module _ (laws : OneJob) (world : World) (path : List ℕ) (disk : DiskState) (place : HasFitFolder world path disk) (told : Option World) (is : told ≡ Some world) where
+  -- the folder is fit for the job that was run
+  fit_for : (job : JobData) → IfSome told (λ files. ComesTo (file_at files) path (Ok job.parts)) → IsFit job.parts.digest (frames_of job) (view_of disk.history)
+  fit_for job comes = subst (λ parts. IsFit parts.digest (frame_count parts.timeline.events) (view_of disk.history))
+      (laws.one (file_at world) path place.job.parts job.parts place.comes (at_world told world (λ files. ComesTo (file_at files) path (Ok job.parts)) is comes)) place.fit
+
+  run_complete : (disk_after : DiskState) (loads loads_after : ℕ) (reached : Outcome) (output : List ℕ) → IsRunReply told path disk disk_after loads loads_after reached output
+      → reached ≢ outcomes.SourceFault → reached ≢ outcomes.DiskFault → IsComplete reached
+  run_complete disk_after loads loads_after reached output (inl has) no_source no_disk = elim has.ran.reply.reached_is [
+    | inl reached_is ↦
+        let reels = has.job.parts.reels in
+        let none_source : has.ran.how ≢ ends.SourceFault = λ source. no_source (reached_is ∙ ap (outcome_of_end reels) source) in
+        let none_disk : has.ran.how ≢ ends.DiskFault = λ failed. no_disk (reached_is ∙ ap (outcome_of_end reels) failed) in
+        by_end reels has.ran.how reached reached_is (elim has.ran.ran [
+          | inl opened ↦ opened_complete has.job told world has.ran.how is opened.is_end none_source none_disk
+          | inr refused ↦ refused_complete has.job disk.tells disk.history disk_after.history has.ran.how place.tells (fit_for has.job has.comes) refused.why none_disk
+        ])
+    | inr memory ↦ inr memory
+  ]
+  run_complete disk_after loads loads_after reached output (inr none) no_source no_disk = planned_complete laws told world path reached is (place.job, place.comes) none.why none.kind no_source
+
+  status_complete : (disk_after : DiskState) (loads loads_after : ℕ) (reached : Outcome) (output : List ℕ) → IsStatusReply told path disk disk_after loads loads_after reached output
+      → reached ≢ outcomes.SourceFault → reached ≢ outcomes.DiskFault → IsComplete reached
+  status_complete disk_after loads loads_after reached output (inl has) no_source no_disk = elim has.status.reached_is [
+    | inl reached_is ↦ subst IsComplete (sym reached_is)
+        (peek_complete has.job.parts.digest (frames_of has.job) disk.history disk_after.history has.status.answer (fit_for has.job has.comes) (has.status.peeked place.tells) (λ failed. no_disk (reached_is ∙ failed)))
+    | inr memory ↦ inr memory
+  ]
+  status_complete disk_after loads loads_after reached output (inr none) no_source no_disk = planned_complete laws told world path reached is (place.job, place.comes) none.why none.kind no_source
+
+  -- the same of a crew's run
+  steps_complete : (job : JobData) (old new : History) (how : RunEnd) (report : Report) (tells : Bool) (steps : Option (List Step)) → tells ≡ true → IsFit job.parts.digest (frames_of job) (view_of old)
+      → MatchOption steps (IsUnstepped job tells old new how report) (λ all. WasCrewed job told tells old new all how report)
+      → how ≢ ends.SourceFault → how ≢ ends.DiskFault → (how ≡ ends.Done) ⊎ (how ≡ ends.NoMemory)
+  steps_complete job old new how report tells None tell fit (inl refused) none_source none_disk = refused_complete job tells old new how tell fit refused.why none_disk
+  steps_complete job old new how report tells None tell fit (inr unmade) none_source none_disk = inr unmade.no_memory
+  steps_complete job old new how report tells (Some all) tell fit crewed none_source none_disk = opened_complete job told world how is crewed.is_end none_source none_disk
+
+-- ---- one thread
+
+reply_complete : OneJob → (command : Command) (world : World) (scan scan_after : ScanState) (disk disk_after : DiskState) (reached : Outcome) (output : List ℕ) → scan.world ≡ Some world → IsAccepted command world disk
+    → IsWholeReply command scan scan_after disk disk_after reached output → reached ≢ outcomes.SourceFault → reached ≢ outcomes.DiskFault → IsComplete reached
+reply_complete laws (commands.Frame path) world scan scan_after disk disk_after reached output is accepted whole no_source no_disk =
+    let right = whole.reply.right in
+    let file = at_world scan.world world (λ files. right.0 ≡ file_at files path) is right.1 in
+    frame_complete right.0 reached (subst (λ f. IsFrameCase f outcomes.Done) (sym file) accepted) right.2.case no_source
+reply_complete laws (commands.List path rate) world scan scan_after disk disk_after reached output is accepted whole no_source no_disk =
+    let right = whole.reply.right in
+    let file = at_world scan.world world (λ files. right.0 ≡ file_at files path) is right.1 in
+    list_complete rate right.0 reached (subst (λ f. IsListCase rate f outcomes.Done) (sym file) accepted) right.2.case no_source
+reply_complete laws (commands.Plan path) world scan scan_after disk disk_after reached output is accepted whole no_source no_disk =
+    plan_complete laws world path output scan scan_after reached accepted
+    (at_world scan.world world (λ files. IsPlanReply (file_at files) path reached output scan scan_after) is whole.reply.right) no_source
+reply_complete laws (commands.Run path workers share) world scan scan_after disk disk_after reached output is accepted whole no_source no_disk =
+    run_complete laws world path disk accepted scan.world is disk_after scan.loads scan_after.loads reached output whole.folder no_source no_disk
+reply_complete laws (commands.Status path) world scan scan_after disk disk_after reached output is accepted whole no_source no_disk =
+    status_complete laws world path disk accepted scan.world is disk_after scan.loads scan_after.loads reached output whole.folder no_source no_disk
+reply_complete laws (commands.Demo count) world scan scan_after disk disk_after reached output is accepted whole no_source no_disk =
+    demo_complete laws count output reached accepted whole.reply.right
+
+put_complete : (sink sink_after : SinkState) (reached : Outcome) (output : List ℕ) (result : Outcome) → IsPut sink sink_after reached output result → HasNotRisen sink.faults sink_after.faults → IsComplete reached → IsComplete result
+put_complete sink sink_after reached output result (inl put) steady complete = subst IsComplete (sym put.0) complete
+put_complete sink sink_after reached output result (inr put) steady complete = absurd (steady put.2)
+
+pub answered_complete : OneJob → (words : List (List ℕ)) (scan scan_after : ScanState) (disk disk_after : DiskState) (sink sink_after : SinkState) (result : Outcome)
+    → Answered words scan scan_after disk disk_after sink sink_after result
+    → (command : Command) (world : World) → Spells words command → scan.world ≡ Some world → IsAccepted command world disk
+    → HasNotRisen scan.faults scan_after.faults → HasNotRisen disk.faults disk_after.faults → HasNotRisen sink.faults sink_after.faults → IsComplete result
+answered_complete laws words scan scan_after disk disk_after sink sink_after result answered command world spells is accepted scans_steady disk_steady sink_steady =
+    put_complete sink sink_after answered.reached answered.output result answered.put sink_steady (elim (answered.reply command spells) [
+      | inl whole ↦ reply_complete laws command world scan scan_after disk disk_after answered.reached answered.output is accepted whole
+          (λ source. scans_steady (whole.reply.source_fault source)) (λ failed. disk_steady (whole.disk_fault failed))
+      | inr unread ↦ inr unread.reached_is
+    ])
+
+-- ---- a crew
+
+module _ (laws : OneJob) {S : Type 0} (world_of : S → Option World) (faults loads : S → ℕ) (same : S → S → Type 0) (path : List ℕ) (workers : ℕ) (scans scans_after : List S) (disk disk_after : DiskState) (world : World) (is : told_by world_of scans ≡ Some world) (place : HasFitFolder world path disk) where
+  crew_complete : (reached : Outcome) (output : List ℕ) → IsCrewReply world_of faults loads same path workers scans scans_after disk disk_after reached output
+      → reached ≢ outcomes.SourceFault → reached ≢ outcomes.DiskFault → IsComplete reached
+  crew_complete reached output (inl has) no_source no_disk = elim has.ran.reply.reached_is [
+    | inl reached_is ↦
+        let reels = has.job.parts.reels in
+        by_end reels has.ran.how reached reached_is
+        (steps_complete laws world path disk place (told_by world_of scans) is has.job disk.history disk_after.history has.ran.how has.ran.report disk.tells has.ran.steps place.tells
+        (fit_for laws world path disk place (told_by world_of scans) is has.job has.comes) has.ran.ran
+        (λ source. no_source (reached_is ∙ ap (outcome_of_end reels) source)) (λ failed. no_disk (reached_is ∙ ap (outcome_of_end reels) failed)))
+    | inr memory ↦ inr memory
+  ]
+  crew_complete reached output (inr none) no_source no_disk = planned_complete laws (told_by world_of scans) world path reached is (place.job, place.comes) none.why none.kind no_source
+
+  pub crew_answered_complete : (sink sink_after : SinkState) (result : Outcome) → CrewAnswered world_of faults loads same path workers scans scans_after disk disk_after sink sink_after result
+      → (HasFailed world_of faults loads same scans scans_after → ⊥) → HasNotRisen disk.faults disk_after.faults → HasNotRisen sink.faults sink_after.faults → IsComplete result
+  crew_answered_complete sink sink_after result answered scans_steady disk_steady sink_steady =
+      put_complete sink sink_after answered.reached answered.output result answered.put sink_steady (elim answered.crewed [
+        | inl crewed ↦ crew_complete answered.reached answered.output crewed.reply (λ source. scans_steady (crewed.source_fault source)) (λ failed. disk_steady (crewed.disk_fault failed))
+        | inr unread ↦ inr unread.reached_is
+      ])
+
+-- ---- where scan or disk don't tell
+
+unfailed : (command : Command) (reached : Outcome) → IsKindOf command reached → reached ≢ outcomes.SourceFault → reached ≢ outcomes.DiskFault → IsUnfailed command reached
+unfailed command outcomes.SourceFault kind no_source no_disk = absurd (no_source refl)
+unfailed command outcomes.DiskFault kind no_source no_disk = absurd (no_disk refl)
+unfailed command outcomes.Done kind no_source no_disk = kind
+unfailed command outcomes.Usage kind no_source no_disk = kind
+unfailed command (outcomes.Refused refusal) kind no_source no_disk = kind
+unfailed command (outcomes.OtherJob kept wanted) kind no_source no_disk = kind
+unfailed command (outcomes.BadLedger len) kind no_source no_disk = kind
+unfailed command (outcomes.Changed reel key was now) kind no_source no_disk = kind
+unfailed command (outcomes.SinkFault instead) kind no_source no_disk = kind
+unfailed command outcomes.NoMemory kind no_source no_disk = kind
+
+-- the outcomes of a run are those of its command
+run_kind : (path : List ℕ) (workers share : ℕ) (reached : Outcome) → (reached ≡ outcomes.Done) ⊎ IsOfRun reached → IsKindOf (commands.Run path workers share) reached
+run_kind path workers share reached (inl done) = subst (IsKindOf (commands.Run path workers share)) (sym done) tt
+run_kind path workers share reached (inr kind) = run_own path workers share reached kind
+  where
+    run_own : (path : List ℕ) (workers share : ℕ) (reached : Outcome) → IsOfRun reached → IsKindOf (commands.Run path workers share) reached
+    run_own path workers share outcomes.Done kind = absurd kind
+    run_own path workers share outcomes.Usage kind = absurd kind
+    run_own path workers share (outcomes.SinkFault instead) kind = absurd kind
+    run_own path workers share other kind = tt
+
+put_unfailed : (command : Command) (sink sink_after : SinkState) (reached : Outcome) (output : List ℕ) (result : Outcome) → IsPut sink sink_after reached output result → HasNotRisen sink.faults sink_after.faults → IsUnfailed command reached → IsUnfailed command result
+put_unfailed command sink sink_after reached output result (inl put) steady is = subst (IsUnfailed command) (sym put.0) is
+put_unfailed command sink sink_after reached output result (inr put) steady is = absurd (steady put.2)
+
+pub answered_unfailed : (words : List (List ℕ)) (scan scan_after : ScanState) (disk disk_after : DiskState) (sink sink_after : SinkState) (result : Outcome)
+    → Answered words scan scan_after disk disk_after sink sink_after result
+    → (command : Command) → Spells words command
+    → HasNotRisen scan.faults scan_after.faults → HasNotRisen disk.faults disk_after.faults → HasNotRisen sink.faults sink_after.faults → IsUnfailed command result
+answered_unfailed words scan scan_after disk disk_after sink sink_after result answered command spells scans_steady disk_steady sink_steady =
+    put_unfailed command sink sink_after answered.reached answered.output result answered.put sink_steady (elim (answered.reply command spells) [
+      | inl whole ↦ unfailed command answered.reached whole.reply.kind (λ source. scans_steady (whole.reply.source_fault source)) (λ failed. disk_steady (whole.disk_fault failed))
+      | inr unread ↦ subst (IsUnfailed command) (sym unread.reached_is) tt
+    ])
+
+pub crew_unfailed : {S : Type 0} (world_of : S → Option World) (faults loads : S → ℕ) (same : S → S → Type 0) (path : List ℕ) (workers share : ℕ) (scans scans_after : List S) (disk disk_after : DiskState) (sink sink_after : SinkState) (result : Outcome)
+    → CrewAnswered world_of faults loads same path workers scans scans_after disk disk_after sink sink_after result
+    → (command : Command) → command ≡ commands.Run path workers share
+    → (HasFailed world_of faults loads same scans scans_after → ⊥) → HasNotRisen disk.faults disk_after.faults → HasNotRisen sink.faults sink_after.faults → IsUnfailed command result
+crew_unfailed world_of faults loads same path workers share scans scans_after disk disk_after sink sink_after result answered command is scans_steady disk_steady sink_steady =
+    subst (λ k. IsUnfailed k result) (sym is)
+    (put_unfailed (commands.Run path workers share) sink sink_after answered.reached answered.output result answered.put sink_steady (elim answered.crewed [
+      | inl crewed ↦ unfailed (commands.Run path workers share) answered.reached (run_kind path workers share answered.reached crewed.kind) (λ source. scans_steady (crewed.source_fault source)) (λ failed. disk_steady (crewed.disk_fault failed))
+      | inr unread ↦ subst (IsUnfailed (commands.Run path workers share)) (sym unread.reached_is) tt
+    ]))

@@ -1,0 +1,196 @@
+-- From the reply of a run to the headline, and from the causes of all answers to completeness.
+use Rattle.std.proofs.Common.{◌≡◌, ◌≢◌, ℕ, ◌<◌, true, List, Option, Some, None, IfSome, Ok, refl, sym, ap, subst, ◌∙◌, arith, inl, inr}
+use Rattle.std.specs.Prelude.{◌⊎◌}
+use Rattle.cf_base.specs.declared.file.FileId.{FileId}
+use Rattle.cf_base.specs.declared.file.FileId.TheVariants.{Seal}
+use Rattle.cf_base.specs.declared.reel.ReelEntry.{ReelEntry}
+use Rattle.scan_source.specs.World.{World, file_at}
+use Rattle.conform_job.specs.Job.{JobData}
+use Rattle.frame_render.specs.Frame.{frame_file, some_lines, words_of_key}
+use Rattle.record_timeline.specs.Accepted.{frame_count}
+use Rattle.reel_disk.specs.Disk.{Files, Moment, History, IsImage, IsFirm, moment_of}
+use Rattle.reel_disk.proofs.Images.{firm_image}
+use Rattle.reel_disk.specs.Runs.{LeavesOnly, Surely, NeverForgets}
+use Rattle.resume_ledger.specs.Ledger.{Acks, IsSealed}
+use Rattle.reel_writer.specs.Reel.{frames_of, HasAcked, IsSoundReel, IsReelRun}
+use Rattle.station.specs.Run.{AreAllAcked}
+use Rattle.station.specs.declared.run_end.RunEnd.{RunEnd}
+use Rattle.station.specs.declared.run_end.RunEnd.TheVariants as ends
+use Rattle.project_job.specs.Jobs.{ComesTo, IsOfJob}
+use Rattle.project_job.specs.Laws.{OneJob}
+use Rattle.project_run.specs.Run.{DiskState, IsOfRun, IsRunReply, outcome_of_end}
+use Rattle.project_run.specs.Crew.{IsCrewReply, told_by}
+use Rattle.command_words.specs.declared.command.Command.TheVariants as commands
+use Rattle.outcome_line.specs.Output.{status_of}
+use Rattle.outcome_line.specs.declared.outcome.Outcome.{Outcome}
+use Rattle.outcome_line.specs.declared.outcome.Outcome.TheVariants as outcomes
+use Rattle.conform_tool.specs.Reply.{ScanState, IsKindOf}
+use Rattle.conform_tool.specs.Answer.{SinkState, IsPut, Answered}
+use Rattle.conform_tool.specs.Conform.{CrewAnswered}
+use Rattle.conform_tool.specs.Headline.{RunsJob, IsEmptyFolder, IsBeginning, left_with, KeepsItsPromise, HasEnded}
+
+pub at_world : (told : Option World) (world : World) (P : World → Type 0) → told ≡ Some world → IfSome told P → P world
+at_world told world P is holds = subst (λ t. IfSome t P) is holds
+
+-- ---- a job's reel looks at its parts alone
+
+sound_by : (a b : JobData) (world : World) → a.parts ≡ b.parts → ◌≡◌ {A = Files → Type 0} (IsSoundReel a world) (IsSoundReel b world)
+unfolding frame_file some_lines words_of_key
+sound_by a b world same = ap (λ parts. IsSoundReel (record { parts = parts; infos = b.infos }) world) same
+
+-- ---- where a run may begin
+
+empty_sound : (job : JobData) (world : World) (moment : Moment) → IsEmptyFolder moment → Surely moment (IsSoundReel job world)
+empty_sound job world moment empty files image = record { sound = λ i acks. absurd (unsealed acks.sealed); fit = λ sealed. absurd (unsealed sealed) }
+  where
+    unsealed : IsSealed files → ⊥
+    unsealed sealed =
+        let gone : files Seal ≡ None = firm_image moment files Seal (subst (λ places. IsFirm places Seal) (sym empty.firm) (λ place loose. absurd loose)) image ∙ empty.none Seal in cc
+
+begun_sound : (job : JobData) (world : World) (moment : Moment) → IsBeginning job world moment → Surely moment (IsSoundReel job world)
+begun_sound job world moment (inl empty) = empty_sound job world moment empty
+begun_sound job world moment (inr sound) = sound
+
+files_ext : (a b : Files) → ((id : FileId) → a id ≡ b id) → a ≡ b
+files_ext a b same = λ i id. same id i
+
+-- with nothing loose a crash leaves the view alone
+left_alone : (files other : Files) → IsImage (left_with files) other → files ≡ other
+left_alone files other image = files_ext files other (λ id. sym (firm_image (left_with files) other id (λ place loose. absurd loose) image))
+
+-- ---- the promise
+
+begins_again : (job : JobData) (world : World) (files : Files) → IsSoundReel job world files → IsBeginning job world (left_with files)
+begins_again job world files sound = inr (λ other image. subst (IsSoundReel job world) (left_alone files other image) sound)
+
+-- a run that began and ended with the same history
+still_promise : (job : JobData) (world : World) (now : History) (Ended : Type 0) → (Ended → ⊥) → KeepsItsPromise job world now now Ended
+still_promise job world now Ended none = record {
+  sound = sound;
+  again = λ begun m from to files image. begins_again job world files (sound begun m from to files image);
+  kept = λ i m later from mid to had. subst (λ k. Surely (now.past k) (HasAcked job i)) (omega (arith, from, mid, to)) had;
+  whole = λ ended. absurd (none ended);
+}
+  where
+    sound : IsBeginning job world (moment_of now) → LeavesOnly now now (IsSoundReel job world)
+    sound begun m from to = subst (λ k. Surely (now.past k) (IsSoundReel job world)) (omega (arith, from, to)) (begun_sound job world (moment_of now) begun)
+
+-- a run of a job with these parts
+run_promise : (job ran : JobData) (told : Option World) (world : World) (opening now : History) (Ended : Type 0) → told ≡ Some world → ran.parts ≡ job.parts
+    → IsReelRun ran told opening now → (Ended → AreAllAcked ran (moment_of now)) → KeepsItsPromise job world opening now Ended
+run_promise job ran told world opening now Ended is same run acked = record {
+  sound = sound;
+  again = λ begun m from to files image. begins_again job world files (sound begun m from to files image);
+  kept = subst (λ parts. (i : ℕ) → NeverForgets opening now (Acks parts.digest (frame_count parts.timeline.events) i)) same run.keeps;
+  whole = λ ended begun files image. record {
+    there = λ i within. (sound begun now.now run.extends.later (omega arith) files image).sound i (all ended i within files image);
+    acked = λ i within. all ended i within files image;
+  };
+}
+  where
+    sound : IsBeginning job world (moment_of opening) → LeavesOnly opening now (IsSoundReel job world)
+    sound begun = subst (λ P. Surely (moment_of opening) P → LeavesOnly opening now P) (sound_by ran job world same)
+        (at_world told world (λ w. Surely (moment_of opening) (IsSoundReel ran w) → LeavesOnly opening now (IsSoundReel ran w)) is run.sound)
+        (begun_sound job world (moment_of opening) begun)
+
+    all : Ended → (i : ℕ) → i < frames_of job → Surely (moment_of now) (HasAcked job i)
+    all ended = subst (λ parts. (i : ℕ) → i < frame_count parts.timeline.events → Surely (moment_of now) (Acks parts.digest (frame_count parts.timeline.events) i)) same (acked ended).each
+
+-- ---- what was reached where a command has ended
+
+done_status : (outcome : Outcome) → status_of outcome ≡ 0 → outcome ≡ outcomes.Done
+done_status outcomes.Done is = refl
+done_status outcomes.Usage is = absurd (omega (arith, is))
+done_status (outcomes.Refused refusal) is = absurd (omega (arith, is))
+done_status (outcomes.OtherJob kept wanted) is = absurd (omega (arith, is))
+done_status (outcomes.BadLedger len) is = absurd (omega (arith, is))
+done_status (outcomes.Changed reel key was now) is = absurd (omega (arith, is))
+done_status outcomes.SourceFault is = absurd (omega (arith, is))
+done_status outcomes.DiskFault is = absurd (omega (arith, is))
+done_status (outcomes.SinkFault instead) is = absurd (omega (arith, is))
+done_status outcomes.NoMemory is = absurd (omega (arith, is))
+
+same_instead : (a b : ℕ) → outcomes.SinkFault a ≡ outcomes.SinkFault b → a ≡ b
+same_instead a b is = cc
+
+reached_done : (sink sink_after : SinkState) (reached : Outcome) (output : List ℕ) (result : Outcome) → IsPut sink sink_after reached output result
+    → ((instead : ℕ) → reached ≢ outcomes.SinkFault instead) → HasEnded result → reached ≡ outcomes.Done
+reached_done sink sink_after reached output result (inl put) not_the_sink (inl ended) = sym put.0 ∙ ended
+reached_done sink sink_after reached output result (inl put) not_the_sink (inr ended) = absurd (not_the_sink 0 (sym put.0 ∙ ended))
+reached_done sink sink_after reached output result (inr put) not_the_sink (inl ended) = absurd (let is = sym put.0 ∙ ended in cc)
+reached_done sink sink_after reached output result (inr put) not_the_sink (inr ended) = done_status reached (same_instead _ _ (sym put.0 ∙ ended))
+
+end_done : (reels : List ReelEntry) (how : RunEnd) → outcomes.Done ≡ outcome_of_end reels how → how ≡ ends.Done
+end_done reels ends.Done is = refl
+end_done reels (ends.OtherJob kept wanted) is = absurd (cc)
+end_done reels (ends.BadLedger len) is = absurd (cc)
+end_done reels (ends.Changed key was now) is = absurd (cc)
+end_done reels ends.SourceFault is = absurd (cc)
+end_done reels ends.DiskFault is = absurd (cc)
+end_done reels ends.NoMemory is = absurd (cc)
+
+how_done : (reels : List ReelEntry) (how : RunEnd) (reached : Outcome) → reached ≡ outcomes.Done → (reached ≡ outcome_of_end reels how) ⊎ (reached ≡ outcomes.NoMemory) → how ≡ ends.Done
+how_done reels how reached done (inl is) = end_done reels how (sym done ∙ is)
+how_done reels how reached done (inr is) = absurd (let no = sym done ∙ is in cc)
+
+job_not_done : (reached : Outcome) → IsOfJob reached → reached ≢ outcomes.Done
+job_not_done reached kind is = subst IsOfJob is kind
+
+of_run_not_sink : (reached : Outcome) → (reached ≡ outcomes.Done) ⊎ IsOfRun reached → (instead : ℕ) → reached ≢ outcomes.SinkFault instead
+of_run_not_sink reached (inl done) instead is = let no = sym done ∙ is in cc
+of_run_not_sink reached (inr kind) instead is = subst IsOfRun is kind
+
+memory_not_done : (sink sink_after : SinkState) (reached : Outcome) (output : List ℕ) (result : Outcome) → IsPut sink sink_after reached output result → reached ≡ outcomes.NoMemory → HasEnded result → ⊥
+memory_not_done sink sink_after reached output result put memory ended =
+    let done = reached_done sink sink_after reached output result put (λ instead is. let no = sym memory ∙ is in cc) ended in
+    let no = sym memory ∙ done in cc
+
+-- ---- one thread
+
+module _ (laws : OneJob) (job : JobData) (world : World) (path : List ℕ) (comes : ComesTo (file_at world) path (Ok job.parts)) where
+  reply_promise : (told : Option World) (disk disk_after : DiskState) (loads loads_after : ℕ) (reached : Outcome) (output : List ℕ) (Ended : Type 0)
+      → told ≡ Some world → disk.tells ≡ true → (Ended → reached ≡ outcomes.Done) → IsRunReply told path disk disk_after loads loads_after reached output
+      → KeepsItsPromise job world disk.history disk_after.history Ended
+  reply_promise told disk disk_after loads loads_after reached output Ended is tells done (inl has) =
+      run_promise job has.job told world disk.history disk_after.history Ended is
+      (laws.one (file_at world) path has.job.parts job.parts (at_world told world (λ w. ComesTo (file_at w) path (Ok has.job.parts)) is has.comes) comes)
+      (has.ran.run tells) (λ ended. has.ran.acked (how_done _ _ _ (done ended) has.ran.reply.reached_is) tells)
+  reply_promise told disk disk_after loads loads_after reached output Ended is tells done (inr none) =
+      subst (λ (after : DiskState). KeepsItsPromise job world disk.history after.history Ended) (sym none.untouched)
+      (still_promise job world disk.history Ended (λ ended. job_not_done reached none.kind (done ended)))
+
+  crew_promise : {S : Type 0} (world_of : S → Option World) (faults loads : S → ℕ) (same : S → S → Type 0) (workers : ℕ) (scans scans_after : List S) (disk disk_after : DiskState) (reached : Outcome) (output : List ℕ) (Ended : Type 0)
+      → told_by world_of scans ≡ Some world → disk.tells ≡ true → (Ended → reached ≡ outcomes.Done) → IsCrewReply world_of faults loads same path workers scans scans_after disk disk_after reached output
+      → KeepsItsPromise job world disk.history disk_after.history Ended
+  crew_promise world_of faults loads same workers scans scans_after disk disk_after reached output Ended is tells done (inl has) =
+      run_promise job has.job (told_by world_of scans) world disk.history disk_after.history Ended is
+      (laws.one (file_at world) path has.job.parts job.parts (at_world (told_by world_of scans) world (λ w. ComesTo (file_at w) path (Ok has.job.parts)) is has.comes) comes)
+      (has.ran.run tells) (λ ended. has.ran.acked (how_done _ _ _ (done ended) has.ran.reply.reached_is) tells)
+  crew_promise world_of faults loads same workers scans scans_after disk disk_after reached output Ended is tells done (inr none) =
+      subst (λ (after : DiskState). KeepsItsPromise job world disk.history after.history Ended) (sym none.untouched)
+      (still_promise job world disk.history Ended (λ ended. job_not_done reached none.kind (done ended)))
+
+-- by the answer of one thread
+pub answered_promise : (laws : OneJob) (words : List (List ℕ)) (scan scan_after : ScanState) (disk disk_after : DiskState) (sink sink_after : SinkState) (result : Outcome)
+    → Answered words scan scan_after disk disk_after sink sink_after result
+    → (world : World) (job : JobData) → RunsJob words scan.world disk.tells world job → KeepsItsPromise job world disk.history disk_after.history (HasEnded result)
+answered_promise laws words scan scan_after disk disk_after sink sink_after result answered world job runs = elim (answered.reply (commands.Run runs.path runs.workers runs.share) runs.spells) [
+  | inl whole ↦ reply_promise laws job world runs.path runs.comes scan.world disk disk_after scan.loads scan_after.loads answered.reached answered.output (HasEnded result) runs.scans_tell runs.disk_tells
+      (reached_done sink sink_after answered.reached answered.output result answered.put (λ instead is. subst (IsKindOf (commands.Run runs.path runs.workers runs.share)) is whole.reply.kind)) whole.folder
+  | inr unread ↦ subst (λ (after : DiskState). KeepsItsPromise job world disk.history after.history (HasEnded result)) (sym unread.untouched_disk)
+      (still_promise job world disk.history (HasEnded result) (λ ended. memory_not_done sink sink_after answered.reached answered.output result answered.put unread.reached_is ended))
+]
+
+-- ---- a crew
+
+-- by the answer of a crew
+pub crew_answered_promise : (laws : OneJob) {S : Type 0} (world_of : S → Option World) (faults loads : S → ℕ) (same : S → S → Type 0) (path : List ℕ) (workers : ℕ) (scans scans_after : List S) (disk disk_after : DiskState) (sink sink_after : SinkState) (result : Outcome)
+    → CrewAnswered world_of faults loads same path workers scans scans_after disk disk_after sink sink_after result
+    → (world : World) (job : JobData) → told_by world_of scans ≡ Some world → disk.tells ≡ true → ComesTo (file_at world) path (Ok job.parts)
+    → KeepsItsPromise job world disk.history disk_after.history (HasEnded result)
+crew_answered_promise laws world_of faults loads same path workers scans scans_after disk disk_after sink sink_after result answered world job is tells comes = elim answered.crewed [
+  | inl crewed ↦ crew_promise laws job world path comes world_of faults loads same workers scans scans_after disk disk_after answered.reached answered.output (HasEnded result) is tells
+      (reached_done sink sink_after answered.reached answered.output result answered.put (of_run_not_sink answered.reached crewed.kind)) crewed.reply
+  | inr unread ↦ subst (λ (after : DiskState). KeepsItsPromise job world disk.history after.history (HasEnded result)) (sym unread.untouched_disk)
+      (still_promise job world disk.history (HasEnded result) (λ ended. memory_not_done sink sink_after answered.reached answered.output result answered.put unread.reached_is ended))
+]

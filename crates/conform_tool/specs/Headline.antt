@@ -1,0 +1,64 @@
+-- For any accepted job, unchanged scans and any number of workers, at every moment of a run each frame that the ledger, as a
+-- crash then may leave it, acknowledges is byte for byte the per-pixel definition's; no acknowledgement is ever lost; and a run
+-- that answers Done, begun on an empty folder or on what stopped runs of the same job left, leaves the definition's whole reel.
+--
+--     RunsJob words told tells world job      the words run a project that comes to this job, over scans and a disk that tell
+--     KeepsItsPromise job world opening now Ended      that sentence, of a run from its opening until now
+-- A job's reel is the same whatever `job.infos` is: it looks at the job's parts alone.
+use Rattle.std.specs.Prelude.{◌≡◌, ◌⊎◌, ℕ, ◌<◌, Bool, true, List, [], Option, Some, None, Ok}
+use Rattle.cf_base.specs.declared.file.FileId.{FileId}
+use Rattle.scan_source.specs.World.{World, file_at}
+use Rattle.conform_job.specs.Job.{JobData, file_of}
+use Rattle.frame_render.specs.Frame.{frame_file}
+use Rattle.reel_disk.specs.Disk.{Files, Moment, History, moment_of}
+use Rattle.reel_disk.specs.Runs.{LeavesOnly, Surely, NeverForgets}
+use Rattle.reel_writer.specs.Reel.{frames_of, HasAcked, IsSoundReel}
+use Rattle.project_job.specs.Jobs.{ComesTo}
+use Rattle.command_words.specs.Commands.{Spells}
+use Rattle.command_words.specs.declared.command.Command.TheVariants as commands
+use Rattle.outcome_line.specs.declared.outcome.Outcome.{Outcome}
+use Rattle.outcome_line.specs.declared.outcome.Outcome.TheVariants.{Done, SinkFault}
+
+-- An accepted job, with unchanged scans: the words run a project, by any number of workers, the scans tell this world and the
+-- disk its folder, and the project comes to this job there.
+pub record RunsJob (words : List (List ℕ)) (told : Option World) (tells : Bool) (world : World) (job : JobData) : Type 0 where
+  pub path : List ℕ
+  pub workers : ℕ
+  pub share : ℕ
+  pub spells : Spells words (commands.Run path workers share)
+  pub scans_tell : told ≡ Some world
+  pub disk_tells : tells ≡ true
+  pub comes : ComesTo (file_at world) path (Ok job.parts)
+
+-- The definition's whole reel: each frame's file is there, byte for byte, and is acknowledged.
+pub record IsWholeReel (job : JobData) (world : World) (files : Files) : Type 0 where
+  pub there : (i : ℕ) → i < frames_of job → files (file_of job i) ≡ Some (frame_file job (file_at world) i)
+  pub acked : (i : ℕ) → i < frames_of job → HasAcked job i files
+
+-- No file is there, and nothing is loose.
+pub record IsEmptyFolder (moment : Moment) : Type 0 where
+  pub none : (id : FileId) → moment.view id ≡ None
+  pub firm : moment.loose ≡ []
+
+-- Where a run of the job may begin: on an empty folder, or on what stopped runs of the same job left, which is sound and fit.
+abbrev pub IsBeginning : JobData → World → Moment → Type 0
+IsBeginning job world moment = IsEmptyFolder moment ⊎ Surely moment (IsSoundReel job world)
+
+-- the folder behind a crash that left these files
+abbrev pub left_with : Files → Moment
+left_with files = record { view = files; loose = [] }
+
+-- What a run of the job keeps from its opening until now, wherever it is. `Ended` says that it was done.
+pub record KeepsItsPromise (job : JobData) (world : World) (opening now : History) (Ended : Type 0) : Type 0 where
+  -- At every moment of the run each frame that a crash leaves acknowledged is the definition's, byte for byte.
+  pub sound : IsBeginning job world (moment_of opening) → LeavesOnly opening now (IsSoundReel job world)
+  -- What a crash leaves is such a beginning again.
+  pub again : IsBeginning job world (moment_of opening) → LeavesOnly opening now (λ files. IsBeginning job world (left_with files))
+  -- No acknowledgement is ever lost.
+  pub kept : (i : ℕ) → NeverForgets opening now (HasAcked job i)
+  -- A run that was done leaves the whole reel, and so does each crash behind it.
+  pub whole : Ended → IsBeginning job world (moment_of opening) → Surely (moment_of now) (IsWholeReel job world)
+
+-- The command was done, though its output may be lost: a fault of the sink keeps the status in whose place it stands.
+abbrev pub HasEnded : Outcome → Type 0
+HasEnded result = (result ≡ Done) ⊎ (result ≡ SinkFault 0)
