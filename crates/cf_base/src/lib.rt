@@ -13,8 +13,6 @@ mod lines;
 mod pixel;
 mod reel;
 mod sink;
-#[cfg(test)]
-mod tests;
 mod text;
 mod timing;
 mod tokens;

@@ -258,6 +258,3 @@ fn number_at(token: &[u8], i: usize) -> u8
 {
     10 * (token[i] - b'0') + (token[i + 1] - b'0')
 }
-
-#[cfg(test)]
-mod tests;

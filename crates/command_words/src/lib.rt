@@ -5,8 +5,6 @@
 mod command;
 mod laws;
 mod line;
-#[cfg(test)]
-mod tests;
 
 pub use command::{Command, command_of};
 pub use laws::command_laws;

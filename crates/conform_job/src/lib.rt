@@ -16,6 +16,3 @@ pub use job::Job;
 pub use need::Need;
 pub use parts::{JobFault, JobParts};
 pub use work::Work;
-
-#[cfg(test)]
-mod tests;

@@ -20,11 +20,11 @@ use Rattle.resume_ledger.specs.declared.attach.OpenFault.{OpenFault}
 use Rattle.resume_ledger.specs.declared.attach.OpenFault.TheVariants as faults
 use Rattle.reel_writer.specs.Reel.{frames_of}
 use Rattle.station.specs.Crews.{WasCrewed, IsUnstepped}
-use Rattle.station.specs.Ends.{IsEnd}
-use Rattle.station.specs.Run.{HasRefused}
-use Rattle.station.specs.declared.run_end.Report.{Report}
-use Rattle.station.specs.declared.run_end.RunEnd.{RunEnd}
-use Rattle.station.specs.declared.run_end.RunEnd.TheVariants as ends
+use Rattle.single_run.specs.Ends.{IsEnd}
+use Rattle.single_run.specs.Run.{HasRefused}
+use Rattle.single_run.specs.declared.run_end.Report.{Report}
+use Rattle.single_run.specs.declared.run_end.RunEnd.{RunEnd}
+use Rattle.single_run.specs.declared.run_end.RunEnd.TheVariants as ends
 use Rattle.project_job.specs.Jobs.{ComesTo, HasPlanned, IsOfJob}
 use Rattle.project_job.specs.Laws.{OneJob}
 use Rattle.project_run.specs.Crew.{HasFailed, IsCrewReply, told_by}

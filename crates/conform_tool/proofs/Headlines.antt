@@ -13,9 +13,9 @@ use Rattle.reel_disk.proofs.Images.{firm_image}
 use Rattle.reel_disk.specs.Runs.{LeavesOnly, Surely, NeverForgets}
 use Rattle.resume_ledger.specs.Ledger.{Acks, IsSealed}
 use Rattle.reel_writer.specs.Reel.{frames_of, HasAcked, IsSoundReel, IsReelRun}
-use Rattle.station.specs.Run.{AreAllAcked}
-use Rattle.station.specs.declared.run_end.RunEnd.{RunEnd}
-use Rattle.station.specs.declared.run_end.RunEnd.TheVariants as ends
+use Rattle.single_run.specs.Run.{AreAllAcked}
+use Rattle.single_run.specs.declared.run_end.RunEnd.{RunEnd}
+use Rattle.single_run.specs.declared.run_end.RunEnd.TheVariants as ends
 use Rattle.project_job.specs.Jobs.{ComesTo, IsOfJob}
 use Rattle.project_job.specs.Laws.{OneJob}
 use Rattle.project_run.specs.Run.{DiskState, IsOfRun, IsRunReply, outcome_of_end}

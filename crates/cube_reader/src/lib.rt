@@ -12,8 +12,6 @@ mod fault;
 mod keywords;
 mod reading;
 mod state;
-#[cfg(test)]
-mod tests;
 mod words;
 
 use cf_base::Fail;

@@ -1,5 +1,5 @@
 //! How many frames there are.
-ghost use Rattle.std.specs.Prelude.{◌≡◌, ◌+◌, ◌-◌, ◌/◌, ◌%◌, ◌≤◌};
+ghost use Rattle.std.specs.Prelude.{◌≡◌, ◌+◌, ◌-◌, ◌*◌, ◌/◌, ◌%◌, ◌≤◌};
 ghost use Rattle.demo_job.specs.Counts.{source_count, record_count};
 ghost use Rattle.demo_job.specs.Texts.{hour, record_in, source_in};
 
@@ -21,5 +21,14 @@ pub fn record_count(events: u32) -> u32
     ensures count { result ≡ record_count events }
     ensures end { hour + result ≡ record_in ((events - 1) / 4) ((events - 1) % 4) + 6 }
 {
-    26 * ((events - 1) / 4) + 6 * ((events - 1) % 4) + 6
+    end_of((events - 1) / 4, (events - 1) % 4)
+}
+
+/// Where the event at this place of this group of four ends, counted from the reel's first frame.
+fn end_of(group: u32, place: u32) -> u32
+    requires group { group ≤ 249 }
+    requires place { place ≤ 3 }
+    ensures { result ≡ 26 * group + 6 * place + 6 }
+{
+    26 * group + 6 * place + 6
 }

@@ -6,8 +6,6 @@
 mod counts;
 mod files;
 mod picture;
-#[cfg(test)]
-mod tests;
 mod texts;
 
 pub use counts::{record_count, source_count};

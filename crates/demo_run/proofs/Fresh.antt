@@ -12,12 +12,12 @@ use Rattle.reel_disk.specs.Disk.{Files, History, IsLoose, IsImage, AgreesOutside
 use Rattle.reel_disk.specs.Runs.{Surely}
 use Rattle.resume_ledger.specs.Ledger.{IsSealed}
 use Rattle.reel_writer.specs.Reel.{frames_of, IsSoundReel}
-use Rattle.station.specs.Asks.{closed_frames}
-use Rattle.station.specs.Ends.{IsEnd}
-use Rattle.station.specs.Run.{WasOpened, WasRefused, HasRefused, HasWhole, IsWhole}
-use Rattle.station.specs.declared.run_end.Report.{Report}
-use Rattle.station.specs.declared.run_end.RunEnd.{RunEnd}
-use Rattle.station.specs.declared.run_end.RunEnd.TheVariants.{Done, OtherJob, BadLedger, Changed, SourceFault, DiskFault, NoMemory}
+use Rattle.single_run.specs.Asks.{closed_frames}
+use Rattle.single_run.specs.Ends.{IsEnd}
+use Rattle.single_run.specs.Run.{WasOpened, WasRefused, HasRefused, HasWhole, IsWhole}
+use Rattle.single_run.specs.declared.run_end.Report.{Report}
+use Rattle.single_run.specs.declared.run_end.RunEnd.{RunEnd}
+use Rattle.single_run.specs.declared.run_end.RunEnd.TheVariants.{Done, OtherJob, BadLedger, Changed, SourceFault, DiskFault, NoMemory}
 
 -- no gate is open
 none_open : (gates : List Bool) → ((k : ℕ) → get_or gates k false ≡ true → ⊥) → count_by (λ gate. gate) gates ≡ 0

@@ -6,7 +6,7 @@ ghost use Rattle.sha2.specs.Sha256.{sha256};
 ghost use Rattle.reel_disk.specs.Disk.{moment_of, view_of};
 ghost use Rattle.reel_disk.specs.MemoryDisk.{history_in};
 ghost use Rattle.reel_writer.specs.Reel.{frames_of};
-ghost use Rattle.station.specs.Run.{IsWhole};
+ghost use Rattle.single_run.specs.Run.{IsWhole};
 ghost use Rattle.demo_run.specs.Demo.{reel_bytes};
 
 use cf_base::{Fail, FileId, Never};

@@ -6,7 +6,5 @@ mod digest;
 mod run;
 mod scans;
 mod shown;
-#[cfg(test)]
-mod tests;
 
 pub use shown::demo;

@@ -4,7 +4,7 @@ ghost use Rattle.conform_job.specs.Answers.{AreInfosOf};
 ghost use Rattle.reel_disk.specs.Disk.{IsNewDisk, moment_of};
 ghost use Rattle.reel_disk.specs.MemoryDisk.{history_in, faults_in};
 ghost use Rattle.reel_writer.specs.Reel.{frames_of};
-ghost use Rattle.station.specs.Run.{IsWhole};
+ghost use Rattle.single_run.specs.Run.{IsWhole};
 
 use crate::scans::UnfailingScans;
 use cf_base::{Fail, Never};

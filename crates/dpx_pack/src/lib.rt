@@ -2,8 +2,6 @@
 #![tactic(auto)]
 
 mod file;
-#[cfg(test)]
-mod tests;
 mod word;
 
 pub use file::{pack, unpack};

@@ -13,8 +13,6 @@ mod reading;
 mod rounds;
 mod steps;
 mod table;
-#[cfg(test)]
-mod tests;
 
 use cf_base::{EventList, EventRows, Fail, Rate};
 use cf_timecode::TcFault;

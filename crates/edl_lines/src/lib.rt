@@ -191,6 +191,3 @@ fn read_fcm(rest: &[u8]) -> Result<LineKind, LineFault>
     }
     Err(LineFault::BadFcm)
 }
-
-#[cfg(test)]
-mod tests;

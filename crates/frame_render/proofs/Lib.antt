@@ -2,4 +2,3 @@ pub mod Filled
 pub mod HandedIn
 pub mod Lines
 mod Rows
-pub mod Samples

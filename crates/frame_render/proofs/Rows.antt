@@ -25,7 +25,7 @@ use Rattle.conform_job.specs.Asks.{shot_of_frame}
 use Rattle.conform_job.specs.Job.{JobData}
 use Rattle.conform_job.specs.Refusals.{Files}
 use Rattle.frame_render.specs.Frame.{colour_word, line_words, new_words, old_words, out_head, timecode_of, words_of_key}
-use Rattle.frame_render.proofs.Samples.{desk}
+use Rattle.record_timeline.proofs.Samples.{desk}
 
 abbrev reel : List ℕ → List ℕ → ℕ → ReelEntry
 reel name prefix start = record { name = name; prefix = prefix; start = start; day = 2073600; frames = 48; file = start }

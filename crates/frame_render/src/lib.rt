@@ -13,6 +13,3 @@ pub use buffer::FrameBuf;
 pub use decoded::Decoded;
 pub use file::render;
 pub use rendered::Rendered;
-
-#[cfg(test)]
-mod tests;

@@ -42,6 +42,3 @@ pub struct Project {
 pub fn project_laws()
     ensures one { OneMeaning }
 {}
-
-#[cfg(test)]
-mod tests;

@@ -10,11 +10,11 @@ use Rattle.conform_job.specs.Answers.{count_after}
 use Rattle.conform_job.specs.Job.{JobData}
 use Rattle.conform_job.specs.Names.{Tells}
 use Rattle.reel_disk.specs.Disk.{History}
-use Rattle.station.specs.Ends.{IsEnd}
-use Rattle.station.specs.Run.{WasOpened, WasRefused, HasRefused}
-use Rattle.station.specs.declared.run_end.Report.{Report}
-use Rattle.station.specs.declared.run_end.RunEnd.{RunEnd}
-use Rattle.station.specs.declared.run_end.RunEnd.TheVariants as ends
+use Rattle.single_run.specs.Ends.{IsEnd}
+use Rattle.single_run.specs.Run.{WasOpened, WasRefused, HasRefused}
+use Rattle.single_run.specs.declared.run_end.Report.{Report}
+use Rattle.single_run.specs.declared.run_end.RunEnd.{RunEnd}
+use Rattle.single_run.specs.declared.run_end.RunEnd.TheVariants as ends
 use Rattle.project_job.specs.Jobs.{HasPlanned, IsOfJob, cube_count}
 use Rattle.project_run.specs.Run.{DiskState, IsKnown, IsOfRun, IsJobRun, IsRunReply}
 use Rattle.project_run.specs.Status.{IsStatus, IsStatusReply}

@@ -13,11 +13,11 @@ use Rattle.conform_job.specs.Answers.{count_after}
 use Rattle.conform_job.specs.Job.{JobData}
 use Rattle.render_board.specs.declared.step.Step.{Step}
 use Rattle.station.specs.Crews.{AreWorked, IsUnstepped, WasCrewed}
-use Rattle.station.specs.Ends.{IsChange}
-use Rattle.station.specs.Run.{AreAllAcked, HasWhole, IsOwnFile}
-use Rattle.station.specs.declared.run_end.Report.{Report}
-use Rattle.station.specs.declared.run_end.RunEnd.{RunEnd}
-use Rattle.station.specs.declared.run_end.RunEnd.TheVariants as ends
+use Rattle.single_run.specs.Ends.{IsChange}
+use Rattle.single_run.specs.Run.{AreAllAcked, HasWhole, IsOwnFile}
+use Rattle.single_run.specs.declared.run_end.Report.{Report}
+use Rattle.single_run.specs.declared.run_end.RunEnd.{RunEnd}
+use Rattle.single_run.specs.declared.run_end.RunEnd.TheVariants as ends
 use Rattle.project_job.specs.Jobs.{ComesTo, HasPlanned, IsOfJob, AreLoaded, cube_count}
 use Rattle.outcome_line.specs.declared.outcome.Outcome.{Outcome}
 use Rattle.outcome_line.specs.declared.outcome.Outcome.TheVariants as outcome

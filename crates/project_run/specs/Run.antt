@@ -12,10 +12,10 @@ use Rattle.reel_writer.specs.Reel.{frames_of, IsReelRun}
 use Rattle.conform_job.specs.Answers.{count_after}
 use Rattle.conform_job.specs.Job.{JobData}
 use Rattle.conform_job.specs.Keys.{info_at}
-use Rattle.station.specs.Run.{WasOpened, WasRefused, AreAllAcked, HasWhole, IsOwnFile}
-use Rattle.station.specs.declared.run_end.Report.{Report}
-use Rattle.station.specs.declared.run_end.RunEnd.{RunEnd}
-use Rattle.station.specs.declared.run_end.RunEnd.TheVariants as ends
+use Rattle.single_run.specs.Run.{WasOpened, WasRefused, AreAllAcked, HasWhole, IsOwnFile}
+use Rattle.single_run.specs.declared.run_end.Report.{Report}
+use Rattle.single_run.specs.declared.run_end.RunEnd.{RunEnd}
+use Rattle.single_run.specs.declared.run_end.RunEnd.TheVariants as ends
 use Rattle.project_job.specs.Jobs.{ComesTo, HasPlanned, IsOfJob, AreLoaded, cube_count}
 use Rattle.printed_text.specs.Text.{spaced_line}
 use Rattle.outcome_line.specs.declared.outcome.Outcome.{Outcome}

@@ -2,6 +2,6 @@ mod CoverLaws
 mod EndLaws
 mod OverlapLaws
 mod Rows
-mod Samples
+pub mod Samples
 mod ShotLaws
 mod SpanLaws

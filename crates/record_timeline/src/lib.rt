@@ -173,6 +173,3 @@ pub fn timeline_laws()
     ensures cover { FindsCover }
     ensures one { OneCovers }
 {}
-
-#[cfg(test)]
-mod tests;

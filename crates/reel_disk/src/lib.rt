@@ -4,14 +4,8 @@
 
 mod crash;
 mod disk;
-#[cfg(test)]
-mod disk_tests;
 mod folder;
-#[cfg(test)]
-mod folder_tests;
 mod memory;
-#[cfg(test)]
-mod memory_tests;
 mod names;
 mod start;
 mod store;

@@ -3,7 +3,5 @@
 
 mod reel;
 mod store;
-#[cfg(test)]
-mod tests;
 
 pub use reel::Reel;

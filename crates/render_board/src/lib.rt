@@ -6,8 +6,6 @@ mod board;
 mod history;
 mod laws;
 mod step;
-#[cfg(test)]
-mod tests;
 
 pub use board::{Board, Claim, Turn};
 pub use history::History;

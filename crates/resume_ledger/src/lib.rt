@@ -11,8 +11,6 @@ mod laws;
 mod ledger;
 mod peek;
 mod sealed;
-#[cfg(test)]
-mod tests;
 mod unsealed;
 
 pub use attach::OpenFault;

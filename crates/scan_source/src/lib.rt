@@ -6,8 +6,6 @@ mod lent;
 mod memory;
 mod scans;
 mod system;
-#[cfg(test)]
-mod tests;
 
 pub use first::head_of;
 pub use memory::MemoryScans;

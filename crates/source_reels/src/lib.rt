@@ -18,6 +18,3 @@ pub fn reel_laws()
     ensures first { NamesFirstFault }
     ensures paths { PathsAgree }
 {}
-
-#[cfg(test)]
-mod tests;

@@ -17,19 +17,19 @@ use Rattle.render_board.specs.declared.step.Step.TheVariants.{Claim, Finish, Sto
 use Rattle.render_board.specs.declared.step.Why.{Why}
 use Rattle.render_board.specs.declared.step.Why.TheVariants.{Source, Disk, Memory, Changed}
 use Rattle.reel_writer.specs.Reel.{frames_of, HasAcked, IsReelRun}
-use Rattle.station.specs.declared.run_end.Report.{Report}
-use Rattle.station.specs.declared.run_end.RunEnd.{RunEnd}
-use Rattle.station.specs.declared.run_end.RunEnd.TheVariants.{Done, Changed as IsNow, SourceFault, DiskFault, NoMemory}
+use Rattle.single_run.specs.declared.run_end.Report.{Report}
+use Rattle.single_run.specs.declared.run_end.RunEnd.{RunEnd}
+use Rattle.single_run.specs.declared.run_end.RunEnd.TheVariants.{Done, Changed as IsNow, SourceFault, DiskFault, NoMemory}
 use Rattle.station.specs.Crews.{IsCrewRun, WasCrewed, end_by, log_of}
-use Rattle.station.specs.Ends.{IsEnd}
-use Rattle.station.specs.Run.{AreAllAcked, IsOwnFile}
-use Rattle.station.specs.Station.{IsStation, StationView, HasChanges, IsCrewFile, ShowsDone, at_start, start_of}
+use Rattle.single_run.specs.Ends.{IsEnd}
+use Rattle.single_run.specs.Run.{AreAllAcked, IsOwnFile}
+use Rattle.shared_station.specs.Station.{IsStation, StationView, HasChanges, IsCrewFile, ShowsDone, at_start, start_of}
 use Rattle.reel_writer.specs.View.{IsReelOf}
-use Rattle.station.proofs.Closing.{images_acked, own_file}
+use Rattle.single_run.proofs.Closing.{images_acked, own_file}
 use Rattle.station.proofs.Gathering.{end_done, no_first}
-use Rattle.station.proofs.Opening.{run_back, start_at}
+use Rattle.shared_station.proofs.Opening.{run_back, start_at}
 use Rattle.station.proofs.Resting.{closed_has_stop}
-use Rattle.station.proofs.StationKeeps.{open_shows}
+use Rattle.shared_station.proofs.StationKeeps.{open_shows}
 
 -- where the first stop stands
 first_at : (steps : List Step) (why : Why) → first_why steps ≡ Some why → (k : ℕ) × (w : ℕ) × (slice_get steps k ≡ Some (Stop w why))

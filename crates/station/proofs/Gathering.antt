@@ -12,13 +12,13 @@ use Rattle.render_board.specs.declared.step.Why.{Why}
 use Rattle.render_board.specs.declared.step.Why.TheVariants.{Source, Disk, Memory, Changed}
 use Rattle.render_board.specs.History.{first_why, is_changed, is_disk, is_source, is_stop_by, stops_of}
 use Rattle.render_board.specs.Board.{has_stop}
-use Rattle.station.specs.declared.run_end.RunEnd.{RunEnd}
-use Rattle.station.specs.declared.run_end.RunEnd.TheVariants.{Done, OtherJob, BadLedger, Changed as IsNow, SourceFault, DiskFault, NoMemory}
+use Rattle.single_run.specs.declared.run_end.RunEnd.{RunEnd}
+use Rattle.single_run.specs.declared.run_end.RunEnd.TheVariants.{Done, OtherJob, BadLedger, Changed as IsNow, SourceFault, DiskFault, NoMemory}
 use Rattle.station.specs.Crews.{AreWorked, IsWorked, end_by}
-use Rattle.station.specs.Ends.{IsChange}
-use Rattle.station.specs.Marks.{Tallies, fresh}
-use Rattle.station.specs.Scanned.{IsScanned}
-use Rattle.station.proofs.Scanning.{scanned_itself}
+use Rattle.single_run.specs.Ends.{IsChange}
+use Rattle.shared_station.specs.Marks.{Tallies, fresh}
+use Rattle.single_run.specs.Scanned.{IsScanned}
+use Rattle.single_run.proofs.Scanning.{scanned_itself}
 
 module _ {X : Type 0} (f : X → ℕ) where
   -- a sum that is not 0 has an item that is not 0

@@ -22,17 +22,17 @@ use Rattle.render_board.proofs.Histories.{stops_of-none}
 use Rattle.render_board.proofs.Runs.{true_or_false}
 use Rattle.render_board.proofs.Steps.{has_stop-step, turn_of-other, turn_of-own}
 use Rattle.conform_job.specs.Job.{JobData}
-use Rattle.station.specs.Ends.{IsChange, IsStop}
-use Rattle.station.specs.declared.run_end.RunEnd.{RunEnd}
-use Rattle.station.specs.declared.run_end.RunEnd.TheVariants.{Done, OtherJob, BadLedger, Changed as IsNow, SourceFault, DiskFault, NoMemory}
+use Rattle.single_run.specs.Ends.{IsChange, IsStop}
+use Rattle.single_run.specs.declared.run_end.RunEnd.{RunEnd}
+use Rattle.single_run.specs.declared.run_end.RunEnd.TheVariants.{Done, OtherJob, BadLedger, Changed as IsNow, SourceFault, DiskFault, NoMemory}
 use Rattle.station.specs.Crews.{IsWorked}
-use Rattle.station.specs.Marks.{Tallies, raised_by}
-use Rattle.station.specs.StationSteps.{why_by}
+use Rattle.shared_station.specs.Marks.{Tallies, raised_by}
+use Rattle.shared_station.specs.StationSteps.{why_by}
 use Rattle.conform_job.specs.Answers.{count_after}
-use Rattle.station.specs.Scanned.{IsScanned}
+use Rattle.single_run.specs.Scanned.{IsScanned}
 use Rattle.station.specs.Stepped.{HasStepped}
 use Rattle.station.specs.Worked.{HasCauses, KeepsParts, KeepsSources}
-use Rattle.station.proofs.Scanning.{loads_along, scanned_itself}
+use Rattle.single_run.proofs.Scanning.{loads_along, scanned_itself}
 use Rattle.station.proofs.Working.{parts_along, causes_none}
 
 or_left : (a b : Bool) → a ≡ true → (a || b) ≡ true

@@ -2,7 +2,7 @@
 use Rattle.std.proofs.Common.{List, length, get_or, map, ◌++◌, take, drop, subst, sym, ◌∙◌, ◌<◌, ◌≤◌, All, ◌≡◌, ℕ, ◌+◌, ap, arith}
 use Rattle.std.proofs.Math.ListN.{get_or-map}
 use Rattle.std.proofs.lemmas.List.{length-map, take-append-le, take_all}
-use Rattle.station.specs.Marks.{Tallies, fresh, joined}
+use Rattle.shared_station.specs.Marks.{Tallies, fresh, joined}
 use Rattle.station.specs.Seats.{HasGiven, IsOnePart}
 use Rattle.station.specs.Worked.{KeepsParts}
 

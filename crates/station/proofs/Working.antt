@@ -5,10 +5,10 @@ use Rattle.scan_source.specs.World.{World}
 use Rattle.render_board.specs.declared.board.Claim.TheVariants.{Take}
 use Rattle.render_board.specs.Board.{Log, claim_of}
 use Rattle.render_board.proofs.Holding.{claim_takes, least_free_is}
-use Rattle.station.specs.Marks.{Tallies}
-use Rattle.station.specs.Scanned.{IsScanned}
+use Rattle.shared_station.specs.Marks.{Tallies}
+use Rattle.single_run.specs.Scanned.{IsScanned}
 use Rattle.station.specs.Worked.{HasCauses, KeepsParts, KeepsSources}
-use Rattle.station.proofs.Scanning.{scanned_along}
+use Rattle.single_run.proofs.Scanning.{scanned_along}
 
 -- a frame that is taken is one of the reel's
 pub take_within : (log : Log) (i n : ℕ) → claim_of log ≡ Take i → length log.start ≡ n → i < n

@@ -13,14 +13,14 @@ use Rattle.render_board.specs.declared.step.Why.{Why}
 use Rattle.render_board.specs.declared.step.Why.TheVariants.{Source, Disk, Memory, Changed}
 use Rattle.resume_ledger.specs.Ledger.{IsFit}
 use Rattle.reel_writer.specs.Reel.{frames_of, HasAcked}
-use Rattle.station.specs.declared.run_end.Report.{Report}
-use Rattle.station.specs.declared.run_end.RunEnd.{RunEnd}
-use Rattle.station.specs.declared.run_end.RunEnd.TheVariants.{Done, Changed as IsNow, SourceFault, DiskFault, NoMemory}
-use Rattle.station.specs.Ends.{IsEnd}
-use Rattle.station.specs.Marks.{Tallies}
-use Rattle.station.specs.Run.{WasRefused}
-use Rattle.station.specs.Scanned.{IsScanned}
-use Rattle.station.specs.Station.{StationView, IsStation, ShowsDone}
+use Rattle.single_run.specs.declared.run_end.Report.{Report}
+use Rattle.single_run.specs.declared.run_end.RunEnd.{RunEnd}
+use Rattle.single_run.specs.declared.run_end.RunEnd.TheVariants.{Done, Changed as IsNow, SourceFault, DiskFault, NoMemory}
+use Rattle.single_run.specs.Ends.{IsEnd}
+use Rattle.shared_station.specs.Marks.{Tallies}
+use Rattle.single_run.specs.Run.{WasRefused}
+use Rattle.single_run.specs.Scanned.{IsScanned}
+use Rattle.shared_station.specs.Station.{StationView, IsStation, ShowsDone}
 use Rattle.station.specs.Worked.{HasCauses}
 
 -- how a run ends whose first stop has this why

@@ -1,12 +1,4 @@
-pub mod Asks
 pub mod Crews
-pub mod Ends
-pub mod Marks
-pub mod Ran
-pub mod Run
-pub mod Scanned
 pub mod Seats
-pub mod Station
-pub mod StationSteps
 pub mod Stepped
 pub mod Worked

@@ -1,8 +1,8 @@
 -- What a step of a run does to the seat that it is made from. This is this project's own rule.
 use Rattle.std.specs.Prelude.{◌≡◌, ℕ, ◌+◌, Bool, true, ◌||◌, Option}
 use Rattle.scan_source.specs.World.{World}
-use Rattle.station.specs.Marks.{Tallies}
-use Rattle.station.specs.Scanned.{IsScanned}
+use Rattle.shared_station.specs.Marks.{Tallies}
+use Rattle.single_run.specs.Scanned.{IsScanned}
 use Rattle.station.specs.Worked.{HasCauses}
 
 -- So many loads were made and counted, one of them may have failed, and each stop for a source file has its cause in them.

@@ -2,8 +2,8 @@
 use Rattle.std.specs.Prelude.{◌≡◌, ◌⊎◌, ℕ, ◌<◌, ◌≤◌, Bool, true, Option, None}
 use Rattle.scan_source.specs.World.{World}
 use Rattle.render_board.specs.declared.step.Why.{Why}
-use Rattle.station.specs.Marks.{Tallies, raised_by}
-use Rattle.station.specs.Scanned.{IsScanned}
+use Rattle.shared_station.specs.Marks.{Tallies, raised_by}
+use Rattle.single_run.specs.Scanned.{IsScanned}
 
 -- at most one stop is counted, of this why
 abbrev pub MayRaise : Why → Tallies → Tallies → Type 0

@@ -7,20 +7,19 @@ ghost use Rattle.render_board.specs.Board.{IsNext, has_stop, is_done, turn_of, w
 ghost use Rattle.render_board.specs.declared.board.Turn.TheVariants as turns;
 ghost use Rattle.render_board.specs.declared.step.Step.TheVariants as steps;
 ghost use Rattle.reel_writer.specs.Reel.{frames_of};
-ghost use Rattle.station.specs.Ends.{IsChange, IsStop};
-ghost use Rattle.station.specs.Scanned.{IsScanned};
+ghost use Rattle.single_run.specs.Ends.{IsChange, IsStop};
+ghost use Rattle.single_run.specs.Scanned.{IsScanned};
 ghost use Rattle.station.specs.Stepped.{HasStepped};
 
-use crate::RunEnd;
-use crate::frames::make_frame;
 use crate::rounds::{is_source_fault, why_of};
 use crate::seat::Seat;
-use crate::station::Station;
 use conform_job::{Job, Work};
 use frame_render::{FrameBuf, Rendered};
 use reel_disk::{Disk, Start};
 use render_board::{Claim, Turn};
 use scan_source::Scans;
+use shared_station::Station;
+use single_run::{RunEnd, make_frame};
 use std::alloc::Global;
 use std::sync::ledger::Ledger;
 

@@ -1,7 +1,7 @@
 //! What one worker has for itself.
-use crate::marks::Marks;
 use conform_job::Work;
 use scan_source::Scans;
+use shared_station::Marks;
 use std::marker::PhantomData;
 use std::sync::ledger::Ledger;
 

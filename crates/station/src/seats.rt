@@ -1,12 +1,12 @@
 //! The seats of a crew: one for each scan, made before the workers begin and taken apart after they have returned.
 ghost use Rattle.std.specs.Prelude.{◌≡◌, ◌+◌, ◌*◌, ◌<◌, ◌≤◌, ◌++◌, ◌∷◌, ℕ, All, [], false, length, map, sum_by, vec_len, vec_capacity};
-ghost use Rattle.station.specs.Marks.{HasMoreThan, fresh};
+ghost use Rattle.shared_station.specs.Marks.{HasMoreThan, fresh};
 ghost use Rattle.station.specs.Seats.{HasGiven, HasTaken, IsOnePart};
 
-use crate::marks::Marks;
 use crate::seat::Seat;
 use conform_job::Work;
 use scan_source::Scans;
+use shared_station::Marks;
 use std::marker::PhantomData;
 use std::sync::ledger::Ledger;
 

@@ -5,7 +5,7 @@ use Rattle.scan_source.specs.World.{World, file_at}
 use Rattle.frame_render.specs.Frame.{frame_file}
 use Rattle.reel_disk.specs.Disk.{view_of, moment_of}
 use Rattle.reel_disk.specs.MemoryDisk.{history_in}
-use Rattle.station.specs.Run.{IsWhole}
+use Rattle.single_run.specs.Run.{IsWhole}
 use Rattle.demo_run.proofs.digest.digest_of.Given as goal
 
 -- the files so far were hashed, and the disk has what it had

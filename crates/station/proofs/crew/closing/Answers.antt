@@ -3,7 +3,7 @@ use Rattle.reel_disk.specs.Disk.{moment_of}
 use Rattle.render_board.specs.History.{first_why}
 use Rattle.reel_writer.specs.View.{IsReelOf}
 use Rattle.station.specs.Crews.{end_by}
-use Rattle.station.specs.Run.{AreAllAcked}
+use Rattle.single_run.specs.Run.{AreAllAcked}
 use Rattle.station.proofs.Crewing.{crew_acked}
 use Rattle.station.proofs.Gathering.{end_done}
 use Rattle.station.proofs.crew.closing.Goals as goal

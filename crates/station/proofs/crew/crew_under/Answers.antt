@@ -8,12 +8,12 @@ use Rattle.resume_ledger.specs.Ledger.{IsLedgerFile}
 use Rattle.reel_writer.specs.Reel.{IsReelRun}
 use Rattle.reel_writer.proofs.ReelLaws.{reel_run_itself}
 use Rattle.station.specs.Crews.{IsCrewRun, IsUnstepped, WasCrewed}
-use Rattle.station.specs.Run.{IsOwnFile}
-use Rattle.station.specs.declared.run_end.RunEnd.TheVariants as ends
-use Rattle.station.proofs.Closing.{whole_reel}
+use Rattle.single_run.specs.Run.{IsOwnFile}
+use Rattle.single_run.specs.declared.run_end.RunEnd.TheVariants as ends
+use Rattle.single_run.proofs.Closing.{whole_reel}
 use Rattle.station.proofs.Crewing.{by_steps, crew_run, crew_spares, crewed, with_steps}
 use Rattle.station.proofs.Gathering.{end_disk, unworked}
-use Rattle.station.proofs.Opening.{beginning}
+use Rattle.shared_station.proofs.Opening.{beginning}
 use Rattle.station.proofs.crew.crew_under.Goals as goal
 
 pub returns-in_default-clause-run : goal.returns-in_default-clause-run

@@ -3,10 +3,10 @@ use Rattle.std.specs.declared.alloc.Global.{Global}
 use Rattle.conform_job.specs.Names.{Tells}
 use Rattle.render_board.specs.Board.{has_stop, is_done}
 use Rattle.render_board.specs.History.{first_why, is_changed, is_source, stops_of}
-use Rattle.station.specs.Ends.{IsChange}
-use Rattle.station.specs.Marks.{fresh}
+use Rattle.single_run.specs.Ends.{IsChange}
+use Rattle.shared_station.specs.Marks.{fresh}
 use Rattle.station.specs.Seats.{IsOnePart}
-use Rattle.station.specs.Station.{StationView}
+use Rattle.shared_station.specs.Station.{StationView}
 use Rattle.station.proofs.Gathering.{changed_seat, end_changed, end_source, gathered}
 use Rattle.station.proofs.Seating.{all_after, all_at, one_part, refilled}
 use Rattle.station.proofs.crew.run_opened.Goals as goal

@@ -1,5 +1,5 @@
 use Rattle.std.proofs.Common.{ap}
-use Rattle.station.specs.Station.{StationView}
+use Rattle.shared_station.specs.Station.{StationView}
 use Rattle.station.proofs.Resting.{none_left}
 use Rattle.station.proofs.rest.claim_first.Goals as goal
 

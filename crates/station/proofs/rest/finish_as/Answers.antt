@@ -1,11 +1,11 @@
 use Rattle.std.proofs.Common.{◌≡◌, ◌-◌, ◌<◌, true, refl, arith, sym, ◌∙◌, ap, subst}
 use Rattle.std.specs.Prelude.{Err, IfErr, Result}
 use Rattle.render_board.proofs.Holding.{held_within}
-use Rattle.station.specs.Ends.{IsChange, IsStop}
-use Rattle.station.specs.declared.run_end.RunEnd.{RunEnd}
-use Rattle.station.specs.declared.run_end.RunEnd.TheVariants.{SourceFault}
+use Rattle.single_run.specs.Ends.{IsChange, IsStop}
+use Rattle.single_run.specs.declared.run_end.RunEnd.{RunEnd}
+use Rattle.single_run.specs.declared.run_end.RunEnd.TheVariants.{SourceFault}
 use Rattle.station.proofs.Resting.{closed_has_stop, stepped_by, stop_causes}
-use Rattle.station.proofs.Scanning.{scanned_as}
+use Rattle.single_run.proofs.Scanning.{scanned_as}
 use Rattle.station.proofs.rest.finish_as.Goals as goal
 
 pub returns-then-is_closed-clause-stopped : goal.returns-then-is_closed-clause-stopped

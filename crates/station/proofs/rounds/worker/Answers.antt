@@ -1,6 +1,6 @@
 use Rattle.std.proofs.Common.{◌≡◌, true, false, rules, refl, arith, sym, ◌∙◌}
 use Rattle.std.proofs.lemmas.Bool.{true≢false}
-use Rattle.station.proofs.Scanning.{scanned_as}
+use Rattle.single_run.proofs.Scanning.{scanned_as}
 use Rattle.station.proofs.Working.{round_along, parts_along, sources_along}
 use Rattle.station.proofs.rounds.worker.Goals as goal
 

@@ -1,7 +1,7 @@
 use Rattle.std.proofs.Common.{◌≡◌, ◌*◌, ◌≤◌, false, length}
 use Rattle.frame_render.specs.Frame.{frame_size}
 use Rattle.reel_writer.specs.Reel.{frames_of}
-use Rattle.station.specs.Scanned.{IsScanned}
+use Rattle.single_run.specs.Scanned.{IsScanned}
 use Rattle.station.specs.Worked.{KeepsParts, KeepsSources}
 use Rattle.station.proofs.rounds.worker.Given as goal
 

@@ -1,7 +1,7 @@
 use Rattle.std.proofs.Common.{◌≡◌, false, rules, refl, arith}
 use Rattle.std.proofs.lemmas.List.{length_push, map-append}
 use Rattle.std.proofs.lemmas.List.Elements.{All-push}
-use Rattle.station.specs.Marks.{fresh}
+use Rattle.shared_station.specs.Marks.{fresh}
 use Rattle.station.proofs.Seating.{given_more}
 use Rattle.station.proofs.seats.seat_all.Goals as goal
 

@@ -1,5 +1,5 @@
 use Rattle.std.proofs.Common.{◌≡◌, All, length, map, false, vec_len, vec_capacity}
-use Rattle.station.specs.Marks.{fresh}
+use Rattle.shared_station.specs.Marks.{fresh}
 use Rattle.station.specs.Seats.{HasGiven}
 use Rattle.station.proofs.seats.seat_all.Given as goal
 

@@ -1,0 +1,91 @@
+//! The conform station's command line: the words after the program's name, scans and a reel folder below the current folder,
+//! and standard output are handed to the top call, whose outcome is the status.
+#![tactic(auto)]
+
+ghost use Rattle.std.specs.Prelude.{◌≡◌, vec_len, IfOk};
+
+use cf_base::{PathText, StreamSink};
+use conform_tool::{Ended, conform};
+use reel_disk::{Disk, FolderDisk};
+use scan_source::FileScans;
+use std::alloc::{AllocError, Global};
+use std::process::ExitCode;
+use std::rt::Runtime;
+use std::{env, io};
+
+/// How many scans a call is handed.
+const SCANS: usize = 16;
+
+/// The reel folder, in the current folder.
+const FOLDER: &[u8] = b"conform.out";
+
+/// The status of want of memory before there is a command.
+const NO_MEMORY: u8 = 10;
+
+fn main(rt: HostRuntime) -> ExitCode {
+    let alloc = rt.alloc();
+    let Ok(owned) = arguments(&rt) else {
+        return ExitCode::from(NO_MEMORY);
+    };
+    let Ok(words) = words_of(alloc, &owned) else {
+        return ExitCode::from(NO_MEMORY);
+    };
+    let Ok(scans) = scans_over(&rt) else {
+        return ExitCode::from(NO_MEMORY);
+    };
+    let Ok(disk) = reel_folder(&rt) else {
+        return ExitCode::from(NO_MEMORY);
+    };
+    let mut out = StreamSink::new(io::writer(&rt));
+    let Ended {
+        outcome,
+        scans: _,
+        disk: _,
+    } = conform(&rt, alloc, &words, scans, disk, &mut out);
+    ExitCode::from(outcome.status())
+}
+
+/// The words, as they are lent to a call.
+fn words_of(alloc: Global, owned: &[String]) -> Result<Vec<&str>, AllocError> {
+    let mut words = Vec::new(alloc);
+    for word in owned {
+        words.push(word.as_str())?;
+    }
+    Ok(words)
+}
+
+/// Scans over the files of the system, below the current folder.
+fn scans_over<R: Runtime + AllocGlobal>(rt: &R) -> Result<Vec<FileScans<R>>, AllocError>
+    ensures { IfOk result (λ scans. vec_len scans ≡ 16) }
+{
+    let mut scans = Vec::new(rt.alloc());
+    for _ in 0..SCANS {
+        scans.push(FileScans::new(rt.clone()?))?;
+    }
+    Ok(scans)
+}
+
+/// The reel folder of the current folder, before its first call.
+fn reel_folder<R: Runtime>(rt: &R) -> Result<FolderDisk<R>, AllocError>
+    ensures { IfOk result (λ disk. ⟦<FolderDisk<R> as Disk>⟧.faults disk ≡ 0) }
+{
+    let Some(folder) = PathText::of(FOLDER) else {
+        unreachable!()
+    };
+    Ok(FolderDisk::new(rt.clone()?, folder))
+}
+
+/// The words after the program's name. Words that aren't UTF-8 are those of no command: then there are none.
+fn arguments<R: Runtime + AllocGlobal>(rt: &R) -> Result<Vec<String>, AllocError> {
+    let mut words = Vec::new(rt.alloc());
+    match env::args(rt) {
+        Ok(arguments) => {
+            for word in arguments.skip(1) {
+                words.push(word)?;
+            }
+            Ok(words)
+        }
+        Err(error) if error.kind() == io::ErrorKind::OutOfMemory => Err(AllocError),
+        Err(_) => Ok(words),
+    }
+}

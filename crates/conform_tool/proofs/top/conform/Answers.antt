@@ -1,0 +1,90 @@
+-- A run with several workers is a crew's, and all else is not.
+use Rattle.std.proofs.Common.{◌≡◌, ◌∙◌, ◌≤◌, arith, length, refl, rules, subst, sym, vec_len}
+use Rattle.project_run.specs.Run.{disk_state}
+use Rattle.conform_tool.specs.Complete.{IsAccepted}
+use Rattle.conform_tool.proofs.Alone.{alone_complete, alone_promise, alone_unfailed, first_answered}
+use Rattle.conform_tool.proofs.Completes.{crew_answered_complete, crew_unfailed}
+use Rattle.conform_tool.proofs.Conforming.{alone_found, crew_as, crew_unread, found_command, found_run, run_found}
+use Rattle.conform_tool.proofs.Headlines.{crew_answered_promise}
+use Rattle.conform_tool.proofs.top.conform.Goals as goal
+
+pub returns-in-Some-clause-crew : goal.returns-in-Some-clause-crew
+returns-in-Some-clause-crew g c path workers share spells many =
+    crew_as g.S.Scans.world g.S.Scans.faults g.S.Scans.loads g.S.Scans.same _ _ _ _ _ _ _ _ _ _ _
+    (run_found _ _ c.in-Some.crew.project path c.in-Some.crew.workers c.in-Some.crew.share workers share c.in-Ok.ensures.command c.in-Some.ensures.0 spells) c.by_crew.ensures.crew
+
+pub returns-in-Some-clause-answered : goal.returns-in-Some-clause-answered
+returns-in-Some-clause-answered g c alone =
+    let few = alone _ _ _ (found_run _ _ _ _ _ c.in-Ok.ensures.command c.in-Some.ensures.0) in
+    let many = c.in-Some.ensures.1 in
+    absurd (omega (arith, few, many))
+
+pub returns-in-Some-clause-others : goal.returns-in-Some-clause-others
+returns-in-Some-clause-others g c alone =
+    let few = alone _ _ _ (found_run _ _ _ _ _ c.in-Ok.ensures.command c.in-Some.ensures.0) in
+    let many = c.in-Some.ensures.1 in
+    absurd (omega (arith, few, many))
+
+pub returns-in-Some-clause-same : goal.returns-in-Some-clause-same
+returns-in-Some-clause-same g c alone =
+    let few = alone _ _ _ (found_run _ _ _ _ _ c.in-Ok.ensures.command c.in-Some.ensures.0) in
+    let many = c.in-Some.ensures.1 in
+    absurd (omega (arith, few, many))
+
+pub returns-in-None-clause-crew : goal.returns-in-None-clause-crew
+returns-in-None-clause-crew g c path workers share spells many =
+    let few = alone_found _ _ c.in-Ok.ensures.command c.in-None.ensures path workers share spells in
+    absurd (omega (arith, few, many))
+
+-- a crew's run
+pub returns-in-Some-clause-headline : goal.returns-in-Some-clause-headline
+returns-in-Some-clause-headline g c world job runs =
+    crew_answered_promise c.job_laws.ensures.job g.S.Scans.world g.S.Scans.faults g.S.Scans.loads g.S.Scans.same runs.path runs.workers _ _ _ _ _ _ _
+    (crew_as g.S.Scans.world g.S.Scans.faults g.S.Scans.loads g.S.Scans.same _ _ _ _ _ _ _ _ _ _ _
+    (run_found _ _ c.in-Some.crew.project runs.path c.in-Some.crew.workers c.in-Some.crew.share runs.workers runs.share c.in-Ok.ensures.command c.in-Some.ensures.0 runs.spells) c.by_crew.ensures.crew)
+    world job runs.scans_tell runs.disk_tells runs.comes
+
+pub returns-in-Some-clause-complete : goal.returns-in-Some-clause-complete
+returns-in-Some-clause-complete g c command world spells is accepted =
+    let disk = disk_state g.D.Disk.tells g.D.Disk.history g.D.Disk.faults c.args.disk in
+    let command_is = found_command _ _ command _ _ _ c.in-Ok.ensures.command c.in-Some.ensures.0 spells in
+    crew_answered_complete c.job_laws.ensures.job g.S.Scans.world g.S.Scans.faults g.S.Scans.loads g.S.Scans.same c.in-Some.crew.project c.in-Some.crew.workers _ _ disk _ world is
+    (subst (λ k. IsAccepted k world disk) command_is accepted) _ _ _ c.by_crew.ensures.crew
+
+pub returns-in-Some-clause-unfailed : goal.returns-in-Some-clause-unfailed
+returns-in-Some-clause-unfailed g c command spells =
+    crew_unfailed g.S.Scans.world g.S.Scans.faults g.S.Scans.loads g.S.Scans.same c.in-Some.crew.project c.in-Some.crew.workers c.in-Some.crew.share _ _ _ _ _ _ _ c.by_crew.ensures.crew
+    command (found_command _ _ command _ _ _ c.in-Ok.ensures.command c.in-Some.ensures.0 spells)
+
+-- all else, with the first scan
+pub returns-in-None-clause-headline : goal.returns-in-None-clause-headline
+returns-in-None-clause-headline g c =
+    let all : vec_len c.args.scans ≡ length c.args.scans.items = search rules in
+    let all_after : vec_len c.by_one.result.scans ≡ length c.by_one.result.scans.items = search rules in
+    alone_promise g.S.Scans.world g.S.Scans.faults g.S.Scans.loads g.S.Scans.heads g.S.Scans.same _ _ _ _ _ _ _ _
+    (first_answered g.S.Scans.world g.S.Scans.faults g.S.Scans.loads g.S.Scans.heads g.S.Scans.same _ _ _ _ _ _ _ _
+    (subst (λ n. 1 ≤ n) all c.requires.some) (sym all_after ∙ c.by_one.ensures.handed_back ∙ all) (c.by_one.ensures.answered _ c.in-Ok.ensures.command)) c.job_laws.ensures.job
+
+pub returns-in-None-clause-complete : goal.returns-in-None-clause-complete
+returns-in-None-clause-complete g c =
+    let all : vec_len c.args.scans ≡ length c.args.scans.items = search rules in
+    let all_after : vec_len c.by_one.result.scans ≡ length c.by_one.result.scans.items = search rules in
+    alone_complete g.S.Scans.world g.S.Scans.faults g.S.Scans.loads g.S.Scans.heads g.S.Scans.same _ _ _ _ _ _ _ _
+    (first_answered g.S.Scans.world g.S.Scans.faults g.S.Scans.loads g.S.Scans.heads g.S.Scans.same _ _ _ _ _ _ _ _
+    (subst (λ n. 1 ≤ n) all c.requires.some) (sym all_after ∙ c.by_one.ensures.handed_back ∙ all) (c.by_one.ensures.answered _ c.in-Ok.ensures.command)) c.job_laws.ensures.job
+
+pub returns-in-None-clause-unfailed : goal.returns-in-None-clause-unfailed
+returns-in-None-clause-unfailed g c =
+    let all : vec_len c.args.scans ≡ length c.args.scans.items = search rules in
+    let all_after : vec_len c.by_one.result.scans ≡ length c.by_one.result.scans.items = search rules in
+    alone_unfailed g.S.Scans.world g.S.Scans.faults g.S.Scans.loads g.S.Scans.heads g.S.Scans.same _ _ _ _ _ _ _ _
+    (first_answered g.S.Scans.world g.S.Scans.faults g.S.Scans.loads g.S.Scans.heads g.S.Scans.same _ _ _ _ _ _ _ _
+    (subst (λ n. 1 ≤ n) all c.requires.some) (sym all_after ∙ c.by_one.ensures.handed_back ∙ all) (c.by_one.ensures.answered _ c.in-Ok.ensures.command))
+
+-- no memory was left to read the words
+pub returns-in_default-clause-headline : goal.returns-in_default-clause-headline
+returns-in_default-clause-headline g c world job runs =
+    let disk = disk_state g.D.Disk.tells g.D.Disk.history g.D.Disk.faults c.args.disk in
+    crew_answered_promise c.job_laws.ensures.job g.S.Scans.world g.S.Scans.faults g.S.Scans.loads g.S.Scans.same runs.path runs.workers c.args.scans.items c.args.scans.items disk disk _ _ _
+    (crew_unread g.S.Scans.world g.S.Scans.faults g.S.Scans.loads g.S.Scans.same runs.path runs.workers c.args.scans.items c.args.scans.items disk disk _ _ _ refl refl c.put_line-outcome.ensures.put)
+    world job runs.scans_tell runs.disk_tells runs.comes

@@ -1,0 +1,19 @@
+//! The top call: what the words of a command line come to, over scans, a disk and an output that are handed in.
+//!
+//! `conform` does all that the program does, and `answer` does it on one thread. `frame PATH` reads one DPX file and puts the
+//! same pixels under the station's own header; `list FILE RATE` reads an edit list and puts its event table; `plan PROJECT`
+//! reads a project and puts what each record frame shows; `run PROJECT` renders its reel; `status PROJECT` puts how much of it
+//! is rendered; `demo N` renders a job of N events that is made in memory. The words become a `Command`, the command a reply,
+//! and the reply is put on the output in one piece.
+#![tactic(auto)]
+
+mod frame;
+mod list;
+mod one_thread;
+mod plan;
+mod run;
+mod status;
+mod top;
+
+pub use one_thread::answer;
+pub use top::{Ended, conform};

@@ -1,0 +1,203 @@
+//! The top call: a run with more than one worker by a crew, and all else on one thread.
+ghost use Rattle.std.specs.Prelude.{◌≡◌, ◌≤◌, ℕ, List, true, map, drop, vec_len, slice_get, Some, IfSome, AllPairs, MatchOption};
+ghost use Rattle.command_words.specs.Commands.{HasCounts, Spells};
+ghost use Rattle.command_words.specs.Lines.{HasCount};
+ghost use Rattle.command_words.specs.declared.command.Command.TheVariants as commands;
+ghost use Rattle.conform_tool.specs.Answer.{Answered, IsFoundIn, sink_state};
+ghost use Rattle.conform_tool.specs.Conform.{CrewAnswered, IsAlone};
+ghost use Rattle.conform_tool.specs.Complete.{IsAccepted, HasNotRisen, IsComplete, IsUnfailed};
+ghost use Rattle.conform_tool.specs.Headline.{RunsJob, KeepsItsPromise, HasEnded};
+ghost use Rattle.conform_tool.specs.Reply.{scan_state};
+ghost use Rattle.conform_job.specs.Job.{JobData};
+ghost use Rattle.project_run.specs.Crew.{HasFailed, told_by};
+ghost use Rattle.project_run.specs.Run.{disk_state};
+ghost use Rattle.scan_source.specs.World.{World};
+
+use crate::one_thread::{answer_found, put_line, put_result};
+use cf_base::{PathText, Sink};
+use command_words::{Command, command_of};
+use outcome_line::Outcome;
+use project_job::job_laws;
+use project_run::{CrewEnded, run_crewed};
+use reel_disk::Disk;
+use scan_source::Scans;
+use std::alloc::Global;
+use std::sync::Wait;
+use std::thread::Threads;
+
+/// What a call comes to, with what it was handed.
+pub struct Ended<S, D> {
+    pub outcome: Outcome,
+    /// The scans, the k-th as the k-th.
+    pub scans: Vec<S>,
+    pub disk: D,
+}
+
+/// Does the command that the words spell. It takes 1 to 16 scans that all tell one world or tell none, and a disk before its
+/// first call; a run with more than one worker is a crew's, with all scans, and all else goes to the first scan alone. It
+/// hands all scans back in their order, and the disk. A run keeps the headline's promise, by any number of workers, wherever it
+/// is stopped and whatever it answers.
+pub fn conform<S: Scans + Send, D: Disk + Send, K: Sink, R: Threads + Wait + Sync>(
+    rt: &R,
+    alloc: Global,
+    words: &[&str],
+    scans: Vec<S>,
+    disk: D,
+    out: &mut K,
+) -> Ended<S, D>
+    requires some { 1 ≤ vec_len scans }
+    requires few { vec_len scans ≤ 16 }
+    requires one_world { AllPairs (λ a b. S.world a ≡ S.world b) scans.items }
+    requires no_fault { D.faults disk ≡ 0 }
+    requires first_moment { D.tells ≡ true → (D.history disk).now ≡ 0 }
+
+    // A run with several workers.
+    ensures crew { (path : List ℕ) (workers share : ℕ) → Spells (map (λ w. w.now) words.now) (commands.Run path workers share) → 2 ≤ workers
+        → CrewAnswered S.world S.faults S.loads S.same path workers scans.items result.scans.items
+        (disk_state D.tells D.history D.faults disk) (disk_state D.tells D.history D.faults result.disk)
+        (sink_state K.written K.faults out.old) (sink_state K.written K.faults out.new) result.outcome }
+
+    // All else, with the first scan.
+    ensures answered { IsAlone (map (λ w. w.now) words.now) → (first last : S) → slice_get scans.items 0 ≡ Some first → slice_get result.scans.items 0 ≡ Some last
+        → Answered (map (λ w. w.now) words.now)
+        (scan_state S.world S.faults S.loads S.heads first) (scan_state S.world S.faults S.loads S.heads last)
+        (disk_state D.tells D.history D.faults disk) (disk_state D.tells D.history D.faults result.disk)
+        (sink_state K.written K.faults out.old) (sink_state K.written K.faults out.new) result.outcome }
+    ensures others { IsAlone (map (λ w. w.now) words.now) → drop 1 result.scans.items ≡ drop 1 scans.items }
+    ensures same { IsAlone (map (λ w. w.now) words.now) → (first last : S) → slice_get scans.items 0 ≡ Some first → slice_get result.scans.items 0 ≡ Some last → S.same first last }
+
+    ensures handed_back { vec_len result.scans ≡ vec_len scans }
+    ensures later { K.faults out.old ≤ K.faults out.new }
+
+    // The headline, for any number of workers.
+    ensures headline { (world : World) (job : JobData) → RunsJob (map (λ w. w.now) words.now) (told_by S.world scans.items) D.tells world job
+        → KeepsItsPromise job world (D.history disk) (D.history result.disk) (HasEnded result.outcome) }
+
+    // Where nothing stands in the way of the command and no call failed, it is done, or memory ran out.
+    ensures complete { (command : Command) (world : World) → Spells (map (λ w. w.now) words.now) command → told_by S.world scans.items ≡ Some world
+        → IsAccepted command world (disk_state D.tells D.history D.faults disk)
+        → (HasFailed S.world S.faults S.loads S.same scans.items result.scans.items → ⊥) → HasNotRisen (D.faults disk) (D.faults result.disk) → HasNotRisen (K.faults out.old) (K.faults out.new)
+        → IsComplete result.outcome }
+    ensures unfailed { (command : Command) → Spells (map (λ w. w.now) words.now) command
+        → (HasFailed S.world S.faults S.loads S.same scans.items result.scans.items → ⊥) → HasNotRisen (D.faults disk) (D.faults result.disk) → HasNotRisen (K.faults out.old) (K.faults out.new)
+        → IsUnfailed command result.outcome }
+{
+    job_laws();
+    let Ok(found) = command_of(alloc, words) else {
+        let outcome = put_line(alloc, &Outcome::NoMemory, out);
+        return Ended {
+            outcome,
+            scans,
+            disk,
+        };
+    };
+    match crew_of(&found) {
+        Some(crew) => by_crew(rt, alloc, &crew, scans, disk, out),
+        None => by_one(alloc, found, scans, disk, out),
+    }
+}
+
+/// A run with several workers: its project, their number, and how many source frames they share.
+#[derive(Drop)]
+struct CrewRun {
+    project: PathText,
+    workers: u16,
+    share: u16,
+}
+
+/// The run with several workers that a command is, None exactly where it is none.
+fn crew_of(found: &Option<Command>) -> Option<CrewRun>
+    ensures { MatchOption result
+        ((path : List ℕ) (workers share : ℕ) → found.now ≡ Some (commands.Run path workers share) → workers ≤ 1)
+        (λ crew. (found.now ≡ Some (commands.Run crew.project crew.workers crew.share)) × (2 ≤ crew.workers)) }
+{
+    match *found {
+        Some(
+            Command::Run {
+                project,
+                workers,
+                share,
+            },
+        ) => {
+            if workers < 2 {
+                return None;
+            }
+            Some(CrewRun {
+                project,
+                workers,
+                share,
+            })
+        }
+        _ => None,
+    }
+}
+
+/// A run by a crew, whose report or line is put.
+fn by_crew<S: Scans + Send, D: Disk + Send, K: Sink, R: Threads + Wait + Sync>(
+    rt: &R,
+    alloc: Global,
+    crew: &CrewRun,
+    scans: Vec<S>,
+    disk: D,
+    out: &mut K,
+) -> Ended<S, D>
+    requires workers { HasCount crew.now.workers }
+    requires share { HasCount crew.now.share }
+    requires scans { (1 ≤ vec_len scans) × (vec_len scans ≤ 16) }
+    requires one_world { AllPairs (λ a b. S.world a ≡ S.world b) scans.items }
+    requires no_fault { D.faults disk ≡ 0 }
+    requires first_moment { D.tells ≡ true → (D.history disk).now ≡ 0 }
+    ensures crew { CrewAnswered S.world S.faults S.loads S.same crew.now.project crew.now.workers scans.items result.scans.items
+        (disk_state D.tells D.history D.faults disk) (disk_state D.tells D.history D.faults result.disk)
+        (sink_state K.written K.faults out.old) (sink_state K.written K.faults out.new) result.outcome }
+    ensures handed_back { vec_len result.scans ≡ vec_len scans }
+    ensures later { K.faults out.old ≤ K.faults out.new }
+{
+    let CrewEnded {
+        result,
+        scans,
+        disk,
+    } = run_crewed(
+        rt,
+        alloc,
+        &crew.project,
+        crew.workers,
+        crew.share,
+        scans,
+        disk,
+    );
+    let outcome = put_result(alloc, &result, out);
+    Ended {
+        outcome,
+        scans,
+        disk,
+    }
+}
+
+/// A command on one thread, with the first scan.
+fn by_one<S: Scans, D: Disk, K: Sink>(
+    alloc: Global,
+    found: Option<Command>,
+    mut scans: Vec<S>,
+    mut disk: D,
+    out: &mut K,
+) -> Ended<S, D>
+    requires some { 1 ≤ vec_len scans }
+    requires counts { IfSome found HasCounts }
+    ensures answered { (words : List (List ℕ)) → IsFoundIn words found → (first last : S) → slice_get scans.items 0 ≡ Some first → slice_get result.scans.items 0 ≡ Some last
+        → Answered words
+        (scan_state S.world S.faults S.loads S.heads first) (scan_state S.world S.faults S.loads S.heads last)
+        (disk_state D.tells D.history D.faults disk) (disk_state D.tells D.history D.faults result.disk)
+        (sink_state K.written K.faults out.old) (sink_state K.written K.faults out.new) result.outcome }
+    ensures others { drop 1 result.scans.items ≡ drop 1 scans.items }
+    ensures handed_back { vec_len result.scans ≡ vec_len scans }
+    ensures same { (first last : S) → slice_get scans.items 0 ≡ Some first → slice_get result.scans.items 0 ≡ Some last → S.same first last }
+    ensures later { K.faults out.old ≤ K.faults out.new }
+{
+    let outcome = answer_found(alloc, found, &mut scans[0], &mut disk, out);
+    Ended {
+        outcome,
+        scans,
+        disk,
+    }
+}

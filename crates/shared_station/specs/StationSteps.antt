@@ -1,0 +1,74 @@
+-- What each call on a station makes of it, and when it may be made.
+use Rattle.std.specs.Prelude.{◌≡◌, ◌↔◌, ℕ, ◌+◌, Bool, true, false, [], length, count_by, slice_index_or, Option, IfSome}
+use Rattle.scan_source.specs.World.{World}
+use Rattle.conform_job.specs.Job.{JobData}
+use Rattle.reel_disk.specs.Disk.{Moment, History, view_of}
+use Rattle.reel_disk.specs.Runs.{Spares}
+use Rattle.render_board.specs.Board.{Log, with_step, after_claim}
+use Rattle.render_board.specs.declared.board.Claim.{Claim}
+use Rattle.render_board.specs.declared.step.Step.TheVariants.{Finish, Stop}
+use Rattle.render_board.specs.declared.step.Why.{Why}
+use Rattle.render_board.specs.declared.step.Why.TheVariants.{Source, Disk, Memory, Changed}
+use Rattle.reel_writer.specs.Reel.{frames_of, HasAcked, IsReelRun}
+use Rattle.reel_writer.specs.View.{ReelView, after_finish, after_fault}
+use Rattle.single_run.specs.Ends.{IsChanged}
+use Rattle.single_run.specs.declared.run_end.RunEnd.{RunEnd}
+use Rattle.single_run.specs.declared.run_end.RunEnd.TheVariants.{Done, OtherJob, BadLedger, Changed as IsNow, SourceFault, DiskFault, NoMemory}
+use Rattle.shared_station.specs.Station.{StationView, Totals, IsCrewFile, start_of, at_start}
+
+-- one more stop of this why
+abbrev pub counted_by : Why → Totals → Totals
+counted_by Source totals = record totals { source = totals.source + 1 }
+counted_by Disk totals = record totals { disk = totals.disk + 1 }
+counted_by Memory totals = record totals { memory = totals.memory + 1 }
+counted_by (Changed key was now) totals = record totals { changed = totals.changed + 1 }
+
+-- a stop that a worker makes by itself: not for the disk, and for a changed file only with what has changed
+abbrev pub MayStop : JobData → Option World → Why → Type 0
+MayStop job told Source = Unit {0}
+MayStop job told Disk = ⊥
+MayStop job told Memory = Unit {0}
+MayStop job told (Changed key was now) = IsChanged job told key was now
+
+-- why a worker stops that ends so
+abbrev pub why_by : RunEnd → Why
+why_by Done = Memory
+why_by (OtherJob kept wanted) = Memory
+why_by (BadLedger len) = Memory
+why_by (IsNow key was now) = Changed key was now
+why_by SourceFault = Source
+why_by DiskFault = Disk
+why_by NoMemory = Memory
+
+module _ {D : Type 0} where
+  -- a reel and a board at the start of a run
+  pub record IsBeginning (job : JobData) (told : Option World) (start : Option Moment) (tells : Bool) (history : D → History) (faults : D → ℕ) (reel : ReelView D) (log : Log) : Type 0 where
+    pub began : start ≡ start_of tells (history reel.disk)
+    pub run : tells ≡ true → IsReelRun job told (at_start (history reel.disk)) (history reel.disk)
+    pub spares : tells ≡ true → Spares (at_start (history reel.disk)) (history reel.disk) (IsCrewFile job log.start)
+    pub none : reel.acks ≡ []
+    pub is_open : reel.ledger.closed ≡ false
+    pub sound_disk : faults reel.disk ≡ 0
+    pub first : log.steps ≡ []
+    pub size : length log.start ≡ frames_of job
+    pub kept : reel.kept ≡ count_by (λ was. was) log.start
+    pub as_many : length reel.ledger.gates ≡ length log.start
+    pub gates : (i : ℕ) → slice_index_or reel.ledger.gates i false ≡ slice_index_or log.start i false
+    pub from : IfSome start (λ moment. (i : ℕ) → (slice_index_or log.start i false ≡ true) ↔ HasAcked job i moment.view)
+    pub shown : tells ≡ true → (i : ℕ) → HasAcked job i (view_of (history reel.disk)) ↔ (slice_index_or log.start i false ≡ true)
+
+  -- a claim changes the board alone
+  abbrev pub after_claimed : StationView D → (worker : ℕ) → Claim → StationView D
+  after_claimed v worker answer = record { reel = v.reel; log = after_claim v.log worker answer; totals = v.totals }
+
+  -- the frame is acknowledged and done
+  abbrev pub after_finished : StationView D → (worker frame : ℕ) → D → StationView D
+  after_finished v worker frame disk = record { reel = after_finish v.reel frame disk; log = with_step v.log (Finish worker frame); totals = v.totals }
+
+  -- the disk failed: the reel is closed, and the worker has stopped
+  abbrev pub after_failed : StationView D → (worker : ℕ) → D → StationView D
+  after_failed v worker disk = record { reel = after_fault v.reel disk; log = with_step v.log (Stop worker Disk); totals = counted_by Disk v.totals }
+
+  -- the worker has stopped
+  abbrev pub after_stopped : StationView D → (worker : ℕ) → Why → StationView D
+  after_stopped v worker why = record { reel = v.reel; log = with_step v.log (Stop worker why); totals = counted_by why v.totals }

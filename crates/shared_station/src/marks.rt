@@ -1,0 +1,69 @@
+//! What a worker holds of the totals of stops.
+ghost use Rattle.std.specs.Prelude.{◌≡◌};
+ghost use Rattle.shared_station.specs.Marks.{HasMoreThan, HasParts, fresh, joined};
+
+use std::marker::Model;
+use std::sync::ledger::{Ledger, Share};
+
+/// Shares of four totals, one for each why of a stop. Contracts see the parts and the amount of each; at least one part
+/// of each is there.
+#[derive(Drop)]
+pub struct Marks<A: Ledger, B: Ledger, C: Ledger, E: Ledger> {
+    pub(crate) source: Share<A>,
+    pub(crate) disk: Share<B>,
+    pub(crate) memory: Share<C>,
+    pub(crate) changed: Share<E>,
+}
+
+impl<A: Ledger, B: Ledger, C: Ledger, E: Ledger> Model for Marks<A, B, C, E> {
+    ghost use Rattle.std.specs.Prelude.{◌≤◌};
+    ghost use Rattle.shared_station.specs.Marks.{Tallies, HasParts};
+
+    ghost Value = { Tallies };
+
+    ghost view = { λ m. record {
+      source = record { parts = m.source.parts; amount = m.source.amount };
+      disk = record { parts = m.disk.parts; amount = m.disk.amount };
+      memory = record { parts = m.memory.parts; amount = m.memory.amount };
+      changed = record { parts = m.changed.parts; amount = m.changed.amount };
+    } };
+
+    ghost invariant = { λ m. HasParts (record {
+      source = record { parts = m.source.parts; amount = m.source.amount };
+      disk = record { parts = m.disk.parts; amount = m.disk.amount };
+      memory = record { parts = m.memory.parts; amount = m.memory.amount };
+      changed = record { parts = m.changed.parts; amount = m.changed.amount };
+    }) };
+}
+
+impl<A: Ledger, B: Ledger, C: Ledger, E: Ledger> Marks<A, B, C, E> {
+    /// Hands out one part of each, with nothing counted. Takes no memory.
+    pub fn split(&mut self) -> Marks<A, B, C, E>
+        requires more { HasMoreThan 1 self.old }
+        ensures new { result ≡ fresh }
+        ensures all { joined self.new result ≡ self.old }
+    {
+        Marks {
+            source: self.source.split_off(1, 0),
+            disk: self.disk.split_off(1, 0),
+            memory: self.memory.split_off(1, 0),
+            changed: self.changed.split_off(1, 0),
+        }
+    }
+
+    /// Takes in the parts of other marks, and what was counted with them. Takes no memory.
+    pub fn join(&mut self, other: Marks<A, B, C, E>)
+        ensures all { self.new ≡ joined self.old other }
+    {
+        let Marks {
+            source,
+            disk,
+            memory,
+            changed,
+        } = other;
+        self.source.merge(source);
+        self.disk.merge(disk);
+        self.memory.merge(memory);
+        self.changed.merge(changed);
+    }
+}

@@ -1,0 +1,240 @@
+//! The value behind the station's lock: the reel and the board, and how many stops of each why there were.
+ghost use Rattle.std.specs.Prelude.{◌≡◌, ◌≢◌, ◌<◌, ◌≤◌, true, false, Some, length, OnOk, OnErr, IsErr};
+ghost use Rattle.cf_base.specs.Count.{HasCause};
+ghost use Rattle.conform_job.specs.Job.{file_of};
+ghost use Rattle.reel_disk.specs.Disk.{moment_of, view_of};
+ghost use Rattle.reel_disk.specs.Runs.{Surely, Spares};
+ghost use Rattle.resume_ledger.specs.Sound.{AddsAtMost};
+ghost use Rattle.render_board.specs.Board.{turn_of, claim_of, least_free};
+ghost use Rattle.render_board.specs.declared.board.Turn.TheVariants as turns;
+ghost use Rattle.render_board.specs.declared.step.Why.TheVariants as whys;
+ghost use Rattle.reel_writer.specs.Reel.{frames_of, HasAcked, IsReelRun, IsWrittenFile};
+ghost use Rattle.reel_writer.specs.View.{IsReelOf};
+ghost use Rattle.shared_station.specs.Marks.{IsBlankOf, IsSettled, raised_by};
+ghost use Rattle.shared_station.specs.Station.{StationView, IsStation};
+ghost use Rattle.shared_station.specs.StationSteps.{IsBeginning, MayStop, after_claimed, after_failed, after_finished, after_stopped};
+
+use crate::marks::Marks;
+use conform_job::Work;
+use frame_render::Rendered;
+use reel_disk::{Disk, DiskFault, Start};
+use reel_writer::Reel;
+use render_board::{Board, Claim, Turn, Why};
+use std::marker::{Model, PhantomData};
+use std::sync::ledger::{Blank, Book, Ledger};
+
+/// How many stops of each why there were.
+#[derive(Drop)]
+struct Totals<A: Ledger, B: Ledger, C: Ledger, E: Ledger> {
+    source: Book<A>,
+    disk: Book<B>,
+    memory: Book<C>,
+    changed: Book<E>,
+}
+
+/// The reel and the board of a run, as several workers share them. Each of its calls takes no memory, and is one step of
+/// the board or none.
+///
+/// Contracts see the reel, the board's log, and the totals of stops.
+pub struct Station<D: Disk, N: Work + Start, A: Ledger, B: Ledger, C: Ledger, E: Ledger> {
+    reel: Reel<D, N>,
+    board: Board,
+    totals: Totals<A, B, C, E>,
+    of: PhantomData<N>,
+}
+
+impl<D: Disk, N: Work + Start, A: Ledger, B: Ledger, C: Ledger, E: Ledger> Model
+    for Station<D, N, A, B, C, E> {
+    ghost use Rattle.std.specs.Coded.{codes};
+    ghost use Rattle.reel_writer.specs.View.{reel_code};
+    ghost use Rattle.shared_station.specs.Station.{StationView, IsStation};
+
+    ghost Value = { StationView D };
+
+    ghost coded = { Prim.hlevel (codes, reel_code D.code) };
+
+    ghost view = { λ s. record { reel = s.reel; log = s.board; totals = record { source = s.totals.source.total; disk = s.totals.disk.total; memory = s.totals.memory.total; changed = s.totals.changed.total } } };
+
+    ghost invariant = { λ s.
+        IsStation N.job N.files N.start D.tells D.history D.faults
+        (record { reel = s.reel; log = s.board; totals = record { source = s.totals.source.total; disk = s.totals.disk.total; memory = s.totals.memory.total; changed = s.totals.changed.total } }) };
+}
+
+impl<D: Disk, N: Work + Start, A: Ledger, B: Ledger, C: Ledger, E: Ledger> Station<
+    D,
+    N,
+    A,
+    B,
+    C,
+    E,
+> {
+    /// The station of a reel that was just opened, and of a board whose done frames are those that it acknowledges. The
+    /// marks have every part of each total.
+    pub fn new(
+        reel: Reel<D, N>,
+        board: Board,
+        source: Blank,
+        disk: Blank,
+        memory: Blank,
+        changed: Blank,
+    ) -> (Station<D, N, A, B, C, E>, Marks<A, B, C, E>)
+        requires source { IsBlankOf A.name A.parts source.name source.parts }
+        requires disk { IsBlankOf B.name B.parts disk.name disk.parts }
+        requires memory { IsBlankOf C.name C.parts memory.name memory.parts }
+        requires changed { IsBlankOf E.name E.parts changed.name changed.parts }
+        requires beginning { IsBeginning N.job N.files N.start D.tells D.history D.faults reel board }
+        ensures reel { result.0.reel ≡ reel }
+        ensures log { result.0.log ≡ board }
+        ensures source { (result.1.source.parts ≡ A.parts) × (result.1.source.amount ≡ 0) }
+        ensures disk { (result.1.disk.parts ≡ B.parts) × (result.1.disk.amount ≡ 0) }
+        ensures memory { (result.1.memory.parts ≡ C.parts) × (result.1.memory.amount ≡ 0) }
+        ensures changed { (result.1.changed.parts ≡ E.parts) × (result.1.changed.amount ≡ 0) }
+    {
+        let _ = board.workers();
+        let (source_book, source_share) = source.open::<A>();
+        let (disk_book, disk_share) = disk.open::<B>();
+        let (memory_book, memory_share) = memory.open::<C>();
+        let (changed_book, changed_share) = changed.open::<E>();
+        let station = Station {
+            reel,
+            board,
+            totals: Totals {
+                source: source_book,
+                disk: disk_book,
+                memory: memory_book,
+                changed: changed_book,
+            },
+            of: PhantomData,
+        };
+        let marks = Marks {
+            source: source_share,
+            disk: disk_share,
+            memory: memory_share,
+            changed: changed_share,
+        };
+        (station, marks)
+    }
+
+    /// Takes the least free frame for an idle worker, as the board does.
+    pub fn claim(&mut self, worker: u16) -> Claim
+        requires worker { worker < self.old.log.workers }
+        requires idle { turn_of self.old.log worker ≡ turns.Idle }
+        ensures answer { result ≡ claim_of self.old.log }
+        ensures step { self.new ≡ after_claimed self.old worker result }
+    {
+        self.board.claim(worker)
+    }
+
+    /// Writes and acknowledges the frame that the worker holds, as the reel does, and then it is done. `DiskFault` comes
+    /// only where the disk's count of faults rose: the reel is closed then, and the worker has stopped.
+    pub fn finish(
+        &mut self,
+        worker: u16,
+        frame: &Rendered<N>,
+        marks: &mut Marks<A, B, C, E>,
+    ) -> Result<(), DiskFault>
+        requires is_open { self.old.reel.ledger.closed ≡ false }
+        requires worker { worker < self.old.log.workers }
+        requires holds { turn_of self.old.log worker ≡ turns.Holds frame.now.index }
+        ensures finished { OnOk result (self.new ≡ after_finished self.old worker frame.now.index self.new.reel.disk) }
+        ensures failed { OnErr result (self.new ≡ after_failed self.old worker self.new.reel.disk) }
+        ensures unmarked { OnOk result (marks.new ≡ marks.old) }
+        ensures marked { OnErr result (marks.new ≡ raised_by whys.Disk marks.old) }
+
+        // What the reel's finish says.
+        ensures run { D.tells ≡ true → IsReelRun N.job N.files (D.history self.old.reel.disk) (D.history self.new.reel.disk) }
+        ensures others { D.tells ≡ true → AddsAtMost frame.now.index N.job.parts.digest (frames_of N.job) (D.history self.old.reel.disk) (D.history self.new.reel.disk) }
+        ensures spares { D.tells ≡ true → Spares (D.history self.old.reel.disk) (D.history self.new.reel.disk) (IsWrittenFile (file_of N.job frame.now.index)) }
+        ensures acked { OnOk result (D.tells ≡ true → Surely (moment_of (D.history self.new.reel.disk)) (HasAcked N.job frame.now.index)) }
+        ensures shown { OnOk result (D.tells ≡ true → view_of (D.history self.new.reel.disk) (file_of N.job frame.now.index) ≡ Some frame.now.bytes) }
+        ensures same { D.same self.old.reel.disk self.new.reel.disk }
+        ensures cause { HasCause (D.faults self.old.reel.disk) (D.faults self.new.reel.disk) (IsErr result) }
+        ensures steady { OnOk result (D.faults self.new.reel.disk ≡ D.faults self.old.reel.disk) }
+    {
+        let index = frame.index();
+        match self.reel.finish(frame) {
+            Ok(()) => {
+                self.board.finished(worker, index);
+                Ok(())
+            }
+            Err(DiskFault) => {
+                self.board.stop(worker, Why::Disk);
+                self.totals.disk.add(&mut marks.disk, 1);
+                Err(DiskFault)
+            }
+        }
+    }
+
+    /// The worker does no more, for another reason than the disk. A frame that it holds stays claimed.
+    pub fn stop(&mut self, worker: u16, why: Why, marks: &mut Marks<A, B, C, E>)
+        requires worker { worker < self.old.log.workers }
+        requires running { turn_of self.old.log worker ≢ turns.Stopped }
+        requires why { MayStop N.job N.files why }
+        ensures step { self.new ≡ after_stopped self.old worker why }
+        ensures marks { marks.new ≡ raised_by why marks.old }
+    {
+        self.board.stop(worker, why);
+        match why {
+            Why::Source => self.totals.source.add(&mut marks.source, 1),
+            Why::Disk => self.totals.disk.add(&mut marks.disk, 1),
+            Why::Memory => self.totals.memory.add(&mut marks.memory, 1),
+            Why::Changed { .. } => self.totals.changed.add(&mut marks.changed, 1),
+        }
+    }
+
+    /// What the worker is at.
+    pub fn turn(&self, worker: u16) -> Turn
+        requires { worker < self.now.log.workers }
+        ensures { result ≡ turn_of self.now.log worker }
+    {
+        self.board.turn(worker)
+    }
+
+    /// How many workers there are, from 1 to 16, which no call changes; and what holds whenever the lock is free.
+    pub fn workers(&self) -> u16
+        ensures workers { result ≡ self.now.log.workers }
+        ensures some { 1 ≤ result }
+        ensures most { result ≤ 16 }
+        ensures kept { IsStation N.job N.files N.start D.tells D.history D.faults self.now }
+    {
+        self.board.workers()
+    }
+
+    /// Whether a fault of the disk has closed the reel.
+    pub fn is_closed(&self) -> bool
+        ensures { result ≡ self.now.reel.ledger.closed }
+    {
+        self.reel.is_closed()
+    }
+
+    /// Shows that the amounts of marks that have every part are the numbers of stops.
+    pub fn settle(&mut self, marks: &mut Marks<A, B, C, E>)
+        requires source { marks.old.source.parts ≡ A.parts }
+        requires disk { marks.old.disk.parts ≡ B.parts }
+        requires memory { marks.old.memory.parts ≡ C.parts }
+        requires changed { marks.old.changed.parts ≡ E.parts }
+        ensures same { self.new ≡ self.old }
+        ensures marks { marks.new ≡ marks.old }
+        ensures settled { IsSettled self.old.log.steps marks.old }
+    {
+        self.totals.source.audit(&mut marks.source);
+        self.totals.disk.audit(&mut marks.disk);
+        self.totals.memory.audit(&mut marks.memory);
+        self.totals.changed.audit(&mut marks.changed);
+    }
+
+    /// Gives up the station.
+    pub fn into_parts(self) -> (Reel<D, N>, Board)
+        ensures reel { result.0 ≡ self.reel }
+        ensures log { result.1 ≡ self.log }
+        ensures kept { IsStation N.job N.files N.start D.tells D.history D.faults self }
+    {
+        let Station {
+            reel,
+            board,
+            totals: _,
+            of: _,
+        } = self;
+        (reel, board)
+    }
+}

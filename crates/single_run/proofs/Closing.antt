@@ -1,0 +1,102 @@
+-- What the folder acknowledges where a run ends.
+use Rattle.std.proofs.Common.{◌≡◌, inl, inr, ℕ, zero, suc, ◌<◌, ◌≤◌, Bool, true, false, List, length, take, get_or, refl, sym, ◌∙◌, ap, subst, arith}
+use Rattle.std.specs.Prelude.{Contains, ◌⊎◌, ◌↔◌, Option, Some, None, IfSome}
+use Rattle.std.proofs.lemmas.Bool.{cases_lt}
+use Rattle.std.proofs.lemmas.List.{get_or_past}
+use Rattle.std.proofs.lemmas.List.Sums.{count_by-le-length}
+use Rattle.cf_base.specs.Count.{HasRisen}
+use Rattle.cf_base.specs.declared.file.FileId.{FileId}
+use Rattle.scan_source.specs.Plan.{one_more}
+use Rattle.scan_source.specs.World.{World}
+use Rattle.conform_job.specs.Job.{JobData}
+use Rattle.reel_disk.specs.Disk.{Files, History, moment_of, view_of}
+use Rattle.reel_disk.specs.Runs.{Surely}
+use Rattle.reel_disk.proofs.Images.{view_is_image}
+use Rattle.resume_ledger.specs.Ledger.{Acks, Agrees}
+use Rattle.resume_ledger.proofs.Acking.{agrees_acks, not_yet}
+use Rattle.reel_writer.specs.Reel.{frames_of, HasAcked, IsReelRun, IsSoundReel}
+use Rattle.reel_writer.specs.View.{ReelView, IsReelOf}
+use Rattle.single_run.specs.Asks.{IsRunFile, closed_frames}
+use Rattle.single_run.specs.Run.{AreAllAcked, HasWhole, IsOwnFile, IsWhole}
+use Rattle.conform_job.specs.Answers.{count_after}
+use Rattle.single_run.specs.Ran.{WereFinished}
+use Rattle.single_run.specs.declared.run_end.RunEnd.TheVariants.{Done}
+use Rattle.single_run.proofs.Running.{taken}
+use Rattle.single_run.proofs.Stepping.{closed_has}
+
+module _ {D : Type 0} (job : JobData) (tells : Bool) (history : D → History) (reel : ReelView D) (of : IsReelOf job tells history reel) where
+  -- no more are finished than there are frames
+  pub few_acks : length reel.acks ≤ frames_of job
+  few_acks = let sum = of.kept in let size = of.size in omega (arith, sum, size, count_by-le-length (λ (gate : Bool). gate) reel.ledger.gates)
+
+  of_job : (k : ℕ) (files : Files) → Acks reel.ledger.digest (length reel.ledger.gates) k files → HasAcked job k files
+  of_job k files acks = subst (λ (d : List ℕ). Acks d (frames_of job) k files) of.digest (subst (λ (n : ℕ). Acks reel.ledger.digest n k files) of.size acks)
+
+  of_ledger : (k : ℕ) (files : Files) → HasAcked job k files → Acks reel.ledger.digest (length reel.ledger.gates) k files
+  of_ledger k files acks = subst (λ (d : List ℕ). Acks d (length reel.ledger.gates) k files) (sym of.digest) (subst (λ (n : ℕ). Acks job.parts.digest n k files) (sym of.size) acks)
+
+  gate_within : (k : ℕ) → get_or reel.ledger.gates k false ≡ true → k < length reel.ledger.gates
+  gate_within k is = elim (cases_lt k (length reel.ledger.gates)) [
+    | inl lt ↦ lt
+    | inr past ↦ let none : get_or reel.ledger.gates k false ≡ false = get_or_past reel.ledger.gates k false past in cc
+  ]
+
+  module _ (agrees : Agrees (moment_of (history reel.disk)) reel.ledger) where
+    -- every image acknowledges the frames whose gates are open
+    pub images_acked : (k : ℕ) → get_or reel.ledger.gates k false ≡ true → Surely (moment_of (history reel.disk)) (HasAcked job k)
+    images_acked k is files image = of_job k files (agrees_acks (moment_of (history reel.disk)) reel.ledger agrees k (gate_within k is) is files image)
+
+    -- and the view no others
+    pub view_acked : (k : ℕ) → HasAcked job k (view_of (history reel.disk)) ↔ (get_or reel.ledger.gates k false ≡ true)
+    view_acked k = (λ acks. by acks (get_or reel.ledger.gates k false) refl, λ is. images_acked k is (view_of (history reel.disk)) (view_is_image (moment_of (history reel.disk))))
+      where
+        by : HasAcked job k (view_of (history reel.disk)) → (b : Bool) → get_or reel.ledger.gates k false ≡ b → get_or reel.ledger.gates k false ≡ true
+        by acks true is = is
+        by acks false is = let own = of_ledger k (view_of (history reel.disk)) acks in absurd (not_yet (moment_of (history reel.disk)) reel.ledger agrees k own.within is own)
+
+    pub exit_acked : (gates : List Bool) → ((k : ℕ) → (get_or reel.ledger.gates k false ≡ true) ↔ ((get_or gates k false ≡ true) ⊎ Contains reel.acks k)) → (listed : List ℕ) → reel.acks ≡ listed
+        → (k : ℕ) → HasAcked job k (view_of (history reel.disk)) ↔ ((get_or gates k false ≡ true) ⊎ Contains listed k)
+    exit_acked gates opened listed same k = subst (λ (l : List ℕ). HasAcked job k (view_of (history reel.disk)) ↔ ((get_or gates k false ≡ true) ⊎ Contains l k)) same
+        (λ acks. (opened k).0 ((view_acked k).0 acks), λ was. (view_acked k).1 ((opened k).1 was))
+
+-- at Done every frame is among those that were acknowledged and those that were finished
+pub all_done : (job : JobData) (gates : List Bool) (acks : List ℕ) (rendered loads : ℕ) → WereFinished job gates Done rendered loads → acks ≡ take rendered (closed_frames gates (frames_of job)) → (i : ℕ) → i < frames_of job → (get_or gates i false ≡ true) ⊎ Contains acks i
+all_done job gates acks rendered loads finished is i within = by (get_or gates i false) refl
+  where
+    whole : take rendered (closed_frames gates (frames_of job)) ≡ closed_frames gates (frames_of job)
+    whole = ap (λ n. take n (closed_frames gates (frames_of job))) (finished.all refl) ∙ taken gates (frames_of job) (frames_of job) (omega arith)
+
+    by : (b : Bool) → get_or gates i false ≡ b → (get_or gates i false ≡ true) ⊎ Contains acks i
+    by true is_open = inl is_open
+    by false shut = inr (subst (λ (l : List ℕ). Contains l i) (sym (is ∙ whole)) (closed_has gates (frames_of job) i within shut))
+
+-- where every image acknowledges every frame, a run that was begun sound has left the whole reel
+pub whole_reel : (job : JobData) (told : Option World) (old new : History) → IsReelRun job told old new → AreAllAcked job (moment_of new) → HasWhole job told old new
+whole_reel job told old new run acked = record { shown = by told run.sound }
+  where
+    by : (told : Option World) → IfSome told (λ world. Surely (moment_of old) (IsSoundReel job world) → (m : ℕ) → old.now ≤ m → m ≤ new.now → Surely (new.past m) (IsSoundReel job world)) → IfSome told (λ world. Surely (moment_of old) (IsSoundReel job world) → IsWhole job world (moment_of new))
+    by None sound = tt
+    by (Some world) sound = λ all i within.
+        let here = view_is_image (moment_of new) in
+        (sound all new.now run.extends.later (omega arith) (view_of new) here).sound i (acked.each i within (view_of new) here)
+
+-- what a run writes once the folder is open is its own
+pub own_file : (job : JobData) (gates : List Bool) (before : Files) → ((k : ℕ) → (get_or gates k false ≡ true) ↔ HasAcked job k before) → (q : FileId) → IsRunFile job gates q → IsOwnFile job before q
+own_file job gates before opening q (inl body) = inl (inr body)
+own_file job gates before opening q (inr frame) =
+    inr (frame.0, frame.1, λ acks. let opened : get_or gates frame.0 false ≡ true = (opening frame.0).1 acks in let shut : get_or gates frame.0 false ≡ false = frame.2 in cc, frame.3)
+
+-- a count of loads that went up has risen
+pub loads_rose : (more before : ℕ) → 1 ≤ more → HasRisen before (count_after more before)
+loads_rose more before least = rose more least
+  where
+    grown : (n : ℕ) → one_more before ≤ one_more (count_after n before)
+    grown zero = omega arith
+    grown (suc n) = let less = grown n in omega (arith, less)
+
+    rose : (n : ℕ) → 1 ≤ n → HasRisen before (count_after n before)
+    rose zero least = absurd (omega arith)
+    rose (suc n) least = grown n
+
+pub rose_by : (more before now : ℕ) → 1 ≤ more → now ≡ count_after more before → HasRisen before now
+rose_by more before now least is = subst (HasRisen before) (sym is) (loads_rose more before least)

@@ -1,0 +1,193 @@
+-- How a run goes on from frame to frame.
+use Rattle.std.proofs.Common.{◌≡◌, inl, inr, ℕ, zero, suc, ◌+◌, ◌<◌, Bool, true, false, not, ◌==◌, ◌||◌, if◌then◌else◌, List, [], ◌∷◌, ◌++◌, length, get_or, set, refl, sym, ◌∙◌, ap, subst, arith, length-set}
+use Rattle.std.specs.Prelude.{filter, nat_lt, Contains, ◌⊎◌}
+use Rattle.std.specs.List.{range_with_len}
+use Rattle.std.proofs.lemmas.Bool.{cases_lt, cases_eq}
+use Rattle.std.proofs.lemmas.Bool.Decides.{nat_tests}
+use Rattle.std.proofs.lemmas.Grind.{flat_map-append}
+use Rattle.std.proofs.lemmas.List.{get_or-set_same, get_or-set_other, append-nil, append_assoc}
+use Rattle.std.proofs.lemmas.List.Elements.{filter-append, Contains-append_left, Contains-push, Contains-push_cases}
+use Rattle.cf_base.specs.declared.file.FileId.{FileId}
+use Rattle.conform_job.specs.Job.{JobData, file_of, need_at}
+use Rattle.reel_writer.specs.Reel.{frames_of, IsWrittenFile}
+use Rattle.reel_writer.specs.View.{ReelView, after_finish}
+use Rattle.single_run.specs.Asks.{IsRunFile, closed_frames, asks_of_frames, frame_if_closed, keys_of_need}
+use Rattle.single_run.specs.Ran.{IsPast, ArePast}
+
+pub or_true : (b c : Bool) → b ≡ true → b ≡ (b || c)
+or_true b c is = subst (λ (x : Bool). x ≡ (x || c)) (sym is) refl
+
+or_false : (b c : Bool) → c ≡ false → b ≡ (b || c)
+or_false true c is = refl
+or_false false c is = sym is
+
+or_assoc : (a b c : Bool) → ((a || b) || c) ≡ (a || (b || c))
+or_assoc true b c = refl
+or_assoc false b c = refl
+
+pub or_either : (b c : Bool) → (b || c) ≡ true → (b ≡ true) ⊎ (c ≡ true)
+or_either true c is = inl refl
+or_either false c is = inr is
+
+pub or_here : (b c : Bool) → c ≡ true → (b || c) ≡ true
+or_here true c is = refl
+or_here false c is = is
+
+range_push : (a n : ℕ) → range_with_len a (suc n) ≡ range_with_len a n ++ (a + n) ∷ []
+range_push a zero = let same : a ≡ a + 0 = omega arith in ap (λ m. m ∷ []) same
+range_push a (suc n) = let same : a + 1 + n ≡ a + suc n = omega arith in ap (λ l. a ∷ l) (range_push (a + 1) n) ∙ ap (λ m. a ∷ range_with_len (a + 1) n ++ m ∷ []) same
+
+module _ (gates : List Bool) where
+  filtered : (b : Bool) (i : ℕ) → get_or gates i false ≡ b → filter (λ k. not (get_or gates k false)) (i ∷ []) ≡ (if b then [] else (i ∷ []))
+  filtered true i is = ap (λ (b : Bool). if not b then (i ∷ []) else []) is
+  filtered false i is = ap (λ (b : Bool). if not b then (i ∷ []) else []) is
+
+  pub if_open : (i : ℕ) → get_or gates i false ≡ true → frame_if_closed gates i ≡ []
+  if_open i is = ap (λ (b : Bool). if b then [] else (i ∷ [])) is
+
+  pub if_closed : (i : ℕ) → get_or gates i false ≡ false → frame_if_closed gates i ≡ i ∷ []
+  if_closed i is = ap (λ (b : Bool). if b then [] else (i ∷ [])) is
+
+  -- one frame more
+  pub closed_more : (i : ℕ) → closed_frames gates (suc i) ≡ closed_frames gates i ++ frame_if_closed gates i
+  unfolding closed_frames
+  closed_more i =
+      ap (filter (λ k. not (get_or gates k false))) (range_push 0 i) ∙ filter-append (λ k. not (get_or gates k false)) (range_with_len 0 i) ((0 + i) ∷ [])
+      ∙ ap (λ m. filter (λ k. not (get_or gates k false)) (range_with_len 0 i) ++ filter (λ k. not (get_or gates k false)) (m ∷ [])) zero_first
+      ∙ ap (λ l. filter (λ k. not (get_or gates k false)) (range_with_len 0 i) ++ l) (filtered (get_or gates i false) i refl)
+    where
+      zero_first : 0 + i ≡ i
+      zero_first = omega arith
+
+  pub closed_none : closed_frames gates 0 ≡ []
+  unfolding closed_frames
+  closed_none = refl
+
+  -- those below one frame are the first of those below a later one
+  pub closed_split : (i more : ℕ) → (rest : List ℕ) × (closed_frames gates (more + i) ≡ closed_frames gates i ++ rest)
+  closed_split i zero = let none : 0 + i ≡ i = omega arith in ([], ap (closed_frames gates) none ∙ sym (append-nil (closed_frames gates i)))
+  closed_split i (suc more) =
+      let first = closed_split i more in
+      let same : suc more + i ≡ suc (more + i) = omega arith in
+      (first.0 ++ frame_if_closed gates (more + i), ap (closed_frames gates) same ∙ closed_more (more + i) ∙ ap (λ l. l ++ frame_if_closed gates (more + i)) first.1 ∙ append_assoc (closed_frames gates i) first.0 (frame_if_closed gates (more + i)))
+
+  -- they are those whose gate is closed
+  pub closed_has : (i k : ℕ) → k < i → get_or gates k false ≡ false → Contains (closed_frames gates i) k
+  closed_has zero k lt is = absurd (omega arith)
+  closed_has (suc i) k lt is = subst (λ l. Contains l k) (sym (closed_more i)) (elim (cases_lt k i) [
+    | inl early ↦ Contains-append_left (closed_frames gates i) (frame_if_closed gates i) k (closed_has i k early is)
+    | inr late ↦
+        let here : k ≡ i = omega (arith, lt, late) in
+        subst (λ l. Contains (closed_frames gates i ++ l) k) (sym (if_closed i (subst (λ n. get_or gates n false ≡ false) here is))) (subst (λ n. Contains (closed_frames gates i ++ i ∷ []) n) (sym here) (Contains-push (closed_frames gates i) i))
+  ])
+
+  pub closed_below : (i k : ℕ) → Contains (closed_frames gates i) k → k < i
+  closed_below zero k has = let none : Contains [] k = subst (λ l. Contains l k) closed_none has in absurd (omega (arith, none.1))
+  closed_below (suc i) k has = elim (which (get_or gates i false) refl) [
+    | inl in_first ↦ omega (arith, closed_below i k in_first)
+    | inr here ↦ omega (arith, here)
+  ]
+    where
+      which : (b : Bool) → get_or gates i false ≡ b → Contains (closed_frames gates i) k ⊎ (i ≡ k)
+      which true is = inl (subst (λ l. Contains l k) (closed_more i ∙ ap (λ l. closed_frames gates i ++ l) (if_open i is) ∙ append-nil (closed_frames gates i)) has)
+      which false is = Contains-push_cases (closed_frames gates i) i k (subst (λ l. Contains l k) (closed_more i ∙ ap (λ l. closed_frames gates i ++ l) (if_closed i is)) has)
+
+-- asks of frames one after another
+pub asks_append : (job : JobData) (frames others : List ℕ) → asks_of_frames job (frames ++ others) ≡ asks_of_frames job frames ++ asks_of_frames job others
+unfolding asks_of_frames
+asks_append job frames others = flat_map-append (λ i. keys_of_need (need_at job i)) frames others
+
+pub asks_none : (job : JobData) → asks_of_frames job [] ≡ []
+unfolding asks_of_frames
+asks_none job = refl
+
+pub asks_one : (job : JobData) (i : ℕ) → length (asks_of_frames job (i ∷ [])) ≡ length (keys_of_need (need_at job i))
+unfolding asks_of_frames
+asks_one job i = ap length (append-nil (keys_of_need (need_at job i)))
+
+pub asks_if_open : (job : JobData) (gates : List Bool) (i : ℕ) → get_or gates i false ≡ true → length (asks_of_frames job (frame_if_closed gates i)) ≡ 0
+asks_if_open job gates i is = ap (λ l. length (asks_of_frames job l)) (if_open gates i is) ∙ ap length (asks_none job)
+
+pub asks_if_closed : (job : JobData) (gates : List Bool) (i : ℕ) → get_or gates i false ≡ false → length (asks_of_frames job (frame_if_closed gates i)) ≡ length (keys_of_need (need_at job i))
+asks_if_closed job gates i is = ap (λ l. length (asks_of_frames job l)) (if_closed gates i is) ∙ asks_one job i
+
+-- what a finish of a frame writes is the run's
+pub run_file : (job : JobData) (gates : List Bool) (i index : ℕ) → index ≡ i → i < frames_of job → get_or gates i false ≡ false → (q : FileId) → IsWrittenFile (file_of job index) q → IsRunFile job gates q
+run_file job gates i index same within closed q (inl is) = inr (i, within, closed, is ∙ ap (file_of job) same)
+run_file job gates i index same within closed q (inr body) = inl body
+
+module _ {D : Type 0} (old : ReelView D) (i : ℕ) where
+  pub past_itself : get_or old.ledger.gates i false ≡ true → old.ledger.closed ≡ false → IsPast i old old
+  past_itself is is_open = record {
+    gates = λ k. elim (cases_eq k i) [
+      | inl same ↦ or_true (get_or old.ledger.gates k false) (k == i) (ap (λ n. get_or old.ledger.gates n false) same ∙ is)
+      | inr other ↦ let apart : (k == i) ≡ false = grind (arith, nat_tests) in or_false (get_or old.ledger.gates k false) (k == i) apart
+    ];
+    size = refl;
+    acks = sym (append-nil old.acks) ∙ ap (λ l. old.acks ++ l) (sym (if_open old.ledger.gates i is));
+    kept = refl;
+    is_open = is_open;
+  }
+
+  pub past_finish : (disk : D) → get_or old.ledger.gates i false ≡ false → i < length old.ledger.gates → old.ledger.closed ≡ false → IsPast i old (after_finish old i disk)
+  past_finish disk is within is_open = record {
+    gates = λ k. elim (cases_eq k i) [
+      | inl same ↦
+          let here : (k == i) ≡ true = grind (arith, nat_tests) in
+          ap (λ n. get_or (set old.ledger.gates i true) n false) same ∙ get_or-set_same old.ledger.gates i true false within ∙ sym (or_here (get_or old.ledger.gates k false) (k == i) here)
+      | inr other ↦ let apart : (k == i) ≡ false = grind (arith, nat_tests) in get_or-set_other old.ledger.gates i k true false other ∙ or_false (get_or old.ledger.gates k false) (k == i) apart
+    ];
+    size = length-set old.ledger.gates i true;
+    acks = ap (λ l. old.acks ++ l) (sym (if_closed old.ledger.gates i is));
+    kept = refl;
+    is_open = is_open;
+  }
+
+module _ {D : Type 0} (old : ReelView D) where
+  pub past_none : old.ledger.closed ≡ false → ArePast 0 old old
+  past_none is_open = record {
+    gates = λ k. let none : nat_lt k 0 ≡ false = grind (arith, nat_tests) in or_false (get_or old.ledger.gates k false) (nat_lt k 0) none;
+    size = refl;
+    acks = sym (append-nil old.acks) ∙ ap (λ l. old.acks ++ l) (sym (closed_none old.ledger.gates));
+    kept = refl;
+    is_open = is_open;
+  }
+
+  module _ (mid : ReelView D) (i : ℕ) (past : ArePast i old mid) where
+    -- the gate of the next frame is as it was at the opening
+    pub gate_still : get_or mid.ledger.gates i false ≡ get_or old.ledger.gates i false
+    gate_still = let none : nat_lt i i ≡ false = grind (arith, nat_tests) in past.gates i ∙ sym (or_false (get_or old.ledger.gates i false) (nat_lt i i) none)
+
+    pub if_still : frame_if_closed mid.ledger.gates i ≡ frame_if_closed old.ledger.gates i
+    if_still = ap (λ (b : Bool). if b then [] else (i ∷ [])) gate_still
+
+    pub past_more : (new : ReelView D) → IsPast i mid new → ArePast (suc i) old new
+    past_more new step = record {
+      gates = λ k.
+          let joined : (nat_lt k i || (k == i)) ≡ nat_lt k (suc i) = below k in
+          step.gates k ∙ ap (λ (b : Bool). b || (k == i)) (past.gates k) ∙ or_assoc (get_or old.ledger.gates k false) (nat_lt k i) (k == i) ∙ ap (λ (b : Bool). get_or old.ledger.gates k false || b) joined;
+      size = step.size ∙ past.size;
+      acks = step.acks ∙ ap (λ l. l ++ frame_if_closed mid.ledger.gates i) past.acks ∙ append_assoc old.acks (closed_frames old.ledger.gates i) (frame_if_closed mid.ledger.gates i)
+          ∙ ap (λ l. old.acks ++ (closed_frames old.ledger.gates i ++ l)) if_still ∙ ap (λ l. old.acks ++ l) (sym (closed_more old.ledger.gates i));
+      kept = step.kept ∙ past.kept;
+      is_open = step.is_open;
+    }
+      where
+        below : (k : ℕ) → (nat_lt k i || (k == i)) ≡ nat_lt k (suc i)
+        below k = elim (cases_lt k i) [
+          | inl early ↦
+              let first : nat_lt k i ≡ true = grind (arith, nat_tests) in
+              let later : nat_lt k (suc i) ≡ true = grind (arith, nat_tests) in
+              sym (or_true (nat_lt k i) (k == i) first) ∙ first ∙ sym later
+          | inr late ↦ elim (cases_eq k i) [
+            | inl same ↦
+                let here : (k == i) ≡ true = grind (arith, nat_tests) in
+                let later : nat_lt k (suc i) ≡ true = grind (arith, nat_tests) in
+                or_here (nat_lt k i) (k == i) here ∙ sym later
+            | inr other ↦
+                let first : nat_lt k i ≡ false = grind (arith, nat_tests) in
+                let here : (k == i) ≡ false = grind (arith, nat_tests) in
+                let later : nat_lt k (suc i) ≡ false = grind (arith, nat_tests) in
+                sym (or_false (nat_lt k i) (k == i) here) ∙ first ∙ sym later
+          ]
+        ]

@@ -1,0 +1,107 @@
+use Rattle.std.proofs.Common.{◌≡◌, ℕ, suc, ◌+◌, ◌-◌, ◌<◌, List, length, take, refl, sym, ◌∙◌, ap, subst, arith}
+use Rattle.std.specs.Prelude.{Err}
+use Rattle.frame_render.specs.Frame.{frame_size}
+use Rattle.reel_disk.proofs.Sparing.{spares_itself, spares_along, spares_wider}
+use Rattle.reel_writer.specs.Reel.{frames_of}
+use Rattle.reel_writer.proofs.ReelLaws.{reel_run_itself, reel_run_along}
+use Rattle.single_run.specs.Asks.{IsRunFile, asks_of_frames, closed_frames}
+use Rattle.single_run.specs.Ran.{ArePast, WereFinished}
+use Rattle.single_run.specs.declared.run_end.RunEnd.TheVariants as end
+use Rattle.single_run.proofs.Running.{asks_few, asks_more, asks_first, taken, stopped, unbegun, gates_are, run_file_along, acks_then, gates_then, kept_then, err_same, not_done}
+use Rattle.single_run.proofs.Scanning.{scanned_itself, scanned_as, scanned_along}
+use Rattle.single_run.proofs.Stepping.{past_none, past_more, gate_still, if_still}
+use Rattle.single_run.proofs.frames.run_frames.Goals as goal
+
+pub loop-i-init : goal.loop-i-init
+loop-i-init g c = record {
+  within = omega arith;
+  ending = c.count-i-end.ensures.count ∙ ap frames_of c.requires.job;
+  past = past_none c.args.reel.now c.requires.is_open;
+  asked = c.requires.zero ∙ sym (asks_first g.N.Work.job c.args.reel.now.ledger.gates);
+  few = let zero = c.requires.zero in omega (arith, zero);
+  room = c.in-Ok.ensures.room ∙ ap frame_size c.requires.job;
+  run = λ told. reel_run_itself g.N.Work.job g.N.Work.files (g.D.Disk.history c.args.reel.now.disk);
+  spares = λ told. spares_itself (g.D.Disk.history c.args.reel.now.disk) (IsRunFile g.N.Work.job c.args.reel.now.ledger.gates);
+  faults = refl;
+  same_disk = g.met.D.Disk.same_itself c.args.reel.now.disk;
+  scan = scanned_as g.S.Scans.world g.S.Scans.faults g.S.Scans.loads c.args.scan.now c.args.scan.now 0 c.args.loads.now ⊥ ⊥ (sym c.requires.zero) (λ never. never) (λ never. never) (scanned_itself g.S.Scans.world g.S.Scans.faults g.S.Scans.loads ⊥ (λ never. never) c.args.scan.now);
+  same_scan = g.met.S.Scans.same_refl c.args.scan.now;
+}
+
+pub loop-i-preserved : goal.loop-i-preserved
+loop-i-preserved g c =
+    let inv = c.loop-i.invariant in
+    let step = c.in-Ok-run_frame.ensures in
+    let next : suc c.loop-i.i ≡ c.loop-i.i + 1 = omega arith in
+    let still = if_still c.args.reel.now c.loop-i.reel c.loop-i.i inv.past in
+    let few = asks_few g.N.Work.job c.loop-i.reel.ledger.gates c.loop-i.i in
+    let more = asks_more g.N.Work.job c.args.reel.now.ledger.gates c.loop-i.i in
+    let same = ap (λ (l : List ℕ). length (asks_of_frames g.N.Work.job l)) still in
+    let steady = step.steady (λ same. cc) in
+    record {
+      within = let lt = c.loop-i-test.true in let all = inv.ending in omega (arith, lt, all);
+      ending = inv.ending;
+      past = subst (λ (n : ℕ). ArePast n c.args.reel.now c.run_frame.new.reel) next (past_more c.args.reel.now c.loop-i.reel c.loop-i.i inv.past c.run_frame.new.reel step.past);
+      asked = subst (λ (n : ℕ). c.run_frame.new.loads ≡ length (asks_of_frames g.N.Work.job (closed_frames c.args.reel.now.ledger.gates n))) next (let was = inv.asked in let asked = step.asked in omega (arith, was, asked, more, same));
+      few = let was = inv.few in let asked = step.asked in omega (arith, was, asked, few);
+      room = step.room;
+      run = λ told. reel_run_along g.N.Work.job g.N.Work.files _ _ _ (inv.run told) (step.run told);
+      spares = λ told. spares_along _ _ _ (IsRunFile g.N.Work.job c.args.reel.now.ledger.gates) (inv.run told).extends (step.run told).extends (inv.spares told)
+          (spares_wider _ _ (IsRunFile g.N.Work.job c.loop-i.reel.ledger.gates) (IsRunFile g.N.Work.job c.args.reel.now.ledger.gates) (run_file_along c.args.reel.now c.loop-i.reel c.loop-i.i c.requires.none inv.past g.N.Work.job) (step.spares told));
+      faults = steady ∙ inv.faults;
+      same_disk = g.met.D.Disk.same_along _ _ _ inv.same_disk step.same_disk;
+      scan = scanned_along g.S.Scans.world g.S.Scans.faults g.S.Scans.loads _ _ _ c.loop-i.loads (c.run_frame.new.loads - c.loop-i.loads) c.run_frame.new.loads ⊥ ⊥ (let later = step.later in omega (arith, later)) (λ never. never) inv.scan
+          (scanned_as g.S.Scans.world g.S.Scans.faults g.S.Scans.loads _ _ _ _ _ ⊥ refl (λ never. absurd never) (λ same. cc) step.scan);
+      same_scan = g.met.S.Scans.same_trans _ _ _ inv.same_scan step.same_scan;
+    }
+
+-- no room for a frame
+pub returns-in-Err-clause-finished : goal.returns-in-Err-clause-finished
+returns-in-Err-clause-finished g c = unbegun g.N.Work.job c.args.reel.now.ledger.gates end.NoMemory _ _ (λ same. cc) (ap length c.requires.none) c.requires.zero
+
+pub returns-in-Err-clause-run : goal.returns-in-Err-clause-run
+returns-in-Err-clause-run g c told = reel_run_itself g.N.Work.job g.N.Work.files (g.D.Disk.history c.args.reel.now.disk)
+
+-- a frame could not be made or finished
+pub returns-in-Err-run_frame-clause-finished : goal.returns-in-Err-run_frame-clause-finished
+returns-in-Err-run_frame-clause-finished g c =
+    let inv = c.loop-i.invariant in
+    let lt : c.loop-i.i < c.count-i-end.result = c.loop-i-test.true in
+    let all = inv.ending in
+    let was = inv.asked in
+    let later = c.run_frame.ensures.later in
+    let most = c.run_frame.ensures.most in
+    subst (λ (l : List ℕ). WereFinished g.N.Work.job c.args.reel.now.ledger.gates c.in-Err-run_frame.end (length l) c.run_frame.new.loads) (sym (acks_then c.args.reel.now c.loop-i.reel c.loop-i.i c.requires.none inv.past c.run_frame.new.reel c.in-Err-run_frame.ensures.unfinished))
+    (stopped g.N.Work.job c.args.reel.now.ledger.gates c.in-Err-run_frame.end c.loop-i.i c.run_frame.new.loads (not_done g.N.Work.job g.N.Work.files c.in-Err-run_frame.end c.in-Err-run_frame.ensures.stop) (omega (arith, lt, all))
+    (sym (gate_still c.args.reel.now c.loop-i.reel c.loop-i.i inv.past) ∙ c.in-Err-run_frame.ensures.closed) (omega (arith, was, later)) (omega (arith, was, most)))
+
+pub returns-in-Err-run_frame-clause-acks : goal.returns-in-Err-run_frame-clause-acks
+returns-in-Err-run_frame-clause-acks g c =
+    let inv = c.loop-i.invariant in
+    let all = inv.ending in
+    let within = inv.within in
+    let then_acks = acks_then c.args.reel.now c.loop-i.reel c.loop-i.i c.requires.none inv.past c.run_frame.new.reel c.in-Err-run_frame.ensures.unfinished in
+    then_acks ∙ sym (taken c.args.reel.now.ledger.gates (frames_of g.N.Work.job) c.loop-i.i within) ∙ ap (λ (l : List ℕ). take (length l) (closed_frames c.args.reel.now.ledger.gates (frames_of g.N.Work.job))) (sym then_acks)
+
+pub returns-in-Err-run_frame-clause-gates : goal.returns-in-Err-run_frame-clause-gates
+returns-in-Err-run_frame-clause-gates g c = gates_then c.args.reel.now c.loop-i.reel c.loop-i.i c.requires.none c.loop-i.invariant.past c.run_frame.new.reel c.in-Err-run_frame.ensures.unfinished
+
+pub returns-in-Err-run_frame-clause-kept : goal.returns-in-Err-run_frame-clause-kept
+returns-in-Err-run_frame-clause-kept g c = kept_then c.args.reel.now c.loop-i.reel c.loop-i.i c.requires.none c.loop-i.invariant.past c.run_frame.new.reel c.in-Err-run_frame.ensures.unfinished
+
+pub returns-in-Err-run_frame-clause-run : goal.returns-in-Err-run_frame-clause-run
+returns-in-Err-run_frame-clause-run g c told = reel_run_along g.N.Work.job g.N.Work.files _ _ _ (c.loop-i.invariant.run told) (c.run_frame.ensures.run told)
+
+pub returns-in-Err-run_frame-clause-spares : goal.returns-in-Err-run_frame-clause-spares
+returns-in-Err-run_frame-clause-spares g c told =
+    spares_along _ _ _ (IsRunFile g.N.Work.job c.args.reel.now.ledger.gates) (c.loop-i.invariant.run told).extends (c.run_frame.ensures.run told).extends (c.loop-i.invariant.spares told)
+    (spares_wider _ _ (IsRunFile g.N.Work.job c.loop-i.reel.ledger.gates) (IsRunFile g.N.Work.job c.args.reel.now.ledger.gates) (run_file_along c.args.reel.now c.loop-i.reel c.loop-i.i c.requires.none c.loop-i.invariant.past g.N.Work.job) (c.run_frame.ensures.spares told))
+
+pub returns-in-Err-run_frame-clause-scan : goal.returns-in-Err-run_frame-clause-scan
+returns-in-Err-run_frame-clause-scan g c =
+    scanned_along g.S.Scans.world g.S.Scans.faults g.S.Scans.loads _ _ _ c.loop-i.loads (c.run_frame.new.loads - c.loop-i.loads) c.run_frame.new.loads ⊥ _ (let later = c.run_frame.ensures.later in omega (arith, later)) (λ never. never) c.loop-i.invariant.scan
+    (scanned_as g.S.Scans.world g.S.Scans.faults g.S.Scans.loads _ _ _ _ _ _ refl (λ is. ap Err is) (λ is. err_same _ _ is) c.in-Err-run_frame.ensures.scan)
+
+-- every frame is finished
+pub returns-clause-gates : goal.returns-clause-gates
+returns-clause-gates g c = gates_are c.args.reel.now c.loop-i.reel c.loop-i.i c.requires.none c.loop-i.invariant.past

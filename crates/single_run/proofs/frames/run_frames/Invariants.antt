@@ -1,0 +1,25 @@
+use Rattle.std.proofs.Common.{◌≡◌, ◌*◌, ◌≤◌, length, true}
+use Rattle.frame_render.specs.Frame.{frame_size}
+use Rattle.reel_disk.specs.Runs.{Spares}
+use Rattle.reel_writer.specs.Reel.{frames_of, IsReelRun}
+use Rattle.single_run.specs.Asks.{IsRunFile, asks_of_frames, closed_frames}
+use Rattle.single_run.specs.Ran.{ArePast}
+use Rattle.single_run.specs.Scanned.{IsScanned}
+use Rattle.single_run.proofs.frames.run_frames.Given as goal
+
+-- the frames below i are finished, and nothing failed
+abbrev pub invariant-loop-i : goal.invariant-loop-i
+invariant-loop-i g l = record {
+  within : l.i ≤ frames_of g.N.Work.job;
+  ending : l.i-end ≡ frames_of g.N.Work.job;
+  past : ArePast l.i l.fn.reel l.reel;
+  asked : l.loads ≡ length (asks_of_frames g.N.Work.job (closed_frames l.fn.reel.ledger.gates l.i));
+  few : l.loads ≤ 2 * l.i;
+  room : length l.room ≡ frame_size g.N.Work.job;
+  run : g.D.Disk.tells ≡ true → IsReelRun g.N.Work.job g.N.Work.files (g.D.Disk.history l.fn.reel.disk) (g.D.Disk.history l.reel.disk);
+  spares : g.D.Disk.tells ≡ true → Spares (g.D.Disk.history l.fn.reel.disk) (g.D.Disk.history l.reel.disk) (IsRunFile g.N.Work.job l.fn.reel.ledger.gates);
+  faults : g.D.Disk.faults l.reel.disk ≡ g.D.Disk.faults l.fn.reel.disk;
+  same_disk : g.D.Disk.same l.fn.reel.disk l.reel.disk;
+  scan : IsScanned g.S.Scans.world g.S.Scans.faults g.S.Scans.loads l.loads ⊥ l.fn.scan l.scan;
+  same_scan : g.S.Scans.same l.fn.scan l.scan;
+}

@@ -1,0 +1,5 @@
+pub mod Asks
+pub mod Ends
+pub mod Ran
+pub mod Run
+pub mod Scanned

@@ -1,0 +1,48 @@
+-- What a run did.
+use Rattle.std.specs.Prelude.{◌≡◌, ℕ, ◌+◌, ◌≤◌, ◌==◌, ◌||◌, nat_lt, Bool, false, List, ◌++◌, length, take, slice_index_or}
+use Rattle.conform_job.specs.Job.{JobData}
+use Rattle.reel_writer.specs.Reel.{frames_of}
+use Rattle.reel_writer.specs.View.{ReelView}
+use Rattle.single_run.specs.Asks.{closed_frames, asks_of_frames, frame_if_closed}
+use Rattle.single_run.specs.declared.run_end.RunEnd.{RunEnd}
+use Rattle.single_run.specs.declared.run_end.RunEnd.TheVariants.{Done}
+
+-- The frames whose gate was closed at the opening were finished in order, so many of them, and at
+-- Done all. The loads are what these ask for, and at most what the next one asks for besides; at
+-- Done just that.
+pub record WereFinished (job : JobData) (gates : List Bool) (end : RunEnd)
+    (rendered loads : ℕ) : Type 0 where
+  pub few : rendered ≤ length (closed_frames gates (frames_of job))
+  pub all : end ≡ Done → rendered ≡ length (closed_frames gates (frames_of job))
+  pub asked : length (asks_of_frames job (take rendered (closed_frames gates (frames_of job))))
+      ≤ loads
+  pub next : loads
+      ≤ length (asks_of_frames job (take (rendered + 1) (closed_frames gates (frames_of job))))
+  pub exact : end ≡ Done → loads ≡ length (asks_of_frames job (closed_frames gates (frames_of job)))
+
+module _ {D : Type 0} where
+  -- frame i is acknowledged, and was finished where it was not
+  pub record IsPast (i : ℕ) (old new : ReelView D) : Type 0 where
+    pub gates : (k : ℕ)
+        → slice_index_or new.ledger.gates k false
+        ≡ (slice_index_or old.ledger.gates k false || (k == i))
+    pub size : length new.ledger.gates ≡ length old.ledger.gates
+    pub acks : new.acks ≡ old.acks ++ frame_if_closed old.ledger.gates i
+    pub kept : new.kept ≡ old.kept
+    pub is_open : new.ledger.closed ≡ false
+
+  -- each frame below i is acknowledged, and was finished where it was not
+  pub record ArePast (i : ℕ) (old new : ReelView D) : Type 0 where
+    pub gates : (k : ℕ)
+        → slice_index_or new.ledger.gates k false
+        ≡ (slice_index_or old.ledger.gates k false || nat_lt k i)
+    pub size : length new.ledger.gates ≡ length old.ledger.gates
+    pub acks : new.acks ≡ old.acks ++ closed_frames old.ledger.gates i
+    pub kept : new.kept ≡ old.kept
+    pub is_open : new.ledger.closed ≡ false
+
+  -- no frame was finished
+  pub record IsUnfinished (old new : ReelView D) : Type 0 where
+    pub gates : new.ledger.gates ≡ old.ledger.gates
+    pub acks : new.acks ≡ old.acks
+    pub kept : new.kept ≡ old.kept

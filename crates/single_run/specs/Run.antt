@@ -1,0 +1,78 @@
+-- What a run on one thread promises. All of it is this project's own rule.
+--     WasOpened      a run whose folder was opened: what it finished, asked for and left acknowledged
+--     WasRefused      a run whose folder was not
+--     IsWhole      the folder has the whole reel
+use Rattle.std.specs.Prelude.{◌≡◌, ◌≢◌, ◌⊎◌, ◌↔◌, ℕ, ◌<◌, Bool, true, false, List, length, take, count_by, Contains, slice_index_or, Option, Some, IfSome}
+use Rattle.cf_base.specs.declared.file.FileId.{FileId}
+use Rattle.scan_source.specs.World.{World, file_at}
+use Rattle.conform_job.specs.Job.{JobData, file_of}
+use Rattle.frame_render.specs.Frame.{frame_file}
+use Rattle.reel_disk.specs.Disk.{Files, Moment, History, moment_of, view_of}
+use Rattle.reel_disk.specs.Runs.{Surely}
+use Rattle.resume_ledger.specs.Ledger.{IsFit, IsLedgerFile}
+use Rattle.resume_ledger.specs.Attach.{IsOtherJob, IsBadLedger, IsUnwritten}
+use Rattle.reel_writer.specs.Reel.{frames_of, HasAcked, IsSoundReel}
+use Rattle.single_run.specs.Asks.{closed_frames}
+use Rattle.single_run.specs.Ends.{IsEnd}
+use Rattle.single_run.specs.Ran.{WereFinished}
+use Rattle.single_run.specs.declared.run_end.Report.{Report}
+use Rattle.single_run.specs.declared.run_end.RunEnd.{RunEnd}
+use Rattle.single_run.specs.declared.run_end.RunEnd.TheVariants.{Done, OtherJob, BadLedger, Changed, SourceFault, DiskFault, NoMemory}
+
+-- The folder was unsealed or this job's. `gates` are the frames that it acknowledged then. Unless
+-- the disk failed, it acknowledges now just these and those that the run finished.
+pub record WasOpened (job : JobData) (told : Option World) (tells : Bool) (old new : History)
+    (end : RunEnd) (report : Report) : Type 0 where
+  pub gates : List Bool
+  pub size : length gates ≡ frames_of job
+  pub opening : tells ≡ true → (k : ℕ)
+      → (slice_index_or gates k false ≡ true) ↔ HasAcked job k (view_of old)
+  pub fit : tells ≡ true → IsFit job.parts.digest (frames_of job) (view_of old)
+  pub is_end : IsEnd job told end
+  pub kept : report.kept ≡ count_by (λ gate. gate) gates
+  pub finished : WereFinished job gates end report.rendered report.loads
+  pub exit : tells ≡ true → end ≢ DiskFault → (k : ℕ)
+      → HasAcked job k (view_of new)
+      ↔ ((slice_index_or gates k false ≡ true)
+      ⊎ Contains (take report.rendered (closed_frames gates (frames_of job))) k)
+
+-- why the folder was not opened: 20.1 and 20.2 just where they are so, with nothing written, as
+-- where memory ran out
+abbrev pub HasRefused : JobData → Bool → History → History → RunEnd → Type 0
+HasRefused job tells old new Done = ⊥
+HasRefused job tells old new (OtherJob kept wanted) = (kept ≢ wanted) × (wanted ≡ job.parts.digest)
+    × (tells ≡ true → IsOtherJob job.parts.digest kept wanted old new)
+HasRefused job tells old new (BadLedger len) = tells ≡ true
+    → IsBadLedger job.parts.digest (frames_of job) len old new
+HasRefused job tells old new (Changed key was now) = ⊥
+HasRefused job tells old new SourceFault = ⊥
+HasRefused job tells old new DiskFault = Unit {0}
+HasRefused job tells old new NoMemory = tells ≡ true → IsUnwritten old new
+
+-- The folder was not opened, and no source file was loaded.
+pub record WasRefused (job : JobData) (tells : Bool) (old new : History) (end : RunEnd)
+    (report : Report) : Type 0 where
+  pub why : HasRefused job tells old new end
+  pub kept : report.kept ≡ 0
+  pub rendered : report.rendered ≡ 0
+  pub loads : report.loads ≡ 0
+
+-- each frame's file is the job's
+abbrev pub IsWhole : JobData → World → Moment → Type 0
+IsWhole job world moment = (i : ℕ) → i < frames_of job
+    → moment.view (file_of job i) ≡ Some (frame_file job (file_at world) i)
+
+-- every image of the moment acknowledges every frame
+pub record AreAllAcked (job : JobData) (moment : Moment) : Type 0 where
+  pub each : (i : ℕ) → i < frames_of job → Surely moment (HasAcked job i)
+
+-- Where the source files are told, and the run was begun on files that are sound and fit, the
+-- folder has the whole reel.
+pub record HasWhole (job : JobData) (told : Option World) (old new : History) : Type 0 where
+  pub shown : IfSome told (λ world. Surely (moment_of old) (IsSoundReel job world)
+      → IsWhole job world (moment_of new))
+
+-- what a run writes: the ledger's files, and those of frames that the folder didn't acknowledge
+abbrev pub IsOwnFile : JobData → Files → FileId → Type 0
+IsOwnFile job before q = IsLedgerFile q
+    ⊎ ((i : ℕ) × (i < frames_of job) × (HasAcked job i before → ⊥) × (q ≡ file_of job i))

@@ -1,0 +1,147 @@
+//! Source frames, loaded and decoded.
+ghost use Rattle.std.specs.Prelude.{◌≡◌, ◌≢◌, ◌+◌, ◌<◌, ◌≤◌, ◌^◌, ◌↔◌, true, Some, Err, length, IfSome, IfOk, IfErr, IsErr};
+ghost use Rattle.dpx_header.specs.Frame.{IsFrame, need_of};
+ghost use Rattle.dpx_header.specs.Reading.{info_of};
+ghost use Rattle.dpx_header.specs.declared.info.FrameInfo.{FrameInfo};
+ghost use Rattle.scan_source.specs.Answers.{first_bytes};
+ghost use Rattle.scan_source.specs.World.{file_at};
+ghost use Rattle.conform_job.specs.Answers.{AreInfosOf};
+ghost use Rattle.conform_job.specs.Keys.{info_at};
+ghost use Rattle.conform_job.specs.Names.{Tells};
+ghost use Rattle.frame_render.specs.Frame.{HasKeyOf, IsFrontOf};
+ghost use Rattle.single_run.specs.Asks.{key_of_side};
+ghost use Rattle.single_run.specs.Ends.{seen_by, IsFail, IsStop};
+ghost use Rattle.single_run.specs.Scanned.{IsScanned};
+
+use crate::RunEnd;
+use cf_base::Key;
+use conform_job::{Job, Work};
+use dpx_header::{FrameInfo, read_header};
+use frame_render::Decoded;
+use scan_source::{Loaded, Scans, head_of};
+use source_reels::Seen;
+use std::alloc::Global;
+
+/// What a file of that many bytes says, which begins with these.
+fn seen_in(bytes: &[u8], len: u64) -> Seen
+    ensures seen { result ≡ seen_by (info_of (first_bytes 2048 bytes.now) len) }
+    ensures whole { (info : FrameInfo) → result ≡ Seen.Info info → need_of info ≤ len }
+{
+    match read_header(&head_of(bytes), len) {
+        Ok(info) => Seen::Info(info),
+        Err(fault) => Seen::Bad(fault),
+    }
+}
+
+/// Whether a file says this.
+fn is_info(seen: Seen, info: FrameInfo) -> bool
+    ensures { result ≡ true ↔ seen ≡ Seen.Info info }
+{
+    seen == Seen::Info(info)
+}
+
+/// What stands at the path of a key, by one load of as much of its file as the job's info needs.
+fn look<N: Work, S: Scans>(
+    job: &Job,
+    scan: &mut S,
+    key: Key,
+    info: FrameInfo,
+    into: &mut Vec<u8>,
+) -> Result<Seen, RunEnd>
+    requires job { job.now ≡ N.job }
+    requires files { Tells N.files (S.world scan.old) }
+    requires infos { AreInfosOf N.job.parts N.files N.job.infos }
+    requires known { info_at N.job.infos key ≡ Some info }
+    requires frame { IsFrame info }
+    ensures changed { IfOk result (λ now. now ≢ Seen.Info info → N.files ≡ None) }
+    ensures whole { IfOk result (λ now. now ≡ Seen.Info info
+        → need_of info ≤ length into.new.items) }
+    ensures front { IfOk result (λ now. now ≡ Seen.Info info
+        → IfSome N.files (λ world. IsFrontOf N.job (file_at world) key info into.new.items)) }
+    ensures stop { IfErr result IsFail }
+    ensures scan { IsScanned S.world S.faults S.loads 1 (result
+        ≡ Err RunEnd.SourceFault) scan.old scan.new }
+    ensures same { S.same scan.old scan.new }
+{
+    let _ = job.count();
+    let path = job.path_of(key);
+    match scan.load(&path, info.need(), into) {
+        Loaded::Got { len } => Ok(seen_in(into, len)),
+        Loaded::Absent => Ok(Seen::Absent),
+        Loaded::Failed => Err(RunEnd::SourceFault),
+        Loaded::NoMemory => Err(RunEnd::NoMemory),
+    }
+}
+
+/// The source frame with this key, by one load of its file, whose header is read again.
+///
+/// `Changed` comes where no file is there, or its header isn't what the job has; `SourceFault`
+/// where the load failed; `NoMemory` for want of memory alone.
+fn fetch<N: Work, S: Scans>(
+    alloc: Global,
+    job: &Job,
+    scan: &mut S,
+    key: Key,
+    info: FrameInfo,
+    into: &mut Vec<u8>,
+) -> Result<Decoded<N>, RunEnd>
+    requires job { job.now ≡ N.job }
+    requires files { Tells N.files (S.world scan.old) }
+    requires infos { AreInfosOf N.job.parts N.files N.job.infos }
+    requires known { info_at N.job.infos key ≡ Some info }
+    ensures key { IfOk result (λ decoded. decoded.key ≡ key) }
+    ensures stop { IfErr result (IsStop N.job N.files) }
+    ensures never { result ≢ Err RunEnd.DiskFault }
+    ensures scan { IsScanned S.world S.faults S.loads 1 (result
+        ≡ Err RunEnd.SourceFault) scan.old scan.new }
+    ensures same { S.same scan.old scan.new }
+{
+    let now = match look::<N, S>(job, scan, key, info, into) {
+        Ok(now) => now,
+        Err(end) => return Err(end),
+    };
+    if !is_info(now, info) {
+        return Err(RunEnd::Changed {
+            key,
+            was: info,
+            now,
+        });
+    }
+    match Decoded::of(alloc, job, key, &info, into) {
+        Ok(decoded) => Ok(decoded),
+        Err(_) => Err(RunEnd::NoMemory),
+    }
+}
+
+/// The source frame of a side, where it needs one; a load is counted.
+pub(crate) fn fetch_side<N: Work, S: Scans>(
+    alloc: Global,
+    job: &Job,
+    scan: &mut S,
+    need: Option<(Key, FrameInfo)>,
+    into: &mut Vec<u8>,
+    loads: &mut u64,
+) -> Result<Option<Decoded<N>>, RunEnd>
+    requires job { job.now ≡ N.job }
+    requires files { Tells N.files (S.world scan.old) }
+    requires infos { AreInfosOf N.job.parts N.files N.job.infos }
+    requires known { IfSome need (λ n. info_at N.job.infos n.0 ≡ Some n.1) }
+    requires few { loads.old + 1 < 2 ^ 64 }
+    ensures key { IfOk result (λ decoded. HasKeyOf need decoded) }
+    ensures stop { IfErr result (IsStop N.job N.files) }
+    ensures never { result ≢ Err RunEnd.DiskFault }
+    ensures asked { loads.new ≡ loads.old + length (key_of_side need) }
+    ensures loaded { IsErr result → loads.old < loads.new }
+    ensures scan { IsScanned S.world S.faults S.loads (length (key_of_side need)) (result
+        ≡ Err RunEnd.SourceFault) scan.old scan.new }
+    ensures same { S.same scan.old scan.new }
+{
+    let Some((key, info)) = need else {
+        return Ok(None);
+    };
+    *loads += 1;
+    match fetch(alloc, job, scan, key, info, into) {
+        Ok(decoded) => Ok(Some(decoded)),
+        Err(end) => Err(end),
+    }
+}

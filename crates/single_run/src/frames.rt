@@ -1,0 +1,179 @@
+//! The frames of a run, in order.
+ghost use Rattle.std.specs.Prelude.{◌≡◌, ◌≢◌, ◌⊎◌, ◌↔◌, ℕ, ◌+◌, ◌-◌, ◌*◌, ◌<◌, ◌≤◌, ◌^◌, [], true, false, Ok, Err, length, take, Contains, slice_index_or, IfOk, IfErr, OnOk, OnErr, IsErr};
+ghost use Rattle.cf_base.specs.Count.{HasCause};
+ghost use Rattle.conform_job.specs.Answers.{AreInfosOf};
+ghost use Rattle.conform_job.specs.Job.{need_at};
+ghost use Rattle.conform_job.specs.Names.{Tells};
+ghost use Rattle.frame_render.specs.Frame.{frame_size};
+ghost use Rattle.reel_disk.specs.Runs.{Spares};
+ghost use Rattle.reel_writer.specs.Reel.{frames_of, IsReelRun};
+ghost use Rattle.single_run.specs.Asks.{IsRunFile, asks_of_frames, closed_frames, frame_if_closed, keys_of_need};
+ghost use Rattle.single_run.specs.Ends.{IsChange, IsEnd, IsStop};
+ghost use Rattle.single_run.specs.Ran.{IsPast, IsUnfinished, WereFinished};
+ghost use Rattle.single_run.specs.Scanned.{IsScanned};
+
+use crate::RunEnd;
+use crate::fetch::fetch_side;
+use conform_job::{Job, Work};
+use frame_render::{FrameBuf, Rendered, render};
+use reel_disk::{Disk, DiskFault};
+use reel_writer::Reel;
+use scan_source::Scans;
+use std::alloc::Global;
+
+/// Renders record frame `i` from the source frames that it needs. The loads are counted.
+pub fn make_frame<N: Work, S: Scans>(
+    alloc: Global,
+    job: &Job,
+    scan: &mut S,
+    i: u32,
+    into: &mut Vec<u8>,
+    room: FrameBuf,
+    loads: &mut u64,
+) -> Result<Rendered<N>, RunEnd>
+    requires job { job.now ≡ N.job }
+    requires files { Tells N.files (S.world scan.old) }
+    requires infos { AreInfosOf N.job.parts N.files N.job.infos }
+    requires index { i < frames_of N.job }
+    requires room { length room ≡ frame_size N.job }
+    requires few { loads.old + 2 < 2 ^ 64 }
+    ensures index { IfOk result (λ frame. frame.index ≡ i) }
+    ensures stop { IfErr result (IsStop N.job N.files) }
+    ensures never { result ≢ Err RunEnd.DiskFault }
+    ensures later { loads.old ≤ loads.new }
+    ensures most { loads.new ≤ loads.old + length (keys_of_need (need_at N.job i)) }
+    ensures two { loads.new ≤ loads.old + 2 }
+    ensures asked { OnOk result (loads.new ≡ loads.old + length (keys_of_need (need_at N.job i))) }
+    ensures loaded { IsErr result → loads.old < loads.new }
+    ensures scan { IsScanned S.world S.faults S.loads (loads.new - loads.old) (result
+        ≡ Err RunEnd.SourceFault) scan.old scan.new }
+    ensures same { S.same scan.old scan.new }
+{
+    let need = job.need(i);
+    let old = match fetch_side(alloc, job, scan, need.old, into, loads) {
+        Ok(old) => old,
+        Err(end) => return Err(end),
+    };
+    let new = match fetch_side(alloc, job, scan, need.new, into, loads) {
+        Ok(new) => new,
+        Err(end) => return Err(end),
+    };
+    Ok(render(job, i, old.as_ref(), new.as_ref(), room))
+}
+
+/// Renders record frame `i` and finishes it, unless it is acknowledged. The room is handed back for
+/// another frame.
+fn run_frame<N: Work, S: Scans, D: Disk>(
+    alloc: Global,
+    job: &Job,
+    scan: &mut S,
+    reel: &mut Reel<D, N>,
+    i: u32,
+    into: &mut Vec<u8>,
+    room: FrameBuf,
+    loads: &mut u64,
+) -> Result<FrameBuf, RunEnd>
+    requires job { job.now ≡ N.job }
+    requires files { Tells N.files (S.world scan.old) }
+    requires infos { AreInfosOf N.job.parts N.files N.job.infos }
+    requires index { i < frames_of N.job }
+    requires room { length room ≡ frame_size N.job }
+    requires few { loads.old + 2 < 2 ^ 64 }
+    requires is_open { reel.old.ledger.closed ≡ false }
+    requires size { length reel.old.ledger.gates ≡ frames_of N.job }
+
+    ensures room { IfOk result (λ room. length room ≡ frame_size N.job) }
+    ensures stop { IfErr result (IsStop N.job N.files) }
+    ensures past { OnOk result (IsPast i reel.old reel.new) }
+    ensures closed { OnErr result (slice_index_or reel.old.ledger.gates i false ≡ false) }
+    ensures unfinished { OnErr result (IsUnfinished reel.old reel.new) }
+    ensures stays_open { IfErr result (λ end. end ≢ RunEnd.DiskFault
+        → reel.new.ledger.closed ≡ false) }
+    ensures run { D.tells ≡ true
+        → IsReelRun N.job N.files (D.history reel.old.disk) (D.history reel.new.disk) }
+    ensures spares { D.tells ≡ true
+        → Spares (D.history reel.old.disk) (D.history reel.new.disk)
+        (IsRunFile N.job reel.old.ledger.gates) }
+
+    ensures later { loads.old ≤ loads.new }
+    ensures most { loads.new ≤ loads.old + length (keys_of_need (need_at N.job i)) }
+    ensures asked { OnOk result (loads.new
+        ≡ loads.old + length (asks_of_frames N.job (frame_if_closed reel.old.ledger.gates i))) }
+    ensures loaded { IfErr result (λ end. end ≢ RunEnd.DiskFault → loads.old < loads.new) }
+    ensures scan { IsScanned S.world S.faults S.loads (loads.new - loads.old) (result
+        ≡ Err RunEnd.SourceFault) scan.old scan.new }
+    ensures same_scan { S.same scan.old scan.new }
+
+    ensures same_disk { D.same reel.old.disk reel.new.disk }
+    ensures cause { HasCause (D.faults reel.old.disk) (D.faults reel.new.disk) (result
+        ≡ Err RunEnd.DiskFault) }
+    ensures steady { result ≢ Err RunEnd.DiskFault
+        → D.faults reel.new.disk ≡ D.faults reel.old.disk }
+{
+    if reel.is_acked(i) {
+        return Ok(room);
+    }
+    let frame = match make_frame(alloc, job, scan, i, into, room, loads) {
+        Ok(frame) => frame,
+        Err(end) => return Err(end),
+    };
+    match reel.finish(&frame) {
+        Ok(()) => Ok(frame.into_buf()),
+        Err(DiskFault) => Err(RunEnd::DiskFault),
+    }
+}
+
+/// Renders and finishes each frame that isn't acknowledged, in order. The loads are counted.
+pub(crate) fn run_frames<N: Work, S: Scans, D: Disk>(
+    alloc: Global,
+    job: &Job,
+    scan: &mut S,
+    reel: &mut Reel<D, N>,
+    loads: &mut u64,
+) -> RunEnd
+    requires job { job.now ≡ N.job }
+    requires files { Tells N.files (S.world scan.old) }
+    requires infos { AreInfosOf N.job.parts N.files N.job.infos }
+    requires is_open { reel.old.ledger.closed ≡ false }
+    requires size { length reel.old.ledger.gates ≡ frames_of N.job }
+    requires none { reel.old.acks ≡ [] }
+    requires zero { loads.old ≡ 0 }
+
+    ensures end { IsEnd N.job N.files result }
+    ensures finished { WereFinished N.job reel.old.ledger.gates result
+        (length reel.new.acks) loads.new }
+    ensures acks { reel.new.acks
+        ≡ take (length reel.new.acks) (closed_frames reel.old.ledger.gates (frames_of N.job)) }
+    ensures gates { (k : ℕ)
+        → slice_index_or reel.new.ledger.gates k false ≡ true
+        ↔ ((slice_index_or reel.old.ledger.gates k false ≡ true) ⊎ Contains reel.new.acks k) }
+    ensures kept { reel.new.kept ≡ reel.old.kept }
+    ensures stays_open { result ≢ RunEnd.DiskFault → reel.new.ledger.closed ≡ false }
+    ensures run { D.tells ≡ true
+        → IsReelRun N.job N.files (D.history reel.old.disk) (D.history reel.new.disk) }
+    ensures spares { D.tells ≡ true
+        → Spares (D.history reel.old.disk) (D.history reel.new.disk)
+        (IsRunFile N.job reel.old.ledger.gates) }
+
+    ensures loaded { IsChange result → 1 ≤ loads.new }
+    ensures scan { IsScanned S.world S.faults S.loads loads.new (result
+        ≡ RunEnd.SourceFault) scan.old scan.new }
+    ensures same_scan { S.same scan.old scan.new }
+    ensures same_disk { D.same reel.old.disk reel.new.disk }
+    ensures cause { HasCause (D.faults reel.old.disk) (D.faults reel.new.disk) (result
+        ≡ RunEnd.DiskFault) }
+    ensures steady { result ≢ RunEnd.DiskFault → D.faults reel.new.disk ≡ D.faults reel.old.disk }
+{
+    let mut room = match FrameBuf::new(alloc, job) {
+        Ok(room) => room,
+        Err(_) => return RunEnd::NoMemory,
+    };
+    let mut into = Vec::new(alloc);
+    for i in 0..job.count() {
+        match run_frame(alloc, job, scan, reel, i, &mut into, room, loads) {
+            Ok(back) => room = back,
+            Err(end) => return end,
+        }
+    }
+    RunEnd::Done
+}
