@@ -13,7 +13,10 @@ use Rattle.conform_job.specs.declared.parts.JobParts.{JobParts}
 use Rattle.conform_job.specs.declared.parts.JobFault.{JobFault}
 use Rattle.conform_job.specs.declared.parts.JobFault.TheVariants as fault
 use Rattle.conform_job.specs.declared.frames.Ask.{Ask}
-use Rattle.conform_job.specs.Asks.{asks_at, asks_from}
+use Rattle.record_timeline.specs.declared.Shot.TheVariants.{One, Two}
+use Rattle.record_timeline.specs.declared.Side.{Side}
+use Rattle.cf_base.specs.declared.event.Transition.{Transition}
+use Rattle.conform_job.specs.Asks.{asks_at, asks_from, asks_of_side, asks_of_shot}
 use Rattle.conform_job.specs.Keys.{info_at, key_of_ask}
 use Rattle.conform_job.specs.Refusals.{Files, asks_refusal, ask_refusal, name_of_ask}
 use Rattle.conform_job.specs.Answers.{IsRefusal, IsStep, AreInfosOf}
@@ -40,6 +43,10 @@ on_ok (Err e) P Q f h = h
 pub on_both : {A E : Type 0} (r : Result A E) (P Q R : Type 0) → (P → Q → R) → OnOk r P → OnOk r Q → OnOk r R
 on_both (Ok a) P Q R f h k = f h k
 on_both (Err e) P Q R f h k = h
+
+told_both : {A : Type 0} (told : Option A) (P Q R : A → Type 0) → ((a : A) → P a → Q a → R a) → IfSome told P → IfSome told Q → IfSome told R
+told_both None P Q R f h k = tt
+told_both (Some a) P Q R f h k = f a h k
 
 -- what is not there is nothing
 pub none_by : {A : Type 0} (r : Option A) → is_some r ≡ false → r ≡ None
@@ -98,3 +105,19 @@ module _ (t : RecordReel) where
       let one : n + 1 ≡ suc n = omega arith in
       let same : 0 + n ≡ n = omega arith in
       ap (asks_from t 0) one ∙ more 0 n ∙ ap (λ k. asks_from t 0 n ++ asks_at t k) same
+
+-- a world that is told: asks behind others that refused nothing, and behind a refusal
+module _ (p : JobParts) (told : Option World) where
+  pub told_then : {A : Type 0} (xs ys : List Ask) (r : Result A JobFault) → IfSome told (λ world. asks_refusal p (file_at world) xs ≡ None)
+      → IfSome told (λ world. IsStep r (asks_refusal p (file_at world) ys)) → IfSome told (λ world. IsStep r (asks_refusal p (file_at world) (xs ++ ys)))
+  told_then xs ys r e h = told_both told _ _ _ (λ world none step. step_then p (file_at world) xs ys r none step) e h
+
+  pub told_refused : (xs ys : List Ask) (why : JobFault) → IfSome told (λ world. IsRefusal why (asks_refusal p (file_at world) xs)) → IfSome told (λ world. IsRefusal why (asks_refusal p (file_at world) (xs ++ ys)))
+  told_refused xs ys why h = told_more told _ _ (λ world refused. refused_first p (file_at world) xs ys why refused) h
+
+-- what a shot asks for, by its sides
+pub one_side : (side : Side) → asks_of_shot (One side) ≡ asks_of_side side
+one_side side = append-nil (asks_of_side side)
+
+pub two_sides : (old new : Side) (transition : Transition) (k d : ℕ) → asks_of_shot (Two old new transition k d) ≡ asks_of_side old ++ asks_of_side new
+two_sides old new transition k d = ap (λ asks. asks_of_side old ++ asks) (append-nil (asks_of_side new))

@@ -5,5 +5,6 @@ mod Judging
 mod KeyOrder
 mod Needed
 mod Placed
+mod Planning
 mod Rows
 mod Turns

@@ -22,7 +22,10 @@ pub fn plan<S: Scans>(alloc: Global, path: &PathText, scan: &mut S) -> Result<Ve
         Ok(job) => job,
         Err(outcome) => return Err(outcome),
     };
-    match plan_of(alloc, &job) {
+    let plan = plan_of(alloc, &job);
+    // By a call: a job that falls out of scope is dropped part by part, here and in each proof.
+    drop(job);
+    match plan {
         Ok(text) => Ok(text),
         Err(_) => Err(Outcome::NoMemory),
     }

@@ -42,7 +42,10 @@ pub fn demo(alloc: Global, events: u32) -> Result<Vec<u8>, Outcome>
         Err(Outcome::SourceFault) => unreachable!(),
         Err(outcome) => return Err(outcome),
     };
-    match shown(alloc, &job, &mut scan) {
+    let text = shown(alloc, &job, &mut scan);
+    // By a call: a job that falls out of scope is dropped part by part, here and in each proof.
+    drop(job);
+    match text {
         Ok(text) => Ok(text),
         Err(_) => Err(Outcome::NoMemory),
     }

@@ -1,5 +1,5 @@
 -- From the fronts of a project's files to its job.
-use Rattle.std.proofs.Common.{◌≡◌, ℕ, ◌+◌, ◌<◌, ◌≤◌, true, List, length, take, Option, Some, None, Result, Ok, Err, IfSome, IsSomeAnd, refl, sym, ap, subst, ◌∙◌, arith, inl, inr}
+use Rattle.std.proofs.Common.{◌≡◌, ◌≢◌, ℕ, ◌+◌, ◌<◌, ◌≤◌, true, List, length, take, Option, Some, None, Result, Ok, Err, IfSome, IsSomeAnd, refl, sym, ap, subst, ◌∙◌, arith, inl, inr}
 use Rattle.std.specs.Prelude.{nat_lt, ◌⊎◌}
 use Rattle.std.proofs.lemmas.Bool.{cases_lt}
 use Rattle.std.proofs.lemmas.Bool.Decides.{nat_tests}
@@ -11,7 +11,7 @@ use Rattle.cube_reader.specs.Table.{Table}
 use Rattle.cube_reader.specs.declared.fault.CubeFault.{CubeFault}
 use Rattle.edl_events.specs.Lists.{list_of}
 use Rattle.edl_events.specs.declared.ListRefusal.{ListRefusal}
-use Rattle.project_file.specs.Projects.{Means}
+use Rattle.project_file.specs.Projects.{Means, IsInRange}
 use Rattle.project_file.specs.declared.Project.{Project}
 use Rattle.project_file.specs.declared.fault.ProjectFault.{ProjectFault}
 use Rattle.conform_job.proofs.Heads.{count_sum}
@@ -20,12 +20,18 @@ use Rattle.conform_job.specs.Job.{JobData}
 use Rattle.conform_job.specs.declared.parts.JobFault.{JobFault}
 use Rattle.conform_job.specs.declared.parts.JobFault.TheVariants as faults
 use Rattle.conform_job.specs.declared.parts.JobParts.{JobParts}
+use Rattle.conform_job.specs.Digest.{digest_of}
+use Rattle.cf_base.specs.declared.reel.ReelEntry.{ReelEntry}
+use Rattle.record_timeline.specs.Accepted.{RecordReel, timeline_of}
+use Rattle.source_reels.specs.Reels.{table_of, IsTabled}
 use Rattle.tetra_look.specs.Look.{Lattice, lattice_of}
 use Rattle.scan_source.specs.World.{World, file_at}
 use Rattle.conform_job.specs.Refusals.{Files, first_refusal}
-use Rattle.project_job.specs.Jobs.{list_in, look_of_text, cube_in, list_and_text, look_and_text, itself, unless_refused, parts_of, outcome_of_fault, MeansFile, FileHasPlanned, HasPlanned, Reaches, AreLoaded, cube_count, ◌>>=◌}
+use Rattle.project_job.specs.Jobs.{list_in, look_in, look_of_text, cube_in, list_and_text, look_and_text, itself, unless_refused, parts_of, outcome_of_fault, MeansFile, FileHasPlanned, HasPlanned, Reaches, AreLoaded, cube_count, ◌>>=◌}
 use Rattle.project_job.specs.Load.{IsFront, IsMissing}
 use Rattle.project_job.specs.declared.loads.Front.{Front}
+use Rattle.project_job.specs.declared.project.ListText.{ListText}
+use Rattle.project_job.specs.declared.project.LookText.{LookText}
 use Rattle.project_job.specs.declared.project.ProjectText.{ProjectText}
 use Rattle.outcome_line.specs.declared.outcome.Which.TheVariants as which
 use Rattle.outcome_line.specs.declared.outcome.Outcome.{Outcome}
@@ -38,9 +44,30 @@ pub told_one : {A : Type 0} (told : Option A) (P Q : A → Type 0) → ((a : A) 
 told_one None P Q f h = tt
 told_one (Some a) P Q f h = f a h
 
+pub told_all : {A : Type 0} (told : Option A) (P : A → Type 0) → ((a : A) → P a) → IfSome told P
+told_all None P f = tt
+told_all (Some a) P f = f a
+
 pub told_two : {A : Type 0} (told : Option A) (P Q R : A → Type 0) → ((a : A) → P a → Q a → R a) → IfSome told P → IfSome told Q → IfSome told R
 told_two None P Q R f h k = tt
 told_two (Some a) P Q R f h k = f a h k
+
+-- an error is the same in a result of another type, and no value
+pub err_as : {A B E : Type 0} (e f : E) → ◌≡◌ {A = Result A E} (Err e) (Err f) → ◌≡◌ {A = Result B E} (Err e) (Err f)
+err_as e f is = let same : e ≡ f = cc in ap Err same
+
+pub no_err : {A E : Type 0} (a : A) (e : E) → ◌≢◌ {A = Result A E} (Ok a) (Err e)
+no_err a e is = cc
+
+pub memory_apart : {A : Type 0} → ◌≢◌ {A = Result A Outcome} (Err outcomes.NoMemory) (Err outcomes.SourceFault)
+memory_apart is = cc
+
+pub refused_apart : {A : Type 0} (refusal : Refused) → ◌≢◌ {A = Result A Outcome} (Err (outcomes.Refused refusal)) (Err outcomes.SourceFault)
+refused_apart refusal is = cc
+
+-- the reels of a project are few enough for a table, and have short prefixes
+pub tabled : (project : Project) (entries : List ReelEntry) → entries ≡ project.reels → IsInRange project → IsTabled entries
+tabled project entries is range = rw is (record { few = range.few; short = λ i reel lt. (range.reels i reel lt).prefix })
 
 -- a front of one byte more than the most is the whole text, or both are longer than that
 whole_or_long : (most : ℕ) (text into : List ℕ) → into ≡ take (most + 1) text → (into ≡ text) ⊎ ((most < length into) × (most < length text))
@@ -241,6 +268,50 @@ pub loaded_all : (named : Option (List ℕ)) (before between after : ℕ) → be
 loaded_all None before between after project more = more ∙ ap (count_after 1) project
 loaded_all (Some path) before between after project more = more ∙ ap (count_after 2) project
 
+-- what comes after a step that went on
+went_on : {B D : Type 0} (Wanted : Result D Refused → Type 0) (step : Result B Refused) (b : B) (next : B → Result D Refused) → step ≡ Ok b → Wanted (next b) → Wanted (step >>= next)
+went_on Wanted step b next is rest = rw is rest
+
+-- The steps to the parts of a job: what the first of them that stopped comes to, and all that went on.
+module _ (told : Option World) (text : List ℕ) (project : Project) where
+  abbrev Stops : Outcome → World → Type 0
+  Stops outcome world = Reaches (itself {A = JobParts}) (Err outcome) (parts_of (file_at world) text project)
+
+  pub no_reels : (outcome : Outcome) → Reaches (itself {A = List ReelEntry}) (Err outcome) (unless_refused refused.Reels (table_of project.reels)) → IfSome told (Stops outcome)
+  no_reels outcome is = told_all told _ (λ world. stopped itself itself outcome (unless_refused refused.Reels (table_of project.reels)) _ is)
+
+  module _ (reels : List ReelEntry) (table : unless_refused refused.Reels (table_of project.reels) ≡ Ok reels) where
+    pub no_list : (outcome : Outcome) → IfSome told (λ world. Reaches list_and_text (Err outcome) (list_in project.rate (file_at world project.edl))) → IfSome told (Stops outcome)
+    no_list outcome = told_one told _ _ (λ world is.
+        went_on (Reaches itself (Err outcome)) (unless_refused refused.Reels (table_of project.reels)) reels _ table
+        (stopped list_and_text itself outcome (list_in project.rate (file_at world project.edl)) _ is))
+
+    module _ (read : ListText) (list : IfSome told (λ world. list_in project.rate (file_at world project.edl) ≡ Ok (list_and_text read))) where
+      pub no_timeline : (outcome : Outcome) → Reaches (itself {A = RecordReel}) (Err outcome) (unless_refused refused.Timeline (timeline_of project.rate read.list)) → IfSome told (Stops outcome)
+      no_timeline outcome is = told_one told _ _ (λ world had.
+          went_on (Reaches itself (Err outcome)) (unless_refused refused.Reels (table_of project.reels)) reels _ table
+          (went_on (Reaches itself (Err outcome)) (list_in project.rate (file_at world project.edl)) (list_and_text read) _ had
+          (stopped itself itself outcome (unless_refused refused.Timeline (timeline_of project.rate read.list)) _ is))) list
+
+      module _ (timeline : RecordReel) (built : unless_refused refused.Timeline (timeline_of project.rate read.list) ≡ Ok timeline) where
+        pub no_look : (outcome : Outcome) → IfSome told (λ world. Reaches look_and_text (Err outcome) (look_in (file_at world) project.cube)) → IfSome told (Stops outcome)
+        no_look outcome = told_two told _ _ _ (λ world had is.
+            went_on (Reaches itself (Err outcome)) (unless_refused refused.Reels (table_of project.reels)) reels _ table
+            (went_on (Reaches itself (Err outcome)) (list_in project.rate (file_at world project.edl)) (list_and_text read) _ had
+            (went_on (Reaches itself (Err outcome)) (unless_refused refused.Timeline (timeline_of project.rate read.list)) timeline _ built
+            (stopped look_and_text itself outcome (look_in (file_at world) project.cube) _ is)))) list
+
+        pub all_parts : (look : LookText) (digest : List ℕ) → digest ≡ digest_of text read.text.items (look_and_text look).0
+            → IfSome told (λ world. look_in (file_at world) project.cube ≡ Ok (look_and_text look))
+            → IfSome told (λ world. parts_of (file_at world) text project ≡ Ok (record { digest = digest; project = project; reels = reels; timeline = timeline; look = look.look }))
+        all_parts look digest is = told_two told _ _ _ (λ world had looked.
+            let Comes = λ (all : Result JobParts Refused). all ≡ Ok (record { digest = digest; project = project; reels = reels; timeline = timeline; look = look.look }) in
+            went_on Comes (unless_refused refused.Reels (table_of project.reels)) reels _ table
+            (went_on Comes (list_in project.rate (file_at world project.edl)) (list_and_text read) _ had
+            (went_on Comes (unless_refused refused.Timeline (timeline_of project.rate read.list)) timeline _ built
+            (went_on Comes (look_in (file_at world) project.cube) (look_and_text look) _ looked
+            (ap (λ (d : List ℕ). Ok (record { digest = d; project = project; reels = reels; timeline = timeline; look = look.look })) (sym is)))))) list
+
 -- From the steps to the job.
 planned_without : (files : Files) (file : Option (List ℕ)) (outcome : Outcome) → MeansFile file (Err outcome) → FileHasPlanned files file (Err outcome)
 planned_without files None (outcomes.Refused (refused.NoFile absent)) is = rw is.0 refl
@@ -284,6 +355,23 @@ planned_whole files text project parts (faults.UnknownReel line) means is first 
 planned_whole files text project parts (faults.MissingFrame line reel source) means is first = (Ok project, means, rw (is, first) refl)
 planned_whole files text project parts (faults.BadFrame line reel source bad) means is first = (Ok project, means, rw (is, first) refl)
 planned_whole files text project parts (faults.Geometry line reel source) means is first = (Ok project, means, rw (is, first) refl)
+
+-- a job's refusal comes to a fault of the scan exactly where it is one
+fault_is : (fault : JobFault) → outcome_of_fault fault ≡ outcomes.SourceFault → fault ≡ faults.SourceFault
+fault_is faults.SourceFault is = refl
+fault_is faults.NoMemory is = cc
+fault_is (faults.UnknownReel line) is = cc
+fault_is (faults.MissingFrame line reel source) is = cc
+fault_is (faults.BadFrame line reel source bad) is = cc
+fault_is (faults.Geometry line reel source) is = cc
+
+pub scan_of_job : {A B : Type 0} (fault : JobFault) (outcome : Outcome) → outcome ≡ outcome_of_fault fault → ◌≡◌ {A = Result A Outcome} (Err outcome) (Err outcomes.SourceFault)
+    → ◌≡◌ {A = Result B JobFault} (Err fault) (Err faults.SourceFault)
+scan_of_job fault outcome is e = let same : outcome ≡ outcomes.SourceFault = cc in ap Err (fault_is fault (sym is ∙ same))
+
+pub job_of_scan : {A B : Type 0} (fault : JobFault) (outcome : Outcome) → outcome ≡ outcome_of_fault fault → ◌≡◌ {A = Result B JobFault} (Err fault) (Err faults.SourceFault)
+    → ◌≡◌ {A = Result A Outcome} (Err outcome) (Err outcomes.SourceFault)
+job_of_scan fault outcome is e = let same : fault ≡ faults.SourceFault = cc in ap Err (is ∙ ap outcome_of_fault same)
 
 pub no_project : (told : Option World) (path : List ℕ) (outcome : Outcome) → IfSome told (λ world. MeansFile (file_at world path) (Err outcome))
     → IfSome told (λ world. HasPlanned (file_at world) path (Err outcome))

@@ -21,11 +21,6 @@ use Rattle.outcome_line.specs.declared.outcome.Outcome.TheVariants as outcomes
 use Rattle.project_run.specs.Crew.{HasFailed, HasFirstLoaded, IsCrewJobRun, IsCrewReply, IsUncrewed, told_by}
 use Rattle.project_run.specs.Run.{DiskState, IsReplyOf}
 
--- what follows in each case of a result
-pub match_each : {A B : Type 0} (r : Result A B) (P P' : A → Type 0) (Q Q' : B → Type 0) → MatchResult r P Q → ((a : A) → P a → P' a) → ((b : B) → Q b → Q' b) → MatchResult r P' Q'
-match_each (Ok a) P P' Q Q' is first second = first a is
-match_each (Err b) P P' Q Q' is first second = second b is
-
 -- an error is the same error of another result
 same_error : {A : Type 0} (a b : Outcome) → ◌≡◌ {A = Result A Outcome} (Err a) (Err b) → a ≡ b
 same_error a b same = cc

@@ -1,5 +1,5 @@
 -- From a run of a job to its reply.
-use Rattle.std.proofs.Common.{◌≡◌, ℕ, ◌+◌, ◌<◌, List, length, Option, Some, None, Ok, IfSome, refl, subst, inl, inr}
+use Rattle.std.proofs.Common.{◌≡◌, ℕ, ◌+◌, ◌<◌, List, length, Option, Some, None, Ok, Err, IfSome, MatchResult, Result, refl, subst, inl, inr}
 use Rattle.std.specs.Prelude.{Bool, ◌⊎◌}
 use Rattle.std.proofs.lemmas.Option.{slice_get_cases}
 use Rattle.cf_base.specs.declared.key.Key.{Key}
@@ -20,6 +20,11 @@ use Rattle.project_run.specs.Run.{DiskState, IsKnown, IsOfRun, IsJobRun, IsRunRe
 use Rattle.project_run.specs.Status.{IsStatus, IsStatusReply}
 use Rattle.outcome_line.specs.declared.outcome.Outcome.{Outcome}
 use Rattle.outcome_line.specs.declared.outcome.Outcome.TheVariants as outcomes
+
+-- what follows in each case of a result
+pub match_each : {A B : Type 0} (r : Result A B) (P P' : A → Type 0) (Q Q' : B → Type 0) → MatchResult r P Q → ((a : A) → P a → P' a) → ((b : B) → Q b → Q' b) → MatchResult r P' Q'
+match_each (Ok a) P P' Q Q' is first second = first a is
+match_each (Err b) P P' Q Q' is first second = second b is
 
 -- a key that has a path is of a reel in the table
 pub in_table : (entries : List ReelEntry) (key : Key) (path : List ℕ) → Some path ≡ path_of_key entries key → key.reel < length entries

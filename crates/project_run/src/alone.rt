@@ -48,10 +48,10 @@ pub fn run<S: Scans, D: Disk>(
         Ok(job) => job,
         Err(outcome) => return Err(outcome),
     };
-    match run_job(alloc, &job, share, scan, disk) {
-        Ok(text) => Ok(text),
-        Err(outcome) => Err(outcome),
-    }
+    let reply = run_job(alloc, &job, share, scan, disk);
+    // By a call: a job that falls out of scope is dropped part by part, here and in each proof.
+    drop(job);
+    reply
 }
 
 /// The report of a run of a job, or the outcome that was reached.

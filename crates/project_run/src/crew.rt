@@ -69,7 +69,10 @@ pub fn run_crewed<S: Scans + Send, D: Disk + Send, R: Threads + Wait + Sync>(
             };
         }
     };
-    run_job(rt, alloc, &job, workers, share, scans, disk)
+    let ended = run_job(rt, alloc, &job, workers, share, scans, disk);
+    // By a call, as in a run on one thread.
+    drop(job);
+    ended
 }
 
 /// The report of a run of a job by so many workers, or the outcome that was reached.

@@ -5,10 +5,10 @@ ghost use Rattle.outcome_line.specs.Output.{line_of};
 ghost use Rattle.project_run.specs.Run.{IsOfRun, disk_state};
 ghost use Rattle.project_run.specs.Status.{IsStatus, IsStatusReply, outcome_of_peek, status_text};
 
+use crate::report::put_count;
 use cf_base::PathText;
 use conform_job::Job;
 use outcome_line::Outcome;
-use printed_text::{put_bytes, put_number};
 use project_job::planned;
 use reel_disk::Disk;
 use resume_ledger::{Ledger, OpenFault};
@@ -45,10 +45,10 @@ pub fn status<S: Scans, D: Disk>(
         Ok(job) => job,
         Err(outcome) => return Err(outcome),
     };
-    match status_of(alloc, &job, disk) {
-        Ok(text) => Ok(text),
-        Err(outcome) => Err(outcome),
-    }
+    let reply = status_of(alloc, &job, disk);
+    // By a call, as in a run.
+    drop(job);
+    reply
 }
 
 /// How many frames of a job the reel folder acknowledges, or the outcome that was reached.
@@ -90,10 +90,7 @@ fn status_text(alloc: Global, frames: u32, acked: u32) -> Result<Vec<u8>, AllocE
     ensures { IfOk result (λ text. text.items ≡ status_text frames acked) }
 {
     let mut text = Vec::new(alloc);
-    put_bytes(&mut text, b"frames ")?;
-    put_number(&mut text, frames)?;
-    put_bytes(&mut text, b"\nacknowledged ")?;
-    put_number(&mut text, acked)?;
-    put_bytes(&mut text, b"\n")?;
+    put_count(&mut text, b"frames", frames)?;
+    put_count(&mut text, b"acknowledged", acked)?;
     Ok(text)
 }

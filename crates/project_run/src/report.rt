@@ -1,7 +1,8 @@
 //! What a run of a job comes to: its report, or an outcome.
-ghost use Rattle.std.specs.Prelude.{◌≡◌, ◌↔◌, Some, Err, IfOk, MatchResult};
+ghost use Rattle.std.specs.Prelude.{◌≡◌, ◌↔◌, [], ◌∷◌, ◌++◌, Some, Err, IfOk, OnOk, MatchResult, decimal};
 ghost use Rattle.conform_job.specs.Keys.{info_at};
 ghost use Rattle.outcome_line.specs.Output.{line_of};
+ghost use Rattle.printed_text.specs.Text.{spaced_line};
 ghost use Rattle.project_run.specs.Run.{IsKnown, IsOfRun, IsReplyOf, name_in, outcome_of_end, run_text};
 ghost use Rattle.outcome_line.specs.declared.outcome.Outcome.TheVariants as outcomes;
 
@@ -43,14 +44,20 @@ fn run_text(alloc: Global, report: &Report) -> Result<Vec<u8>, AllocError>
     ensures { IfOk result (λ text. text.items ≡ run_text report.now) }
 {
     let mut text = Vec::new(alloc);
-    put_bytes(&mut text, b"frames ")?;
-    put_number(&mut text, report.frames)?;
-    put_bytes(&mut text, b"\nkept ")?;
-    put_number(&mut text, report.kept)?;
-    put_bytes(&mut text, b"\nrendered ")?;
-    put_number(&mut text, report.rendered)?;
-    put_bytes(&mut text, b"\n")?;
+    put_count(&mut text, b"frames", report.frames)?;
+    put_count(&mut text, b"kept", report.kept)?;
+    put_count(&mut text, b"rendered", report.rendered)?;
     Ok(text)
+}
+
+/// Appends a line: what is counted, and how many there are.
+pub(crate) fn put_count(text: &mut Vec<u8>, word: &[u8], count: u32) -> Result<(), AllocError>
+    ensures { OnOk result (text.new.items ≡ text.old.items ++ spaced_line (word.now ∷ decimal count ∷ [])) }
+{
+    put_bytes(text, word)?;
+    put_bytes(text, b" ")?;
+    put_number(text, count)?;
+    put_bytes(text, b"\n")
 }
 
 /// The outcome of a run that ended so.

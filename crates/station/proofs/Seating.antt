@@ -1,10 +1,44 @@
 -- Seats and their marks, handed out and taken in.
-use Rattle.std.proofs.Common.{List, length, get_or, map, ◌++◌, take, drop, subst, sym, ◌∙◌, ◌<◌, ◌≤◌, All, ◌≡◌, ℕ, ◌+◌, ap, arith}
+use Rattle.std.proofs.Common.{List, [], ◌∷◌, length, get_or, map, ◌++◌, append_assoc, take, drop, subst, sym, ◌∙◌, ◌<◌, ◌≤◌, All, ◌≡◌, ℕ, ◌+◌, ◌*◌, ◌^◌, ap, arith, refl}
 use Rattle.std.proofs.Math.ListN.{get_or-map}
-use Rattle.std.proofs.lemmas.List.{length-map, take-append-le, take_all}
-use Rattle.shared_station.specs.Marks.{Tallies, fresh, joined}
-use Rattle.station.specs.Seats.{HasGiven, IsOnePart}
+use Rattle.std.proofs.Math.Seq.{get_or-append_seam}
+use Rattle.std.proofs.lemmas.List.{append-nil, length-append, length-map, nil_from_length, take-append-le, take_all}
+use Rattle.shared_station.specs.Marks.{HasMoreThan, Tallies, fresh, joined}
+use Rattle.station.specs.Seats.{HasGiven, HasTaken, IsOnePart}
 use Rattle.station.specs.Worked.{KeepsParts}
+
+-- A loop that takes its items out of a list: the next one is of that list, and at the end all of them came.
+pub not_all_came : {X : Type 0} (all came left rest : List X) (x : X) → came ++ left ≡ all → left ≡ x ∷ rest → length came < length all
+not_all_came all came left rest x whole next = omega (arith, ap length (ap (λ (l : List _). came ++ l) (sym next) ∙ whole), length-append came (x ∷ rest))
+
+pub item_of : {X : Type 0} (P : X → Type 0) (all came left rest : List X) (x : X) → came ++ left ≡ all → left ≡ x ∷ rest → All P all → P x
+item_of P all came left rest x whole next here =
+    let e : came ++ x ∷ rest ≡ all = ap (λ (l : List _). came ++ l) (sym next) ∙ whole in
+    subst P (ap (λ (l : List _). get_or l (length came) x) (sym e) ∙ get_or-append_seam came x rest x) (here (length came) x (not_all_came all came left rest x whole next))
+
+pub more_came : {X : Type 0} (all came left rest : List X) (x : X) → came ++ left ≡ all → left ≡ x ∷ rest → (came ++ x ∷ []) ++ rest ≡ all
+more_came all came left rest x whole next = append_assoc came (x ∷ []) rest ∙ ap (λ (l : List _). came ++ l) (sym next) ∙ whole
+
+pub all_came : {X : Type 0} (all came left : List X) (n : ℕ) → came ++ left ≡ all → n ≡ length left → n ≡ 0 → came ≡ all
+all_came all came left n whole size none = sym (append-nil came) ∙ ap (λ (l : List _). came ++ l) (sym (nil_from_length left (sym size ∙ none))) ∙ whole
+
+pub has_room : (len cap room came all size : ℕ) → len ≡ came → cap ≡ room → came < all → size ≡ all → size ≤ room → len < cap
+has_room len cap room came all size is same within e fits = omega arith
+
+-- 16 seats with at most 2^21 loads each
+pub few_loads : (loads more came all : ℕ) → loads ≤ 2097152 * came → more ≤ 2097152 → came < all → all ≤ 16 → loads + more < 2 ^ 64
+few_loads loads more came all few lent within most = omega arith
+
+pub next_number : (number came all size : ℕ) → number ≡ came → came < all → size ≡ all → size ≤ 16 → number + 1 < 2 ^ 16
+next_number number came all size is within e few = omega arith
+
+pub more_left : (before now : Tallies) (n all size : ℕ) → HasGiven before n now → HasMoreThan size before → n < all → size ≡ all → HasMoreThan 1 now
+more_left before now n all size given parts within e = record {
+  source = omega (arith, given.source.0, parts.source);
+  disk = omega (arith, given.disk.0, parts.disk);
+  memory = omega (arith, given.memory.0, parts.memory);
+  changed = omega (arith, given.changed.0, parts.changed);
+}
 
 pub given_more : (before now next out : Tallies) (n m : ℕ) → HasGiven before n now → out ≡ fresh → joined next out ≡ now → m ≡ n + 1 → HasGiven before m next
 given_more before now next out n m h is all more =
@@ -15,6 +49,14 @@ given_more before now next out n m h is all more =
       memory = (omega (arith, ap (λ (x : Tallies). x.memory.parts) e, h.memory.0, more), omega (arith, ap (λ (x : Tallies). x.memory.amount) e, h.memory.1));
       changed = (omega (arith, ap (λ (x : Tallies). x.changed.parts) e, h.changed.0, more), omega (arith, ap (λ (x : Tallies). x.changed.amount) e, h.changed.1));
     }
+
+pub taken_more : (before now next other : Tallies) (n m : ℕ) → HasTaken before n now → IsOnePart other → next ≡ joined now other → m ≡ n + 1 → HasTaken before m next
+taken_more before now next other n m h one is more = record {
+  source = omega (arith, ap (λ (x : Tallies). x.source.parts) is, h.source, one.source, more);
+  disk = omega (arith, ap (λ (x : Tallies). x.disk.parts) is, h.disk, one.disk, more);
+  memory = omega (arith, ap (λ (x : Tallies). x.memory.parts) is, h.memory, one.memory, more);
+  changed = omega (arith, ap (λ (x : Tallies). x.changed.parts) is, h.changed, one.changed, more);
+}
 
 -- a fact of each scan, at the seats
 pub all_at : (X Y : Type 0) (f : X → Y) (P : Y → Type 0) (xs : List X) (ys : List Y) → map f xs ≡ ys → All P ys → All (λ x. P (f x)) xs

@@ -1,4 +1,5 @@
 pub mod LatticeLemmas
+pub mod OrderLemmas
 pub mod SpotLemmas
 pub mod WayLemmas
 mod Rows

@@ -1,5 +1,5 @@
 -- The front of the list's file stands for the file.
-use Rattle.project_job.proofs.Projects.{list_had, list_refused, list_missing}
+use Rattle.project_job.proofs.Projects.{err_as, no_err, memory_apart, refused_apart, list_had, list_refused, list_missing}
 use Rattle.project_job.proofs.project.list_in.Goals as goal
 
 pub returns-in-Ok-read_list-clause-told : goal.returns-in-Ok-read_list-clause-told
@@ -14,3 +14,27 @@ returns-in-Err-Fault-clause-told g c =
 
 pub returns-in-Err-clause-told : goal.returns-in-Err-clause-told
 returns-in-Err-clause-told g c = list_missing (g.S.Scans.world c.args.scan.now) c.args.rate c.args.path.now c.in-Err.outcome c.in-Err.ensures.told
+
+pub returns-in-Err-clause-failed : goal.returns-in-Err-clause-failed
+returns-in-Err-clause-failed g c e = c.in-Err.ensures.failed (err_as _ _ e)
+
+pub returns-in-Err-clause-steady : goal.returns-in-Err-clause-steady
+returns-in-Err-clause-steady g c other = c.in-Err.ensures.steady (λ e. other (err_as _ _ e))
+
+pub returns-in-Ok-read_list-clause-failed : goal.returns-in-Ok-read_list-clause-failed
+returns-in-Ok-read_list-clause-failed g c e = absurd (no_err _ _ e)
+
+pub returns-in-Ok-read_list-clause-steady : goal.returns-in-Ok-read_list-clause-steady
+returns-in-Ok-read_list-clause-steady g c other = c.in-Ok.ensures.steady (no_err _ _)
+
+pub returns-in-Err-Fault-clause-failed : goal.returns-in-Err-Fault-clause-failed
+returns-in-Err-Fault-clause-failed g c e = absurd (refused_apart _ e)
+
+pub returns-in-Err-Fault-clause-steady : goal.returns-in-Err-Fault-clause-steady
+returns-in-Err-Fault-clause-steady g c other = c.in-Ok.ensures.steady (no_err _ _)
+
+pub returns-clause-failed : goal.returns-clause-failed
+returns-clause-failed g c e = absurd (memory_apart e)
+
+pub returns-clause-steady : goal.returns-clause-steady
+returns-clause-steady g c other = c.in-Ok.ensures.steady (no_err _ _)

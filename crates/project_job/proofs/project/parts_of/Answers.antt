@@ -1,10 +1,59 @@
--- The list and the cube are loaded.
-use Rattle.project_job.proofs.Projects.{loaded_both}
+-- The steps to the parts of a job, one after another; the list and the cube are loaded.
+use Rattle.std.proofs.Common.{◌∙◌}
+use Rattle.project_job.proofs.Projects.{loaded_both, err_as, no_err, no_reels, no_list, no_timeline, no_look, all_parts}
 use Rattle.project_job.proofs.project.parts_of.Goals as goal
+
+pub returns-in-Err-clause-told : goal.returns-in-Err-clause-told
+returns-in-Err-clause-told g c = no_reels (g.S.Scans.world c.args.scan.now) c.args.text.now c.args.project c.in-Err.outcome c.in-Err.ensures.table
+
+pub returns-in-Err-clause-failed : goal.returns-in-Err-clause-failed
+returns-in-Err-clause-failed g c e = absurd (c.in-Err.ensures.not_the_scan (err_as _ _ e))
+
+pub returns-in-Err-list_in-clause-told : goal.returns-in-Err-list_in-clause-told
+returns-in-Err-list_in-clause-told g c =
+    no_list (g.S.Scans.world c.args.scan.now) c.args.text.now c.args.project c.in-Ok.reels c.in-Ok.ensures.table c.in-Err-list_in.outcome c.in-Err-list_in.ensures.told
+
+pub returns-in-Err-list_in-clause-failed : goal.returns-in-Err-list_in-clause-failed
+returns-in-Err-list_in-clause-failed g c e = c.in-Err-list_in.ensures.failed (err_as _ _ e)
+
+pub returns-in-Err-list_in-clause-steady : goal.returns-in-Err-list_in-clause-steady
+returns-in-Err-list_in-clause-steady g c other = c.in-Err-list_in.ensures.steady (λ e. other (err_as _ _ e))
+
+pub returns-in-Err-timeline_of-clause-told : goal.returns-in-Err-timeline_of-clause-told
+returns-in-Err-timeline_of-clause-told g c =
+    no_timeline (g.S.Scans.world c.args.scan.now) c.args.text.now c.args.project c.in-Ok.reels c.in-Ok.ensures.table c.in-Ok-list_in.read c.in-Ok-list_in.ensures.told c.in-Err-timeline_of.outcome c.in-Err-timeline_of.ensures.timeline
+
+pub returns-in-Err-timeline_of-clause-failed : goal.returns-in-Err-timeline_of-clause-failed
+returns-in-Err-timeline_of-clause-failed g c e = absurd (c.in-Err-timeline_of.ensures.not_the_scan (err_as _ _ e))
+
+pub returns-in-Err-timeline_of-clause-steady : goal.returns-in-Err-timeline_of-clause-steady
+returns-in-Err-timeline_of-clause-steady g c other = c.in-Ok-list_in.ensures.steady (no_err _ _)
+
+pub returns-in-Err-look_in-clause-told : goal.returns-in-Err-look_in-clause-told
+returns-in-Err-look_in-clause-told g c =
+    no_look (g.S.Scans.world c.args.scan.now) c.args.text.now c.args.project c.in-Ok.reels c.in-Ok.ensures.table c.in-Ok-list_in.read c.in-Ok-list_in.ensures.told c.in-Ok-timeline_of.timeline c.in-Ok-timeline_of.ensures.timeline
+    c.in-Err-look_in.outcome (rw c.in-Ok-list_in.ensures.world at c.in-Err-look_in.ensures.told)
+
+pub returns-in-Err-look_in-clause-failed : goal.returns-in-Err-look_in-clause-failed
+returns-in-Err-look_in-clause-failed g c e = rw (c.in-Ok-list_in.ensures.steady (no_err _ _)) at (c.in-Err-look_in.ensures.failed (err_as _ _ e))
+
+pub returns-in-Err-look_in-clause-steady : goal.returns-in-Err-look_in-clause-steady
+returns-in-Err-look_in-clause-steady g c other = c.in-Err-look_in.ensures.steady (λ e. other (err_as _ _ e)) ∙ c.in-Ok-list_in.ensures.steady (no_err _ _)
 
 pub returns-in-Err-look_in-clause-loads : goal.returns-in-Err-look_in-clause-loads
 returns-in-Err-look_in-clause-loads g c =
     loaded_both c.args.project.cube (g.S.Scans.loads c.args.scan.now) _ _ c.in-Ok-list_in.ensures.loads c.in-Err-look_in.ensures.loads
+
+pub returns-clause-told : goal.returns-clause-told
+returns-clause-told g c =
+    all_parts (g.S.Scans.world c.args.scan.now) c.args.text.now c.args.project c.in-Ok.reels c.in-Ok.ensures.table c.in-Ok-list_in.read c.in-Ok-list_in.ensures.told c.in-Ok-timeline_of.timeline c.in-Ok-timeline_of.ensures.timeline
+    c.in-Ok-look_in.read c.job_digest.result (rw (c.as_deref.ensures.value, c.deref.ensures.value) at c.job_digest.ensures) (rw c.in-Ok-list_in.ensures.world at c.in-Ok-look_in.ensures.told)
+
+pub returns-clause-failed : goal.returns-clause-failed
+returns-clause-failed g c e = absurd (no_err _ _ e)
+
+pub returns-clause-steady : goal.returns-clause-steady
+returns-clause-steady g c other = c.in-Ok-look_in.ensures.steady (no_err _ _) ∙ c.in-Ok-list_in.ensures.steady (no_err _ _)
 
 pub returns-clause-loads : goal.returns-clause-loads
 returns-clause-loads g c =

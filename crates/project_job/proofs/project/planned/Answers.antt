@@ -3,7 +3,7 @@ use Rattle.std.proofs.Common.{◌+◌, sym, ap, ◌∙◌}
 use Rattle.conform_job.specs.Answers.{count_after}
 use Rattle.conform_job.specs.declared.parts.JobParts.{JobParts}
 use Rattle.project_job.specs.Jobs.{cube_count}
-use Rattle.project_job.proofs.Projects.{no_project, no_parts, no_job, a_job, loaded_first, loaded_all}
+use Rattle.project_job.proofs.Projects.{no_project, no_parts, no_job, a_job, loaded_first, loaded_all, err_as, no_err, scan_of_job, job_of_scan}
 use Rattle.project_job.proofs.project.planned.Goals as goal
 
 pub returns-in-Err-clause-told : goal.returns-in-Err-clause-told
@@ -41,3 +41,29 @@ returns-clause-loads g c =
 pub returns-in-Ok-plan-clause-loaded : goal.returns-in-Ok-plan-clause-loaded
 returns-in-Ok-plan-clause-loaded g c = loaded_all c.in-Ok-plan.job.parts.project.cube (g.S.Scans.loads c.args.scan.now) _ _ c.in-Ok.ensures.loads
     (c.in-Ok-plan.ensures.loads ∙ c.in-Ok-parts_of.ensures.loaded ∙ ap (λ (parts : JobParts). count_after (1 + cube_count parts.project.cube) (g.S.Scans.loads c.project_in.new.scan)) (sym c.in-Ok-plan.ensures.job.0))
+
+pub returns-in-Err-clause-failed : goal.returns-in-Err-clause-failed
+returns-in-Err-clause-failed g c e = c.in-Err.ensures.failed (err_as _ _ e)
+
+pub returns-in-Err-clause-steady : goal.returns-in-Err-clause-steady
+returns-in-Err-clause-steady g c other = c.in-Err.ensures.steady (λ e. other (err_as _ _ e))
+
+pub returns-in-Err-parts_of-clause-failed : goal.returns-in-Err-parts_of-clause-failed
+returns-in-Err-parts_of-clause-failed g c e = rw (c.in-Ok.ensures.steady (no_err _ _)) at (c.in-Err-parts_of.ensures.failed (err_as _ _ e))
+
+pub returns-in-Err-parts_of-clause-steady : goal.returns-in-Err-parts_of-clause-steady
+returns-in-Err-parts_of-clause-steady g c other = c.in-Err-parts_of.ensures.steady (λ e. other (err_as _ _ e)) ∙ c.in-Ok.ensures.steady (no_err _ _)
+
+pub returns-in-Ok-plan-clause-failed : goal.returns-in-Ok-plan-clause-failed
+returns-in-Ok-plan-clause-failed g c e = absurd (no_err _ _ e)
+
+pub returns-in-Ok-plan-clause-steady : goal.returns-in-Ok-plan-clause-steady
+returns-in-Ok-plan-clause-steady g c other = c.in-Ok-plan.ensures.steady (no_err _ _) ∙ c.in-Ok-parts_of.ensures.steady (no_err _ _) ∙ c.in-Ok.ensures.steady (no_err _ _)
+
+pub returns-clause-failed : goal.returns-clause-failed
+returns-clause-failed g c e =
+    rw (c.in-Ok-parts_of.ensures.steady (no_err _ _), c.in-Ok.ensures.steady (no_err _ _)) at (c.in-Err-plan.ensures.failed (scan_of_job c.in-Err-plan.fault _ c.refused_job.ensures e))
+
+pub returns-clause-steady : goal.returns-clause-steady
+returns-clause-steady g c other = c.in-Err-plan.ensures.steady (λ e. other (job_of_scan c.in-Err-plan.fault _ c.refused_job.ensures e))
+    ∙ c.in-Ok-parts_of.ensures.steady (no_err _ _) ∙ c.in-Ok.ensures.steady (no_err _ _)

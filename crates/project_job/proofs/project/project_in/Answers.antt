@@ -1,5 +1,5 @@
 -- The front of the project's file stands for the file.
-use Rattle.project_job.proofs.Projects.{project_had, project_refused}
+use Rattle.project_job.proofs.Projects.{err_as, no_err, memory_apart, refused_apart, project_had, project_refused}
 use Rattle.project_job.proofs.project.project_in.Goals as goal
 
 pub returns-in-Ok-read_project-clause-told : goal.returns-in-Ok-read_project-clause-told
@@ -11,3 +11,27 @@ pub returns-in-Err-Fault-clause-told : goal.returns-in-Err-Fault-clause-told
 returns-in-Err-Fault-clause-told g c =
     project_refused (g.S.Scans.world c.args.scan.now) c.args.path.now c.in-Ok.front c.in-Err-Fault.fault c.in-Ok.ensures.told
     (rw (c.in-Err-Fault.field-0-is, c.deref.ensures.value) at c.in-Err-Fault.ensures.project)
+
+pub returns-in-Err-clause-failed : goal.returns-in-Err-clause-failed
+returns-in-Err-clause-failed g c e = c.in-Err.ensures.failed (err_as _ _ e)
+
+pub returns-in-Err-clause-steady : goal.returns-in-Err-clause-steady
+returns-in-Err-clause-steady g c other = c.in-Err.ensures.steady (λ e. other (err_as _ _ e))
+
+pub returns-in-Ok-read_project-clause-failed : goal.returns-in-Ok-read_project-clause-failed
+returns-in-Ok-read_project-clause-failed g c e = absurd (no_err _ _ e)
+
+pub returns-in-Ok-read_project-clause-steady : goal.returns-in-Ok-read_project-clause-steady
+returns-in-Ok-read_project-clause-steady g c other = c.in-Ok.ensures.steady (no_err _ _)
+
+pub returns-in-Err-Fault-clause-failed : goal.returns-in-Err-Fault-clause-failed
+returns-in-Err-Fault-clause-failed g c e = absurd (refused_apart _ e)
+
+pub returns-in-Err-Fault-clause-steady : goal.returns-in-Err-Fault-clause-steady
+returns-in-Err-Fault-clause-steady g c other = c.in-Ok.ensures.steady (no_err _ _)
+
+pub returns-clause-failed : goal.returns-clause-failed
+returns-clause-failed g c e = absurd (memory_apart e)
+
+pub returns-clause-steady : goal.returns-clause-steady
+returns-clause-steady g c other = c.in-Ok.ensures.steady (no_err _ _)

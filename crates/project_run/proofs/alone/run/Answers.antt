@@ -1,17 +1,13 @@
 -- The project comes to its job, which is run in the folder.
 use Rattle.std.proofs.Common.{◌∙◌, inr, refl, arith}
-use Rattle.project_run.proofs.Runs.{of_job, run_in}
+use Rattle.project_run.proofs.Runs.{match_each, of_job, run_in}
 use Rattle.project_run.proofs.alone.run.Goals as goal
-
-pub returns-in-Ok-run_job-clause-folder : goal.returns-in-Ok-run_job-clause-folder
-returns-in-Ok-run_job-clause-folder g c =
-    let job = c.in-Ok.ensures in
-    run_in c.in-Ok.job _ (g.S.Scans.world c.args.scan.now) c.args.path.now _ _ (g.S.Scans.loads c.args.scan.now) _ _ _ _ job.world job.told job.loaded c.in-Ok-run_job.ensures.ran
 
 pub returns-clause-folder : goal.returns-clause-folder
 returns-clause-folder g c =
     let job = c.in-Ok.ensures in
-    run_in c.in-Ok.job _ (g.S.Scans.world c.args.scan.now) c.args.path.now _ _ (g.S.Scans.loads c.args.scan.now) _ _ _ _ job.world job.told job.loaded c.in-Err-run_job.ensures.ran
+    let reply = run_in c.in-Ok.job (g.S.Scans.world c.planned.new.scan) (g.S.Scans.world c.args.scan.now) c.args.path.now _ _ (g.S.Scans.loads c.args.scan.now) (g.S.Scans.loads c.planned.new.scan) _ in
+    match_each _ _ _ _ _ c.run_job-reply.ensures.ran (λ text ran. reply _ _ job.world job.told job.loaded ran) (λ outcome ran. reply _ _ job.world job.told job.loaded ran)
 
 pub returns-in-Err-clause-folder : goal.returns-in-Err-clause-folder
 returns-in-Err-clause-folder g c =

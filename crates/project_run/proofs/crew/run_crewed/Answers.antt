@@ -1,6 +1,7 @@
 -- The project comes to its job, which a crew runs in the folder.
 use Rattle.std.proofs.Common.{◌≡◌, ◌<◌, ◌∙◌, get_or, length, rules, sym}
-use Rattle.project_run.proofs.Crews.{all_tell, crewed, error_as, failed_before, failed_first, first_loaded, match_each, still_tell, uncrewed}
+use Rattle.project_run.proofs.Crews.{all_tell, crewed, error_as, failed_before, failed_first, first_loaded, still_tell, uncrewed}
+use Rattle.project_run.proofs.Runs.{match_each}
 use Rattle.project_run.proofs.crew.run_crewed.Goals as goal
 
 pub returns-in-Err-clause-reply : goal.returns-in-Err-clause-reply
@@ -17,8 +18,8 @@ returns-in-Err-clause-failed g c is =
     let first : get_or c.args.scans.items 0 c.index_mut.result.now ≡ c.index_mut.result.now = search rules in
     failed_first g.S.Scans.world g.S.Scans.faults g.S.Scans.loads g.S.Scans.same c.planned.new.scan c.args.scans.items c.index_mut.result.now some first (c.in-Err.ensures.failed (error_as _ _ is))
 
-pub run_job-requires-clause-one_world : goal.run_job-requires-clause-one_world
-run_job-requires-clause-one_world g c κs within =
+pub run_job-ended-requires-clause-one_world : goal.run_job-ended-requires-clause-one_world
+run_job-ended-requires-clause-one_world g c κs within =
     let some : 0 < length c.args.scans.items = search rules in
     let first : get_or c.args.scans.items 0 c.index_mut.result.now ≡ c.index_mut.result.now = search rules in
     still_tell g.S.Scans.world g.S.Scans.faults g.S.Scans.loads g.S.Scans.same c.planned.new.scan c.args.scans.items c.index_mut.result.now some first c.planned.ensures.world
@@ -31,10 +32,10 @@ returns-clause-reply g c =
     let job = c.in-Ok.ensures in
     let texts = first_loaded g.S.Scans.world g.S.Scans.faults g.S.Scans.loads g.S.Scans.same c.planned.new.scan _ c.args.scans.items c.index_mut.result.now some first job.loaded (job.steady (λ is. cc)) job.world job.same in
     let reply = crewed g.S.Scans.world g.S.Scans.faults g.S.Scans.loads g.S.Scans.same c.planned.new.scan c.in-Ok.job c.args.path.now c.args.workers c.args.scans.items _ c.index_mut.result.now _ _ in
-    match_each _ _ _ _ _ c.run_job.ensures.ran (λ text ran. reply _ _ some first job.told job.world texts ran) (λ outcome ran. reply _ _ some first job.told job.world texts ran)
+    match_each _ _ _ _ _ c.run_job-ended.ensures.ran (λ text ran. reply _ _ some first job.told job.world texts ran) (λ outcome ran. reply _ _ some first job.told job.world texts ran)
 
 pub returns-clause-failed : goal.returns-clause-failed
 returns-clause-failed g c is =
     let some : 0 < length c.args.scans.items = search rules in
     let first : get_or c.args.scans.items 0 c.index_mut.result.now ≡ c.index_mut.result.now = search rules in
-    failed_before g.S.Scans.world g.S.Scans.faults g.S.Scans.loads g.S.Scans.same c.planned.new.scan c.args.scans.items _ c.index_mut.result.now some first (c.in-Ok.ensures.steady (λ is. cc)) (c.run_job.ensures.failed is)
+    failed_before g.S.Scans.world g.S.Scans.faults g.S.Scans.loads g.S.Scans.same c.planned.new.scan c.args.scans.items _ c.index_mut.result.now some first (c.in-Ok.ensures.steady (λ is. cc)) (c.run_job-ended.ensures.failed is)

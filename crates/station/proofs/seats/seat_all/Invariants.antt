@@ -1,4 +1,4 @@
-use Rattle.std.proofs.Common.{◌≡◌, All, length, map, false, vec_len, vec_capacity}
+use Rattle.std.proofs.Common.{◌≡◌, ◌++◌, All, length, map, false, vec_len, vec_capacity}
 use Rattle.shared_station.specs.Marks.{fresh}
 use Rattle.station.specs.Seats.{HasGiven}
 use Rattle.station.proofs.seats.seat_all.Given as goal
@@ -7,6 +7,7 @@ abbrev pub invariant-loop-scan : goal.invariant-loop-scan
 invariant-loop-scan g l = record {
   can : (goal.iterator-loop-scan g).can_next l.scan-iterator;
   ends : (goal.iterator-loop-scan g).is_finite l.scan-iterator;
+  left : l.yielded ++ l.scan-iterator.rest.items ≡ l.initial.scan-iterator.rest.items;
   number : l.number ≡ length l.yielded;
   capacity : vec_capacity l.seats ≡ vec_capacity l.initial.seats;
   len : vec_len l.seats ≡ length l.yielded;

@@ -1,4 +1,4 @@
-use Rattle.std.proofs.Common.{◌≡◌, ◌+◌, ◌*◌, ◌≤◌, length, map, vec_len, vec_capacity}
+use Rattle.std.proofs.Common.{◌≡◌, ◌+◌, ◌*◌, ◌≤◌, ◌++◌, length, map, vec_len, vec_capacity}
 use Rattle.std.specs.Prelude.{sum_by}
 use Rattle.station.specs.Seats.{HasTaken}
 use Rattle.station.proofs.seats.unseat.Given as goal
@@ -7,6 +7,7 @@ abbrev pub invariant-loop-seat : goal.invariant-loop-seat
 invariant-loop-seat g l = record {
   can : (goal.iterator-loop-seat g).can_next l.seat-iterator;
   ends : (goal.iterator-loop-seat g).is_finite l.seat-iterator;
+  left : l.yielded ++ l.seat-iterator.rest.items ≡ l.initial.seat-iterator.rest.items;
   capacity : vec_capacity l.scans ≡ vec_capacity l.initial.scans;
   len : vec_len l.scans ≡ length l.yielded;
   scans : l.scans.items ≡ map (λ s. s.scan) l.yielded;
