@@ -9,6 +9,7 @@ use Rattle.cf_base.specs.declared.file.FileId.{FileId}
 use Rattle.scan_source.specs.Plan.{one_more}
 use Rattle.scan_source.specs.World.{World}
 use Rattle.conform_job.specs.Job.{JobData}
+use Rattle.frame_share.specs.declared.step.ShareStep.{ShareStep}
 use Rattle.reel_disk.specs.Disk.{Files, History, moment_of, view_of}
 use Rattle.reel_disk.specs.Runs.{Surely}
 use Rattle.reel_disk.proofs.Images.{view_is_image}
@@ -60,8 +61,8 @@ module _ {D : Type 0} (job : JobData) (tells : Bool) (history : D → History) (
         (λ acks. (opened k).0 ((view_acked k).0 acks), λ was. (view_acked k).1 ((opened k).1 was))
 
 -- at Done every frame is among those that were acknowledged and those that were finished
-pub all_done : (job : JobData) (gates : List Bool) (acks : List ℕ) (rendered loads : ℕ) → WereFinished job gates Done rendered loads → acks ≡ take rendered (closed_frames gates (frames_of job)) → (i : ℕ) → i < frames_of job → (get_or gates i false ≡ true) ⊎ Contains acks i
-all_done job gates acks rendered loads finished is i within = by (get_or gates i false) refl
+pub all_done : (job : JobData) (gates : List Bool) (acks : List ℕ) (rendered : ℕ) (log : List ShareStep) → WereFinished job gates Done rendered log → acks ≡ take rendered (closed_frames gates (frames_of job)) → (i : ℕ) → i < frames_of job → (get_or gates i false ≡ true) ⊎ Contains acks i
+all_done job gates acks rendered log finished is i within = by (get_or gates i false) refl
   where
     whole : take rendered (closed_frames gates (frames_of job)) ≡ closed_frames gates (frames_of job)
     whole = ap (λ n. take n (closed_frames gates (frames_of job))) (finished.all refl) ∙ taken gates (frames_of job) (frames_of job) (omega arith)

@@ -1,7 +1,9 @@
 pub mod Asking
 pub mod Closing
+pub mod Determined
 pub mod Fetching
 mod Heads
+pub mod Logs
 mod Rows
 pub mod Running
 pub mod Scanning

@@ -1,44 +1,38 @@
 -- What is known where a run over the frames ends.
-use Rattle.std.proofs.Common.{◌≡◌, ◌≢◌, inl, inr, ℕ, suc, ◌+◌, ◌-◌, ◌<◌, ◌≤◌, Bool, true, false, List, [], ◌++◌, length, take, get_or, refl, sym, ◌∙◌, ap, subst, arith, length-append}
+use Rattle.std.proofs.Common.{◌≡◌, ◌≢◌, inl, inr, ℕ, suc, ◌+◌, ◌-◌, ◌<◌, ◌≤◌, Bool, true, false, List, [], ◌∷◌, ◌++◌, length, take, drop, get_or, refl, sym, ◌∙◌, ap, subst, arith, length-append, append-nil}
 use Rattle.std.specs.Prelude.{nat_lt, Contains, ◌⊎◌, ◌↔◌, Option, Some, None, Ok, Err, Result}
 use Rattle.std.proofs.lemmas.Bool.Decides.{nat_tests}
-use Rattle.std.proofs.lemmas.List.{take_at}
+use Rattle.std.proofs.lemmas.List.{append_assoc, take_at}
 use Rattle.cf_base.specs.declared.file.FileId.{FileId}
-use Rattle.cf_base.specs.declared.key.Key.{Key}
-use Rattle.dpx_header.specs.declared.info.FrameInfo.{FrameInfo}
 use Rattle.scan_source.specs.World.{World}
 use Rattle.conform_job.specs.Job.{JobData, need_at}
-use Rattle.conform_job.specs.declared.need.Need.{Need}
+use Rattle.frame_share.specs.declared.step.ShareStep.{ShareStep}
+use Rattle.frame_share.specs.Share.{ShareView}
 use Rattle.reel_writer.specs.Reel.{frames_of}
 use Rattle.reel_writer.specs.View.{ReelView}
 use Rattle.single_run.specs.Ends.{IsStop}
-use Rattle.single_run.specs.Asks.{IsRunFile, closed_frames, asks_of_frames, frame_if_closed, key_of_side, keys_of_need}
+use Rattle.single_run.specs.Asks.{IsRunFile, closed_frames, asks_of_frames, frame_if_closed, keys_of_need}
 use Rattle.single_run.specs.Ran.{IsUnfinished, ArePast, WereFinished}
+use Rattle.single_run.specs.Sharing.{HasTried, IsPaired, asks_of}
 use Rattle.single_run.specs.declared.run_end.RunEnd.{RunEnd}
 use Rattle.single_run.specs.declared.run_end.RunEnd.TheVariants.{Done}
-use Rattle.single_run.proofs.Stepping.{or_either, or_here, or_true, closed_more, closed_none, closed_split, closed_has, closed_below, if_closed, asks_append, asks_none, asks_if_closed, asks_if_open}
-
-key_few : (need : Option (Key × FrameInfo)) → length (key_of_side need) ≤ 1
-key_few None = omega arith
-key_few (Some need) = omega arith
-
-keys_few : (need : Need) → length (keys_of_need need) ≤ 2
-keys_few need = omega (arith, length-append (key_of_side need.old) (key_of_side need.new), key_few need.old, key_few need.new)
-
--- a frame asks for at most two source frames
-pub asks_few : (job : JobData) (gates : List Bool) (i : ℕ) → length (asks_of_frames job (frame_if_closed gates i)) ≤ 2
-asks_few job gates i = by (get_or gates i false) refl
-  where
-    by : (b : Bool) → get_or gates i false ≡ b → length (asks_of_frames job (frame_if_closed gates i)) ≤ 2
-    by true is = omega (arith, asks_if_open job gates i is)
-    by false is = omega (arith, asks_if_closed job gates i is, keys_few (need_at job i))
+use Rattle.single_run.proofs.Stepping.{or_either, or_here, or_true, closed_more, closed_none, closed_split, closed_has, closed_below, if_closed, asks_append, asks_none, asks_one}
+use Rattle.single_run.proofs.Logs.{asks_along, paired_along, paired_less}
 
 -- what one frame more asks for
-pub asks_more : (job : JobData) (gates : List Bool) (i : ℕ) → length (asks_of_frames job (closed_frames gates (suc i))) ≡ length (asks_of_frames job (closed_frames gates i)) + length (asks_of_frames job (frame_if_closed gates i))
-asks_more job gates i = ap (λ l. length (asks_of_frames job l)) (closed_more gates i) ∙ ap length (asks_append job (closed_frames gates i) (frame_if_closed gates i)) ∙ length-append (asks_of_frames job (closed_frames gates i)) (asks_of_frames job (frame_if_closed gates i))
+pub asks_more : (job : JobData) (gates : List Bool) (i : ℕ) → asks_of_frames job (closed_frames gates (suc i)) ≡ asks_of_frames job (closed_frames gates i) ++ asks_of_frames job (frame_if_closed gates i)
+asks_more job gates i = ap (asks_of_frames job) (closed_more gates i) ∙ asks_append job (closed_frames gates i) (frame_if_closed gates i)
 
-pub asks_first : (job : JobData) (gates : List Bool) → length (asks_of_frames job (closed_frames gates 0)) ≡ 0
-asks_first job gates = ap (λ l. length (asks_of_frames job l)) (closed_none gates) ∙ ap length (asks_none job)
+pub asks_first : (job : JobData) (gates : List Bool) → asks_of_frames job (closed_frames gates 0) ≡ []
+asks_first job gates = ap (asks_of_frames job) (closed_none gates) ∙ asks_none job
+
+next_after : (xs ys : List ℕ) (x : ℕ) → take 1 (drop (length xs) (xs ++ x ∷ ys)) ≡ x ∷ []
+next_after [] ys x = refl
+next_after (z ∷ xs) ys x = next_after xs ys x
+
+none_after : (xs : List ℕ) → take 1 (drop (length xs) xs) ≡ []
+none_after [] = refl
+none_after (x ∷ xs) = none_after xs
 
 module _ (gates : List Bool) (count i : ℕ) (within : i ≤ count) where
   split : (rest : List ℕ) × (closed_frames gates count ≡ closed_frames gates i ++ rest)
@@ -56,28 +50,55 @@ module _ (gates : List Bool) (count i : ℕ) (within : i ≤ count) where
 pub not_done : (job : JobData) (told : Option World) (end : RunEnd) → IsStop job told end → end ≢ Done
 not_done job told end stop same = subst (IsStop job told) same stop
 
+-- the frame that comes next after those below i, where its gate is closed
+next_closed : (gates : List Bool) (count i : ℕ) → i < count → get_or gates i false ≡ false → take 1 (drop (length (closed_frames gates i)) (closed_frames gates count)) ≡ i ∷ []
+next_closed gates count i within closed =
+    let parts = split gates count (suc i) (omega (arith, within)) in
+    let whole : closed_frames gates count ≡ closed_frames gates i ++ i ∷ parts.0 =
+    parts.1 ∙ ap (λ l. l ++ parts.0) (closed_more gates i ∙ ap (λ l. closed_frames gates i ++ l) (if_closed gates i closed)) ∙ append_assoc (closed_frames gates i) (i ∷ []) parts.0
+    in
+    ap (λ l. take 1 (drop (length (closed_frames gates i)) l)) whole ∙ next_after (closed_frames gates i) parts.0 i
+
 -- a run that stopped at frame i, whose gate was closed
-pub stopped : (job : JobData) (gates : List Bool) (end : RunEnd) (i loads : ℕ) → end ≢ Done → i < frames_of job → get_or gates i false ≡ false → length (asks_of_frames job (closed_frames gates i)) ≤ loads
-    → loads ≤ length (asks_of_frames job (closed_frames gates i)) + length (keys_of_need (need_at job i)) → WereFinished job gates end (length (closed_frames gates i)) loads
-stopped job gates end i loads other within closed least most = record {
+pub stopped : (job : JobData) (gates : List Bool) (end : RunEnd) (i : ℕ) (a b : ShareView) → end ≢ Done → i < frames_of job → get_or gates i false ≡ false → asks_of a.steps ≡ asks_of_frames job (closed_frames gates i) → IsPaired ⊥ a.steps
+    → HasTried a b (keys_of_need (need_at job i)) → WereFinished job gates end (length (closed_frames gates i)) b.steps
+stopped job gates end i a b other within closed asks paired tried = record {
   few = no_more gates (frames_of job) i (omega (arith, within));
   all = λ done. absurd (other done);
-  asked = subst (λ l. length (asks_of_frames job l) ≤ loads) (sym (taken gates (frames_of job) i (omega (arith, within)))) least;
-  next =
-      let longer : length (closed_frames gates (suc i)) ≡ length (closed_frames gates i) + 1 = ap length (closed_more gates i) ∙ length-append (closed_frames gates i) (frame_if_closed gates i) ∙ ap (λ (l : List ℕ). length (closed_frames gates i) + length l) (if_closed gates i closed) in
-      let all : take (length (closed_frames gates i) + 1) (closed_frames gates (frames_of job)) ≡ closed_frames gates (suc i) = ap (λ n. take n (closed_frames gates (frames_of job))) (sym longer) ∙ taken gates (frames_of job) (suc i) (omega (arith, within)) in
-      subst (λ l. loads ≤ length (asks_of_frames job l)) (sym all) (omega (arith, most, asks_more job gates i, asks_if_closed job gates i closed));
+  next = asks_of tried.more;
+  rest = tried.rest;
+  asked = ap asks_of tried.steps ∙ asks_along a.steps tried.more
+      ∙ ap (λ l. l ++ asks_of tried.more) (asks ∙ ap (asks_of_frames job) (sym (taken gates (frames_of job) i (omega (arith, within)))));
+  first = ap (asks_of_frames job) (next_closed gates (frames_of job) i within closed) ∙ asks_one job i ∙ tried.asks;
+  paired = subst (IsPaired (Unit {0})) (sym tried.steps) (paired_along (Unit {0}) a.steps tried.more paired tried.paired);
   exact = λ done. absurd (other done);
 }
 
 -- a run that was stopped before its first frame
-pub unbegun : (job : JobData) (gates : List Bool) (end : RunEnd) (rendered loads : ℕ) → end ≢ Done → rendered ≡ 0 → loads ≡ 0 → WereFinished job gates end rendered loads
-unbegun job gates end rendered loads other none nothing = record {
+pub unbegun : (job : JobData) (gates : List Bool) (end : RunEnd) (rendered : ℕ) (log : List ShareStep) → end ≢ Done → rendered ≡ 0 → log ≡ [] → WereFinished job gates end rendered log
+unbegun job gates end rendered log other none nothing = record {
   few = omega (arith, none);
   all = λ done. absurd (other done);
-  asked = subst (λ n. length (asks_of_frames job (take n (closed_frames gates (frames_of job)))) ≤ loads) (sym none) (let empty = ap length (asks_none job) in omega (arith, empty));
-  next = omega (arith, nothing);
+  next = [];
+  rest = asks_of_frames job (take 1 (drop rendered (closed_frames gates (frames_of job))));
+  asked = ap asks_of nothing ∙ sym (asks_none job) ∙ ap (λ n. asks_of_frames job (take n (closed_frames gates (frames_of job)))) (sym none) ∙ sym (append-nil (asks_of_frames job (take rendered (closed_frames gates (frames_of job)))));
+  first = refl;
+  paired = subst (IsPaired (Unit {0})) (sym nothing) tt;
   exact = λ done. absurd (other done);
+}
+
+-- a run that finished all frames
+pub all_finished : (job : JobData) (gates : List Bool) (rendered : ℕ) (log : List ShareStep) → rendered ≡ length (closed_frames gates (frames_of job)) → asks_of log ≡ asks_of_frames job (closed_frames gates (frames_of job)) → IsPaired ⊥ log
+    → WereFinished job gates Done rendered log
+all_finished job gates rendered log all asks paired = record {
+  few = omega (arith, all);
+  all = λ done. all;
+  next = [];
+  rest = [];
+  asked = asks ∙ ap (asks_of_frames job) (sym (ap (λ n. take n (closed_frames gates (frames_of job))) all ∙ taken gates (frames_of job) (frames_of job) (omega arith))) ∙ sym (append-nil (asks_of_frames job (take rendered (closed_frames gates (frames_of job)))));
+  first = ap (λ n. asks_of_frames job (take 1 (drop n (closed_frames gates (frames_of job))))) all ∙ ap (asks_of_frames job) (none_after (closed_frames gates (frames_of job))) ∙ asks_none job;
+  paired = paired_less log paired;
+  exact = λ done. (refl, paired);
 }
 
 module _ {D : Type 0} (old mid : ReelView D) (i : ℕ) (none : old.acks ≡ []) (past : ArePast i old mid) where

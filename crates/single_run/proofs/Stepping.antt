@@ -101,15 +101,15 @@ pub asks_none : (job : JobData) → asks_of_frames job [] ≡ []
 unfolding asks_of_frames
 asks_none job = refl
 
-pub asks_one : (job : JobData) (i : ℕ) → length (asks_of_frames job (i ∷ [])) ≡ length (keys_of_need (need_at job i))
+pub asks_one : (job : JobData) (i : ℕ) → asks_of_frames job (i ∷ []) ≡ keys_of_need (need_at job i)
 unfolding asks_of_frames
-asks_one job i = ap length (append-nil (keys_of_need (need_at job i)))
+asks_one job i = append-nil (keys_of_need (need_at job i))
 
-pub asks_if_open : (job : JobData) (gates : List Bool) (i : ℕ) → get_or gates i false ≡ true → length (asks_of_frames job (frame_if_closed gates i)) ≡ 0
-asks_if_open job gates i is = ap (λ l. length (asks_of_frames job l)) (if_open gates i is) ∙ ap length (asks_none job)
+pub asks_if_open : (job : JobData) (gates : List Bool) (i : ℕ) → get_or gates i false ≡ true → asks_of_frames job (frame_if_closed gates i) ≡ []
+asks_if_open job gates i is = ap (asks_of_frames job) (if_open gates i is) ∙ asks_none job
 
-pub asks_if_closed : (job : JobData) (gates : List Bool) (i : ℕ) → get_or gates i false ≡ false → length (asks_of_frames job (frame_if_closed gates i)) ≡ length (keys_of_need (need_at job i))
-asks_if_closed job gates i is = ap (λ l. length (asks_of_frames job l)) (if_closed gates i is) ∙ asks_one job i
+pub asks_if_closed : (job : JobData) (gates : List Bool) (i : ℕ) → get_or gates i false ≡ false → asks_of_frames job (frame_if_closed gates i) ≡ keys_of_need (need_at job i)
+asks_if_closed job gates i is = ap (asks_of_frames job) (if_closed gates i is) ∙ asks_one job i
 
 -- what a finish of a frame writes is the run's
 pub run_file : (job : JobData) (gates : List Bool) (i index : ℕ) → index ≡ i → i < frames_of job → get_or gates i false ≡ false → (q : FileId) → IsWrittenFile (file_of job index) q → IsRunFile job gates q

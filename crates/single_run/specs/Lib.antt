@@ -3,3 +3,4 @@ pub mod Ends
 pub mod Ran
 pub mod Run
 pub mod Scanned
+pub mod Sharing

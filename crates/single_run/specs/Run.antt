@@ -2,27 +2,30 @@
 --     WasOpened      a run whose folder was opened: what it finished, asked for and left acknowledged
 --     WasRefused      a run whose folder was not
 --     IsWhole      the folder has the whole reel
-use Rattle.std.specs.Prelude.{◌≡◌, ◌≢◌, ◌⊎◌, ◌↔◌, ℕ, ◌<◌, Bool, true, false, List, length, take, count_by, Contains, slice_index_or, Option, Some, IfSome}
+use Rattle.std.specs.Prelude.{◌≡◌, ◌≢◌, ◌⊎◌, ◌↔◌, ℕ, ◌<◌, Bool, true, false, List, [], length, take, count_by, Contains, slice_index_or, Option, Some, IfSome}
 use Rattle.cf_base.specs.declared.file.FileId.{FileId}
 use Rattle.scan_source.specs.World.{World, file_at}
 use Rattle.conform_job.specs.Job.{JobData, file_of}
 use Rattle.frame_render.specs.Frame.{frame_file}
 use Rattle.reel_disk.specs.Disk.{Files, Moment, History, moment_of, view_of}
 use Rattle.reel_disk.specs.Runs.{Surely}
+use Rattle.frame_share.specs.declared.step.ShareStep.{ShareStep}
 use Rattle.resume_ledger.specs.Ledger.{IsFit, IsLedgerFile}
 use Rattle.resume_ledger.specs.Attach.{IsOtherJob, IsBadLedger, IsUnwritten}
 use Rattle.reel_writer.specs.Reel.{frames_of, HasAcked, IsSoundReel}
 use Rattle.single_run.specs.Asks.{closed_frames}
 use Rattle.single_run.specs.Ends.{IsEnd}
 use Rattle.single_run.specs.Ran.{WereFinished}
+use Rattle.single_run.specs.Sharing.{WereShared}
 use Rattle.single_run.specs.declared.run_end.Report.{Report}
 use Rattle.single_run.specs.declared.run_end.RunEnd.{RunEnd}
 use Rattle.single_run.specs.declared.run_end.RunEnd.TheVariants.{Done, OtherJob, BadLedger, Changed, SourceFault, DiskFault, NoMemory}
 
 -- The folder was unsealed or this job's. `gates` are the frames that it acknowledged then. Unless
--- the disk failed, it acknowledges now just these and those that the run finished.
-pub record WasOpened (job : JobData) (told : Option World) (tells : Bool) (old new : History)
-    (end : RunEnd) (report : Report) : Type 0 where
+-- the disk failed, it acknowledges now just these and those that the run finished. The log is that of
+-- the share, of so many frames.
+pub record WasOpened (job : JobData) (told : Option World) (capacity : ℕ) (tells : Bool)
+    (old new : History) (end : RunEnd) (report : Report) (log : List ShareStep) : Type 0 where
   pub gates : List Bool
   pub size : length gates ≡ frames_of job
   pub opening : tells ≡ true → (k : ℕ)
@@ -30,7 +33,8 @@ pub record WasOpened (job : JobData) (told : Option World) (tells : Bool) (old n
   pub fit : tells ≡ true → IsFit job.parts.digest (frames_of job) (view_of old)
   pub is_end : IsEnd job told end
   pub kept : report.kept ≡ count_by (λ gate. gate) gates
-  pub finished : WereFinished job gates end report.rendered report.loads
+  pub finished : WereFinished job gates end report.rendered log
+  pub shared : WereShared capacity log report
   pub exit : tells ≡ true → end ≢ DiskFault → (k : ℕ)
       → HasAcked job k (view_of new)
       ↔ ((slice_index_or gates k false ≡ true)
@@ -49,13 +53,14 @@ HasRefused job tells old new SourceFault = ⊥
 HasRefused job tells old new DiskFault = Unit {0}
 HasRefused job tells old new NoMemory = tells ≡ true → IsUnwritten old new
 
--- The folder was not opened, and no source file was loaded.
+-- The folder was not opened, and no source file was asked for.
 pub record WasRefused (job : JobData) (tells : Bool) (old new : History) (end : RunEnd)
-    (report : Report) : Type 0 where
+    (report : Report) (log : List ShareStep) : Type 0 where
   pub why : HasRefused job tells old new end
   pub kept : report.kept ≡ 0
   pub rendered : report.rendered ≡ 0
-  pub loads : report.loads ≡ 0
+  pub loads : (report.loads ≡ 0) × (report.misses ≡ 0)
+  pub unasked : log ≡ []
 
 -- each frame's file is the job's
 abbrev pub IsWhole : JobData → World → Moment → Type 0

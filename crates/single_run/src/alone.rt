@@ -3,6 +3,7 @@ ghost use Rattle.std.specs.Prelude.{◌≡◌, ◌≢◌, ◌⊎◌, ◌↔◌, 
 ghost use Rattle.cf_base.specs.Count.{HasCause, HasRisen};
 ghost use Rattle.conform_job.specs.Answers.{AreInfosOf};
 ghost use Rattle.conform_job.specs.Names.{Tells};
+ghost use Rattle.frame_share.specs.Share.{IsBlankOf, IsLegal, misses_of};
 ghost use Rattle.reel_disk.specs.Disk.{moment_of, view_of};
 ghost use Rattle.reel_disk.specs.Runs.{Spares, Surely};
 ghost use Rattle.reel_writer.specs.Reel.{frames_of, HasAcked, IsReelRun, IsSoundReel};
@@ -12,15 +13,19 @@ ghost use Rattle.single_run.specs.Ends.{IsChange, IsEnd, refused_by};
 ghost use Rattle.single_run.specs.Ran.{WereFinished};
 ghost use Rattle.single_run.specs.Run.{AreAllAcked, HasWhole, IsOwnFile, WasOpened, WasRefused};
 ghost use Rattle.single_run.specs.Scanned.{IsScanned};
+ghost use Rattle.single_run.specs.Sharing.{IsDetermined, WereShared};
 
 use crate::frames::run_frames;
-use crate::{Report, RunEnd, ShareLog};
+use crate::{Report, RunEnd};
 use conform_job::{Job, Work};
+use frame_share::{Share, ShareLog};
 use reel_disk::Disk;
 use reel_writer::Reel;
 use resume_ledger::OpenFault;
 use scan_source::Scans;
 use std::alloc::Global;
+use std::marker::Brand;
+use std::sync::ledger::{Blank, Ledger};
 
 /// What a run did to a reel.
 pub fn report_of<N: Work, D: Disk>(job: &Job, reel: &Reel<D, N>, loads: u64) -> Report
@@ -44,50 +49,114 @@ pub fn report_of<N: Work, D: Disk>(job: &Job, reel: &Reel<D, N>, loads: u64) -> 
     }
 }
 
+/// A run over the frames of a reel, with a share of its own, which hands out its log.
+fn run_shared<N: Work, L: Ledger, S: Scans, D: Disk>(
+    alloc: Global,
+    job: &Job,
+    scan: &mut S,
+    reel: &mut Reel<D, N>,
+    share_cap: u32,
+    blank: Blank,
+    loads: &mut u64,
+) -> (RunEnd, ShareLog)
+    requires job { job.now ≡ N.job }
+    requires files { Tells N.files (S.world scan.old) }
+    requires infos { AreInfosOf N.job.parts N.files N.job.infos }
+    requires capacity { (1 ≤ share_cap) × (share_cap ≤ 16) }
+    requires blank { IsBlankOf L.name L.parts blank.name blank.parts }
+    requires is_open { reel.old.ledger.closed ≡ false }
+    requires size { length reel.old.ledger.gates ≡ frames_of N.job }
+    requires none { reel.old.acks ≡ [] }
+    requires zero { loads.old ≡ 0 }
+
+    ensures end { IsEnd N.job N.files result.0 }
+    ensures finished { WereFinished N.job reel.old.ledger.gates result.0
+        (length reel.new.acks) result.1 }
+    ensures legal { IsLegal share_cap result.1 }
+    ensures determined { IsDetermined share_cap result.1 }
+    ensures misses { loads.new ≡ misses_of result.1 }
+    ensures acks { reel.new.acks
+        ≡ take (length reel.new.acks) (closed_frames reel.old.ledger.gates (frames_of N.job)) }
+    ensures gates { (k : ℕ)
+        → slice_index_or reel.new.ledger.gates k false ≡ true
+        ↔ ((slice_index_or reel.old.ledger.gates k false ≡ true) ⊎ Contains reel.new.acks k) }
+    ensures kept { reel.new.kept ≡ reel.old.kept }
+    ensures stays_open { result.0 ≢ RunEnd.DiskFault → reel.new.ledger.closed ≡ false }
+    ensures run { D.tells ≡ true
+        → IsReelRun N.job N.files (D.history reel.old.disk) (D.history reel.new.disk) }
+    ensures spares { D.tells ≡ true
+        → Spares (D.history reel.old.disk) (D.history reel.new.disk)
+        (IsRunFile N.job reel.old.ledger.gates) }
+
+    ensures changed { IsChange result.0 → 1 ≤ loads.new }
+    ensures scan { IsScanned S.world S.faults S.loads loads.new (result.0
+        ≡ RunEnd.SourceFault) scan.old scan.new }
+    ensures same_scan { S.same scan.old scan.new }
+    ensures same_disk { D.same reel.old.disk reel.new.disk }
+    ensures cause { HasCause (D.faults reel.old.disk) (D.faults reel.new.disk) (result.0
+        ≡ RunEnd.DiskFault) }
+    ensures steady { result.0 ≢ RunEnd.DiskFault → D.faults reel.new.disk ≡ D.faults reel.old.disk }
+{
+    let (mut share, mut units) = match Share::<N, L>::new(alloc, share_cap, blank) {
+        Ok(made) => made,
+        Err(_) => return (RunEnd::NoMemory, ShareLog::empty(alloc)),
+    };
+    let end = run_frames(alloc, job, scan, reel, &mut share, &mut units, loads);
+    share.settle(&mut units);
+    (end, share.into_log())
+}
+
 /// A run in a folder that was opened; it hands the disk back.
-fn run_opened<N: Work, S: Scans, D: Disk>(
+fn run_opened<N: Work, L: Ledger, S: Scans, D: Disk>(
     alloc: Global,
     job: &Job,
     scan: &mut S,
     reel: Reel<D, N>,
-) -> (RunEnd, Report, D)
+    share_cap: u32,
+    blank: Blank,
+) -> (RunEnd, Report, ShareLog, D)
     requires job { job.now ≡ N.job }
     requires files { Tells N.files (S.world scan.old) }
     requires infos { AreInfosOf N.job.parts N.files N.job.infos }
+    requires capacity { (1 ≤ share_cap) × (share_cap ≤ 16) }
+    requires blank { IsBlankOf L.name L.parts blank.name blank.parts }
     requires is_open { reel.ledger.closed ≡ false }
     requires size { length reel.ledger.gates ≡ frames_of N.job }
     requires none { reel.acks ≡ [] }
 
     ensures end { IsEnd N.job N.files result.0 }
-    ensures finished { WereFinished N.job reel.ledger.gates result.0 result.1.rendered result.1.loads }
+    ensures finished { WereFinished N.job reel.ledger.gates result.0 result.1.rendered result.2 }
+    ensures shared { WereShared share_cap result.2 result.1 }
     ensures kept { result.1.kept ≡ reel.kept }
     ensures frames { result.1.frames ≡ frames_of N.job }
     ensures misses { result.1.misses ≡ result.1.loads }
     ensures exit { D.tells ≡ true → result.0 ≢ RunEnd.DiskFault → (k : ℕ)
-        → HasAcked N.job k (view_of (D.history result.2))
+        → HasAcked N.job k (view_of (D.history result.3))
         ↔ ((slice_index_or reel.ledger.gates k false ≡ true)
         ⊎ Contains (take result.1.rendered (closed_frames reel.ledger.gates (frames_of N.job))) k) }
     ensures acked { result.0 ≡ RunEnd.Done → D.tells ≡ true
-        → AreAllAcked N.job (moment_of (D.history result.2)) }
+        → AreAllAcked N.job (moment_of (D.history result.3)) }
     ensures run { D.tells ≡ true
-        → IsReelRun N.job N.files (D.history reel.disk) (D.history result.2) }
+        → IsReelRun N.job N.files (D.history reel.disk) (D.history result.3) }
     ensures spares { D.tells ≡ true
-        → Spares (D.history reel.disk) (D.history result.2) (IsRunFile N.job reel.ledger.gates) }
+        → Spares (D.history reel.disk) (D.history result.3) (IsRunFile N.job reel.ledger.gates) }
 
     ensures changed { IsChange result.0 → HasRisen (S.loads scan.old) (S.loads scan.new) }
     ensures scan { IsScanned S.world S.faults S.loads result.1.loads (result.0
         ≡ RunEnd.SourceFault) scan.old scan.new }
     ensures same_scan { S.same scan.old scan.new }
-    ensures same_disk { D.same reel.disk result.2 }
-    ensures cause { HasCause (D.faults reel.disk) (D.faults result.2) (result.0
+    ensures same_disk { D.same reel.disk result.3 }
+    ensures cause { HasCause (D.faults reel.disk) (D.faults result.3) (result.0
         ≡ RunEnd.DiskFault) }
-    ensures steady { result.0 ≢ RunEnd.DiskFault → D.faults result.2 ≡ D.faults reel.disk }
+    ensures steady { result.0 ≢ RunEnd.DiskFault → D.faults result.3 ≡ D.faults reel.disk }
 {
     let mut reel = reel;
     let mut loads = 0;
-    let end = run_frames(alloc, job, scan, &mut reel, &mut loads);
+    let (end, log) = run_shared::<N, L, S, D>(
+        alloc, job, scan, &mut reel, share_cap, blank, &mut loads,
+    );
     let report = report_of(job, &reel, loads);
-    (end, report, reel.close())
+    (end, report, log, reel.close())
 }
 
 /// How a run ends whose folder isn't opened.
@@ -103,20 +172,27 @@ pub fn end_of_opening(fault: OpenFault) -> RunEnd
     }
 }
 
-/// A run that hands the disk back.
-fn run_owned<N: Work, S: Scans, D: Disk>(
+/// A run that hands the disk back, and writes what was shared into a log.
+fn run_owned<N: Work, L: Ledger, S: Scans, D: Disk>(
     alloc: Global,
     job: &Job,
     scan: &mut S,
+    share_cap: u32,
+    blank: Blank,
+    log: &mut ShareLog,
     disk: D,
 ) -> (RunEnd, Report, D)
     requires job { job.now ≡ N.job }
     requires files { Tells N.files (S.world scan.old) }
     requires infos { AreInfosOf N.job.parts N.files N.job.infos }
+    requires capacity { (1 ≤ share_cap) × (share_cap ≤ 16) }
+    requires blank { IsBlankOf L.name L.parts blank.name blank.parts }
+    requires unasked { log.old ≡ [] }
 
-    ensures ran { WasOpened N.job N.files D.tells (D.history disk)
-        (D.history result.2) result.0 result.1
-        ⊎ WasRefused N.job D.tells (D.history disk) (D.history result.2) result.0 result.1 }
+    ensures ran { WasOpened N.job N.files share_cap D.tells (D.history disk)
+        (D.history result.2) result.0 result.1 log.new
+        ⊎ WasRefused N.job D.tells (D.history disk) (D.history result.2)
+        result.0 result.1 log.new }
     ensures frames { result.1.frames ≡ frames_of N.job }
     ensures misses { result.1.misses ≡ result.1.loads }
     ensures acked { result.0 ≡ RunEnd.Done → D.tells ≡ true
@@ -138,7 +214,13 @@ fn run_owned<N: Work, S: Scans, D: Disk>(
 {
     let frames = job.count();
     match Reel::<D, N>::begin(alloc, disk, job) {
-        Ok(reel) => run_opened(alloc, job, scan, reel),
+        Ok(reel) => {
+            let (end, report, made, disk) = run_opened::<N, L, S, D>(
+                alloc, job, scan, reel, share_cap, blank,
+            );
+            *log = made;
+            (end, report, disk)
+        }
         Err((fault, disk)) => {
             let report = Report {
                 frames,
@@ -153,10 +235,12 @@ fn run_owned<N: Work, S: Scans, D: Disk>(
 }
 
 /// Renders the reel of N's job into the folder, frame after frame; frames that the folder
-/// acknowledges stay as they are. It waits for nobody. `share_cap` is 1 to 16, and has no effect
-/// until frames are shared.
+/// acknowledges stay as they are. It waits for nobody. `share_cap`, from 1 to 16, is how many decoded
+/// source frames are shared between record frames; one that is shared isn't loaded again.
 ///
-/// A frame is loaded, decoded, rendered and finished before the next one. `OtherJob` (20.1) and
+/// A frame's source frames are asked for, and loaded and decoded where they aren't shared, the frame
+/// is rendered and finished, and then comes the next one. The log is that of the share, and is empty
+/// where the folder wasn't opened. `OtherJob` (20.1) and
 /// `BadLedger` (20.2) come exactly where the folder is so, and nothing is written then. `Changed`
 /// comes where a source file isn't what the job has of it, and never where the source files are
 /// told. `SourceFault` and `DiskFault` come only where the count of faults of the scan or of the
@@ -174,10 +258,11 @@ pub fn run_alone<N: Work, S: Scans, D: Disk>(
     requires capacity { (1 ≤ share_cap) × (share_cap ≤ 16) }
 
     // What the folder acknowledged at the opening and does now, what was finished, and which source
-    // frames were asked for; or why the folder wasn't opened.
-    ensures ran { WasOpened N.job N.files D.tells (D.history disk.old)
-        (D.history disk.new) result.0 result.1
-        ⊎ WasRefused N.job D.tells (D.history disk.old) (D.history disk.new) result.0 result.1 }
+    // frames were asked for and loaded; or why the folder wasn't opened.
+    ensures ran { WasOpened N.job N.files share_cap D.tells (D.history disk.old)
+        (D.history disk.new) result.0 result.1 result.2
+        ⊎ WasRefused N.job D.tells (D.history disk.old) (D.history disk.new)
+        result.0 result.1 result.2 }
     ensures frames { result.1.frames ≡ frames_of N.job }
     ensures misses { result.1.misses ≡ result.1.loads }
 
@@ -202,7 +287,10 @@ pub fn run_alone<N: Work, S: Scans, D: Disk>(
     ensures cause { HasCause (D.faults disk.old) (D.faults disk.new) (result.0 ≡ RunEnd.DiskFault) }
     ensures steady { result.0 ≢ RunEnd.DiskFault → D.faults disk.new ≡ D.faults disk.old }
 {
-    let _ = share_cap;
-    let (end, report, _) = run_owned::<N, S, _>(alloc, job, scan, &mut *disk);
-    (end, report, ShareLog)
+    let mut log = ShareLog::empty(alloc);
+    let blank = Blank::new(1);
+    let (end, report, _) = run_owned::<N, Brand, S, _>(
+        alloc, job, scan, share_cap, blank, &mut log, &mut *disk,
+    );
+    (end, report, log)
 }

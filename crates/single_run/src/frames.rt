@@ -11,24 +11,30 @@ ghost use Rattle.single_run.specs.Asks.{IsRunFile, asks_of_frames, closed_frames
 ghost use Rattle.single_run.specs.Ends.{IsChange, IsEnd, IsStop};
 ghost use Rattle.single_run.specs.Ran.{IsPast, IsUnfinished, WereFinished};
 ghost use Rattle.single_run.specs.Scanned.{IsScanned};
+ghost use Rattle.single_run.specs.Sharing.{HasAsked, HasTried};
 
 use crate::RunEnd;
-use crate::fetch::fetch_side;
+use crate::sharing::{lent, side_of};
 use conform_job::{Job, Work};
 use frame_render::{FrameBuf, Rendered, render};
+use frame_share::{Share, Units};
 use reel_disk::{Disk, DiskFault};
 use reel_writer::Reel;
 use scan_source::Scans;
 use std::alloc::Global;
+use std::sync::ledger::Ledger;
 
-/// Renders record frame `i` from the source frames that it needs. The loads are counted.
-pub fn make_frame<N: Work, S: Scans>(
+/// Renders record frame `i` from the source frames that it needs, the old side's before the new
+/// side's. The loads are counted.
+pub fn make_frame<N: Work, L: Ledger, S: Scans>(
     alloc: Global,
     job: &Job,
     scan: &mut S,
     i: u32,
     into: &mut Vec<u8>,
     room: FrameBuf,
+    share: &mut Share<N, L>,
+    units: &mut Units<L>,
     loads: &mut u64,
 ) -> Result<Rendered<N>, RunEnd>
     requires job { job.now ≡ N.job }
@@ -36,34 +42,38 @@ pub fn make_frame<N: Work, S: Scans>(
     requires infos { AreInfosOf N.job.parts N.files N.job.infos }
     requires index { i < frames_of N.job }
     requires room { length room ≡ frame_size N.job }
+    requires closed { units.old.pending ≡ 0 }
     requires few { loads.old + 2 < 2 ^ 64 }
     ensures index { IfOk result (λ frame. frame.index ≡ i) }
     ensures stop { IfErr result (IsStop N.job N.files) }
     ensures never { result ≢ Err RunEnd.DiskFault }
+    ensures asked { OnOk result (HasAsked share.old share.new (keys_of_need (need_at N.job i))) }
+    ensures tried { OnErr result (HasTried share.old share.new (keys_of_need (need_at N.job i))) }
+    ensures closed { OnOk result (units.new.pending ≡ 0) }
+    ensures parts { units.new.parts ≡ units.old.parts }
+    ensures counted { units.new.amount + loads.old ≡ units.old.amount + loads.new }
     ensures later { loads.old ≤ loads.new }
-    ensures most { loads.new ≤ loads.old + length (keys_of_need (need_at N.job i)) }
     ensures two { loads.new ≤ loads.old + 2 }
-    ensures asked { OnOk result (loads.new ≡ loads.old + length (keys_of_need (need_at N.job i))) }
-    ensures loaded { IsErr result → loads.old < loads.new }
+    ensures changed { IfErr result (λ end. IsChange end → loads.old < loads.new) }
     ensures scan { IsScanned S.world S.faults S.loads (loads.new - loads.old) (result
         ≡ Err RunEnd.SourceFault) scan.old scan.new }
     ensures same { S.same scan.old scan.new }
 {
     let need = job.need(i);
-    let old = match fetch_side(alloc, job, scan, need.old, into, loads) {
+    let old = match side_of(alloc, job, scan, need.old, into, share, units, loads) {
         Ok(old) => old,
         Err(end) => return Err(end),
     };
-    let new = match fetch_side(alloc, job, scan, need.new, into, loads) {
+    let new = match side_of(alloc, job, scan, need.new, into, share, units, loads) {
         Ok(new) => new,
         Err(end) => return Err(end),
     };
-    Ok(render(job, i, old.as_ref(), new.as_ref(), room))
+    Ok(render(job, i, lent(&old), lent(&new), room))
 }
 
 /// Renders record frame `i` and finishes it, unless it is acknowledged. The room is handed back for
 /// another frame.
-fn run_frame<N: Work, S: Scans, D: Disk>(
+fn run_frame<N: Work, L: Ledger, S: Scans, D: Disk>(
     alloc: Global,
     job: &Job,
     scan: &mut S,
@@ -71,6 +81,8 @@ fn run_frame<N: Work, S: Scans, D: Disk>(
     i: u32,
     into: &mut Vec<u8>,
     room: FrameBuf,
+    share: &mut Share<N, L>,
+    units: &mut Units<L>,
     loads: &mut u64,
 ) -> Result<FrameBuf, RunEnd>
     requires job { job.now ≡ N.job }
@@ -78,6 +90,7 @@ fn run_frame<N: Work, S: Scans, D: Disk>(
     requires infos { AreInfosOf N.job.parts N.files N.job.infos }
     requires index { i < frames_of N.job }
     requires room { length room ≡ frame_size N.job }
+    requires closed { units.old.pending ≡ 0 }
     requires few { loads.old + 2 < 2 ^ 64 }
     requires is_open { reel.old.ledger.closed ≡ false }
     requires size { length reel.old.ledger.gates ≡ frames_of N.job }
@@ -85,7 +98,7 @@ fn run_frame<N: Work, S: Scans, D: Disk>(
     ensures room { IfOk result (λ room. length room ≡ frame_size N.job) }
     ensures stop { IfErr result (IsStop N.job N.files) }
     ensures past { OnOk result (IsPast i reel.old reel.new) }
-    ensures closed { OnErr result (slice_index_or reel.old.ledger.gates i false ≡ false) }
+    ensures shut { OnErr result (slice_index_or reel.old.ledger.gates i false ≡ false) }
     ensures unfinished { OnErr result (IsUnfinished reel.old reel.new) }
     ensures stays_open { IfErr result (λ end. end ≢ RunEnd.DiskFault
         → reel.new.ledger.closed ≡ false) }
@@ -95,11 +108,15 @@ fn run_frame<N: Work, S: Scans, D: Disk>(
         → Spares (D.history reel.old.disk) (D.history reel.new.disk)
         (IsRunFile N.job reel.old.ledger.gates) }
 
+    ensures asked { OnOk result (HasAsked share.old share.new
+        (asks_of_frames N.job (frame_if_closed reel.old.ledger.gates i))) }
+    ensures tried { OnErr result (HasTried share.old share.new (keys_of_need (need_at N.job i))) }
+    ensures closed { OnOk result (units.new.pending ≡ 0) }
+    ensures parts { units.new.parts ≡ units.old.parts }
+    ensures counted { units.new.amount + loads.old ≡ units.old.amount + loads.new }
     ensures later { loads.old ≤ loads.new }
-    ensures most { loads.new ≤ loads.old + length (keys_of_need (need_at N.job i)) }
-    ensures asked { OnOk result (loads.new
-        ≡ loads.old + length (asks_of_frames N.job (frame_if_closed reel.old.ledger.gates i))) }
-    ensures loaded { IfErr result (λ end. end ≢ RunEnd.DiskFault → loads.old < loads.new) }
+    ensures two { loads.new ≤ loads.old + 2 }
+    ensures changed { IfErr result (λ end. IsChange end → loads.old < loads.new) }
     ensures scan { IsScanned S.world S.faults S.loads (loads.new - loads.old) (result
         ≡ Err RunEnd.SourceFault) scan.old scan.new }
     ensures same_scan { S.same scan.old scan.new }
@@ -113,7 +130,7 @@ fn run_frame<N: Work, S: Scans, D: Disk>(
     if reel.is_acked(i) {
         return Ok(room);
     }
-    let frame = match make_frame(alloc, job, scan, i, into, room, loads) {
+    let frame = match make_frame(alloc, job, scan, i, into, room, share, units, loads) {
         Ok(frame) => frame,
         Err(end) => return Err(end),
     };
@@ -124,11 +141,13 @@ fn run_frame<N: Work, S: Scans, D: Disk>(
 }
 
 /// Renders and finishes each frame that isn't acknowledged, in order. The loads are counted.
-pub(crate) fn run_frames<N: Work, S: Scans, D: Disk>(
+pub(crate) fn run_frames<N: Work, L: Ledger, S: Scans, D: Disk>(
     alloc: Global,
     job: &Job,
     scan: &mut S,
     reel: &mut Reel<D, N>,
+    share: &mut Share<N, L>,
+    units: &mut Units<L>,
     loads: &mut u64,
 ) -> RunEnd
     requires job { job.now ≡ N.job }
@@ -137,11 +156,12 @@ pub(crate) fn run_frames<N: Work, S: Scans, D: Disk>(
     requires is_open { reel.old.ledger.closed ≡ false }
     requires size { length reel.old.ledger.gates ≡ frames_of N.job }
     requires none { reel.old.acks ≡ [] }
-    requires zero { loads.old ≡ 0 }
+    requires zero { (loads.old ≡ 0) × (units.old.amount ≡ 0) × (units.old.pending ≡ 0) }
+    requires unasked { share.old.steps ≡ [] }
 
     ensures end { IsEnd N.job N.files result }
     ensures finished { WereFinished N.job reel.old.ledger.gates result
-        (length reel.new.acks) loads.new }
+        (length reel.new.acks) share.new.steps }
     ensures acks { reel.new.acks
         ≡ take (length reel.new.acks) (closed_frames reel.old.ledger.gates (frames_of N.job)) }
     ensures gates { (k : ℕ)
@@ -155,7 +175,10 @@ pub(crate) fn run_frames<N: Work, S: Scans, D: Disk>(
         → Spares (D.history reel.old.disk) (D.history reel.new.disk)
         (IsRunFile N.job reel.old.ledger.gates) }
 
-    ensures loaded { IsChange result → 1 ≤ loads.new }
+    ensures room { share.new.capacity ≡ share.old.capacity }
+    ensures parts { units.new.parts ≡ units.old.parts }
+    ensures counted { units.new.amount ≡ loads.new }
+    ensures changed { IsChange result → 1 ≤ loads.new }
     ensures scan { IsScanned S.world S.faults S.loads loads.new (result
         ≡ RunEnd.SourceFault) scan.old scan.new }
     ensures same_scan { S.same scan.old scan.new }
@@ -170,7 +193,9 @@ pub(crate) fn run_frames<N: Work, S: Scans, D: Disk>(
     };
     let mut into = Vec::new(alloc);
     for i in 0..job.count() {
-        match run_frame(alloc, job, scan, reel, i, &mut into, room, loads) {
+        match run_frame(
+            alloc, job, scan, reel, i, &mut into, room, share, units, loads,
+        ) {
             Ok(back) => room = back,
             Err(end) => return end,
         }

@@ -35,10 +35,6 @@ pub struct Report {
     pub rendered: u32,
     /// How often this run loaded a source file.
     pub loads: u64,
-    /// How often it asked for a source frame that it didn't have.
+    /// How often it asked for a source frame that wasn't shared.
     pub misses: u64,
 }
-
-/// The log of the source frames that were shared: empty, as none are.
-#[derive(Clone, Copy, Debug, PartialEq, Eq)]
-pub struct ShareLog;

@@ -1,10 +1,13 @@
 -- What a crew leaves. All of it is this project's own rule.
 --     WasCrewed      a run whose folder was opened and whose board was made: its steps, and what the folder acknowledges
---     WasUnmade      a run whose board could not be made
+--     WasUnmade      a run whose board or share could not be made
+--     AreShared      the log of the source frames that the workers shared
 --     AreWorked      what the workers did with their scans
-use Rattle.std.specs.Prelude.{◌≡◌, ◌≢◌, ◌↔◌, ◌⊎◌, ℕ, ◌+◌, ◌<◌, ◌≤◌, Bool, true, false, List, length, sum_by, count_by, slice_index_or, Option, Some, None, MatchOption}
+use Rattle.std.specs.Prelude.{◌≡◌, ◌≢◌, ◌↔◌, ◌⊎◌, ℕ, ◌+◌, ◌<◌, ◌≤◌, Bool, true, false, List, [], length, sum_by, count_by, slice_index_or, Option, Some, None, MatchOption}
 use Rattle.scan_source.specs.World.{World}
 use Rattle.conform_job.specs.Job.{JobData}
+use Rattle.frame_share.specs.declared.step.ShareStep.{ShareStep}
+use Rattle.frame_share.specs.Share.{IsLegal as IsShareLegal, misses_of}
 use Rattle.reel_disk.specs.Disk.{Moment, History, view_of}
 use Rattle.render_board.specs.Board.{Log, IsLegal, has_stop, is_done}
 use Rattle.render_board.specs.History.{finished_of, first_why, is_disk, stops_of}
@@ -35,9 +38,18 @@ end_by (Some (Changed key was now)) = IsNow key was now
 abbrev pub log_of : List Bool → ℕ → List Step → Log
 log_of gates workers steps = record { start = gates; workers = workers; steps = steps }
 
+-- The log of what the workers shared: each answer is what the steps before it say, and each miss was a load.
+pub record AreShared (log : List ShareStep) (report : Report) : Type 0 where
+  pub capacity : ℕ
+  pub some : 1 ≤ capacity
+  pub most : capacity ≤ 16
+  pub legal : IsShareLegal capacity log
+  pub misses : report.misses ≡ misses_of log
+  pub loads : report.loads ≡ report.misses
+
 -- The folder was unsealed or this job's, and the board has these steps. `gates` are the frames that the folder acknowledged
 -- then. The run is Done just where no worker stopped, and then every frame is done; else it ends as the first stop says.
-pub record WasCrewed (job : JobData) (told : Option World) (tells : Bool) (old new : History) (steps : List Step) (end : RunEnd) (report : Report) : Type 0 where
+pub record WasCrewed (job : JobData) (told : Option World) (tells : Bool) (old new : History) (steps : List Step) (end : RunEnd) (report : Report) (log : List ShareStep) : Type 0 where
   pub gates : List Bool
   pub workers : ℕ
   pub size : length gates ≡ frames_of job
@@ -50,20 +62,22 @@ pub record WasCrewed (job : JobData) (told : Option World) (tells : Bool) (old n
   pub all : end ≡ Done → (i : ℕ) → i < frames_of job → is_done (log_of gates workers steps) i ≡ true
   pub kept : report.kept ≡ count_by (λ gate. gate) gates
   pub rendered : report.rendered ≡ length (finished_of steps)
+  pub shared : AreShared log report
   -- The folder acknowledges just the frames that are done; where the disk failed in a finish, these but for one gate.
   pub exit : tells ≡ true → stops_of is_disk steps ≡ 0 → (k : ℕ) → HasAcked job k (view_of new) ↔ (is_done (log_of gates workers steps) k ≡ true)
   pub failed_exit : tells ≡ true → 1 ≤ stops_of is_disk steps → ShowsDone job (log_of gates workers steps) true (view_of new)
 
--- No memory was left for the board. No worker took a step, and no source file was loaded.
-pub record WasUnmade (end : RunEnd) (report : Report) : Type 0 where
+-- No memory was left for the board or for the share. No worker took a step, and no source frame was asked for.
+pub record WasUnmade (end : RunEnd) (report : Report) (log : List ShareStep) : Type 0 where
   pub no_memory : end ≡ NoMemory
   pub kept : report.kept ≡ 0
   pub rendered : report.rendered ≡ 0
-  pub loads : report.loads ≡ 0
+  pub loads : (report.loads ≡ 0) × (report.misses ≡ 0)
+  pub unasked : log ≡ []
 
 -- Why there are no steps: the folder was not opened, or the board could not be made.
-abbrev pub IsUnstepped : JobData → Bool → History → History → RunEnd → Report → Type 0
-IsUnstepped job tells old new end report = WasRefused job tells old new end report ⊎ WasUnmade end report
+abbrev pub IsUnstepped : JobData → Bool → History → History → RunEnd → Report → List ShareStep → Type 0
+IsUnstepped job tells old new end report log = WasRefused job tells old new end report log ⊎ WasUnmade end report log
 
 -- the disk failed: a worker stopped for it, or the folder could not be opened
 abbrev pub HasDiskFailed : Option (List Step) → RunEnd → Type 0

@@ -1,6 +1,7 @@
 -- What a worker does to its marks and its scan. All of it is this project's own rule.
-use Rattle.std.specs.Prelude.{◌≡◌, ◌⊎◌, ℕ, ◌<◌, ◌≤◌, Bool, true, Option, None}
+use Rattle.std.specs.Prelude.{◌≡◌, ◌⊎◌, ℕ, ◌+◌, ◌<◌, ◌≤◌, Bool, true, Option, None}
 use Rattle.scan_source.specs.World.{World}
+use Rattle.frame_share.specs.Units.{Tally}
 use Rattle.render_board.specs.declared.step.Why.{Why}
 use Rattle.shared_station.specs.Marks.{Tallies, raised_by}
 use Rattle.single_run.specs.Scanned.{IsScanned}
@@ -26,3 +27,8 @@ pub record HasCauses (told : Option World) (loads : ℕ) (failed : Bool) (before
   pub parts : KeepsParts before now
   pub source : before.source.amount < now.source.amount → failed ≡ true
   pub changed : before.changed.amount < now.changed.amount → (1 ≤ loads) × (told ≡ None)
+
+-- so many more misses were counted
+pub record HasCounted (before : Tally) (more : ℕ) (now : Tally) : Type 0 where
+  pub parts : now.parts ≡ before.parts
+  pub amount : now.amount ≡ before.amount + more

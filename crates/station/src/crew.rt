@@ -8,7 +8,9 @@ ghost use Rattle.reel_disk.specs.Runs.{Spares};
 ghost use Rattle.render_board.specs.Board.{has_stop, is_done};
 ghost use Rattle.render_board.specs.History.{first_why};
 ghost use Rattle.reel_writer.specs.Reel.{frames_of, IsReelRun};
-ghost use Rattle.station.specs.Crews.{AreWorked, HasDiskFailed, IsCrewRun, IsUnstepped, WasCrewed, end_by};
+ghost use Rattle.frame_share.specs.Share.{IsBlankOf as IsCounterOf};
+ghost use Rattle.frame_share.specs.Units.{whole};
+ghost use Rattle.station.specs.Crews.{AreShared, AreWorked, HasDiskFailed, IsCrewRun, IsUnstepped, WasCrewed, end_by};
 ghost use Rattle.single_run.specs.Ends.{IsChange};
 ghost use Rattle.shared_station.specs.Marks.{IsBlankOf};
 ghost use Rattle.single_run.specs.Run.{AreAllAcked, HasWhole, IsOwnFile};
@@ -19,12 +21,13 @@ use crate::seat::Seat;
 use crate::seats::{push_within, seat_all, unseat};
 use crate::work::work_all;
 use conform_job::{Job, Work};
+use frame_share::{Share, ShareLog, Units};
 use reel_disk::{Disk, Start};
 use reel_writer::Reel;
 use render_board::{Board, History, Step, Why};
 use scan_source::Scans;
 use shared_station::Station;
-use single_run::{Report, RunEnd, ShareLog, end_of_opening, report_of};
+use single_run::{Report, RunEnd, end_of_opening, report_of};
 use std::alloc::Global;
 use std::marker::Brand;
 use std::sync::Wait;
@@ -72,12 +75,13 @@ fn end_of_why(why: Why) -> RunEnd
 }
 
 /// A crew without a step.
-fn unmade<S, D>(job: &Job, end: RunEnd, scans: Vec<S>, disk: D) -> Crew<S, D>
+fn unmade<S, D>(alloc: Global, job: &Job, end: RunEnd, scans: Vec<S>, disk: D) -> Crew<S, D>
     ensures end { result.end ≡ end }
     ensures frames { result.report.frames ≡ frames_of job.now }
     ensures kept { (result.report.kept ≡ 0) × (result.report.rendered ≡ 0) }
     ensures loads { (result.report.loads ≡ 0) × (result.report.misses ≡ 0) }
     ensures history { result.history ≡ None }
+    ensures log { result.log ≡ [] }
     ensures scans { result.scans ≡ scans }
     ensures disk { result.disk ≡ disk }
 {
@@ -91,7 +95,7 @@ fn unmade<S, D>(job: &Job, end: RunEnd, scans: Vec<S>, disk: D) -> Crew<S, D>
             misses: 0,
         },
         history: None,
-        log: ShareLog,
+        log: ShareLog::empty(alloc),
         scans,
         disk,
     }
@@ -128,6 +132,7 @@ fn board_of<D: Disk, N: Work>(
 fn closing<N: Work + Start, A: Ledger, B: Ledger, C: Ledger, E: Ledger, S: Scans, D: Disk>(
     job: &Job,
     station: Station<D, N, A, B, C, E>,
+    log: ShareLog,
     scans: Vec<S>,
     loads: u64,
 ) -> Crew<S, D>
@@ -137,6 +142,7 @@ fn closing<N: Work + Start, A: Ledger, B: Ledger, C: Ledger, E: Ledger, S: Scans
     ensures loads { (result.report.loads ≡ loads) × (result.report.misses ≡ loads) }
     ensures end { result.end ≡ end_by (first_why station.log.steps) }
     ensures steps { result.history ≡ Some station.log.steps }
+    ensures log { result.log ≡ log }
     ensures made { IsCrewRun N.job N.files N.start D.tells D.history D.faults station.log.steps result.end result.report result.disk }
     ensures acked { result.end ≡ RunEnd.Done → D.tells ≡ true → AreAllAcked N.job (moment_of (D.history result.disk)) }
     ensures scans { result.scans ≡ scans }
@@ -148,7 +154,7 @@ fn closing<N: Work + Start, A: Ledger, B: Ledger, C: Ledger, E: Ledger, S: Scans
         end,
         report,
         history: Some(board.into_history()),
-        log: ShareLog,
+        log,
         scans,
         disk: reel.close(),
     }
@@ -161,6 +167,7 @@ fn run_opened<
     B: Ledger + Send + Sync,
     C: Ledger + Send + Sync,
     E: Ledger + Send + Sync,
+    F: Ledger + Send + Sync,
     S: Scans + Send,
     D: Disk + Send,
     R: Threads + Wait + Sync,
@@ -174,15 +181,20 @@ fn run_opened<
     failed: Blank,
     memory: Blank,
     changed: Blank,
+    share: Share<N, F>,
+    units: Units<F>,
     threads: usize,
     scans: Vec<S>,
-    room: Vec<Seat<S, N, A, B, C, E>>,
+    room: Vec<Seat<S, N, A, B, C, E, F>>,
     back: Vec<S>,
 ) -> Crew<S, D>
     requires source { IsBlankOf A.name A.parts source.name source.parts × (source.parts ≡ 17) }
     requires failed { IsBlankOf B.name B.parts failed.name failed.parts × (failed.parts ≡ 17) }
     requires memory { IsBlankOf C.name C.parts memory.name memory.parts × (memory.parts ≡ 17) }
     requires changed { IsBlankOf E.name E.parts changed.name changed.parts × (changed.parts ≡ 17) }
+    requires parts { F.parts ≡ 17 }
+    requires unasked { share.steps ≡ [] }
+    requires units { units ≡ whole F.parts }
     requires job { job.now ≡ N.job }
     requires files { All (λ s. Tells N.files (S.world s)) scans.items }
     requires infos { AreInfosOf N.job.parts N.files N.job.infos }
@@ -194,6 +206,7 @@ fn run_opened<
     requires back { (back.items ≡ []) × (vec_len scans ≤ vec_capacity back) }
     ensures frames { result.report.frames ≡ frames_of N.job }
     ensures misses { result.report.misses ≡ result.report.loads }
+    ensures shared { AreShared result.log result.report }
     ensures some { is_some result.history ≡ true }
     ensures acked { result.end ≡ RunEnd.Done → D.tells ≡ true → AreAllAcked N.job (moment_of (D.history result.disk)) }
     ensures changed { IsChange result.end → 1 ≤ result.report.loads }
@@ -203,11 +216,13 @@ fn run_opened<
     let (station, mut marks) = Station::<D, N, A, B, C, E>::new(
         reel, board, source, failed, memory, changed,
     );
-    let mut seats = seat_all(room, scans, &mut marks);
-    let mut station = work_all(rt, alloc, job, &mut seats, threads, station);
-    let (scans, loads) = unseat(seats, back, &mut marks);
+    let mut units = units;
+    let mut seats = seat_all(room, scans, &mut marks, &mut units);
+    let (mut station, mut share) = work_all(rt, alloc, job, &mut seats, threads, station, share);
+    let (scans, loads) = unseat(seats, back, &mut marks, &mut units);
     station.settle(&mut marks);
-    closing(job, station, scans, loads)
+    share.settle(&mut units);
+    closing(job, station, share.into_log(), scans, loads)
 }
 
 /// A crew under names of its ledgers.
@@ -217,6 +232,7 @@ fn crew_under<
     B: Ledger + Send + Sync,
     C: Ledger + Send + Sync,
     E: Ledger + Send + Sync,
+    F: Ledger + Send + Sync,
     S: Scans + Send,
     D: Disk + Send,
     R: Threads + Wait + Sync,
@@ -228,14 +244,18 @@ fn crew_under<
     failed: Blank,
     memory: Blank,
     changed: Blank,
+    misses: Blank,
     scans: Vec<S>,
     workers: u16,
     disk: D,
+    share_cap: u32,
 ) -> Crew<S, D>
     requires source { IsBlankOf A.name A.parts source.name source.parts × (source.parts ≡ 17) }
     requires failed { IsBlankOf B.name B.parts failed.name failed.parts × (failed.parts ≡ 17) }
     requires memory { IsBlankOf C.name C.parts memory.name memory.parts × (memory.parts ≡ 17) }
     requires changed { IsBlankOf E.name E.parts changed.name changed.parts × (changed.parts ≡ 17) }
+    requires misses { IsCounterOf F.name F.parts misses.name misses.parts × (misses.parts ≡ 17) }
+    requires share { (1 ≤ share_cap) × (share_cap ≤ 16) }
     requires job { job.now ≡ N.job }
     requires files { All (λ s. Tells N.files (S.world s)) scans.items }
     requires infos { AreInfosOf N.job.parts N.files N.job.infos }
@@ -249,8 +269,8 @@ fn crew_under<
 
     // What the folder acknowledged at the opening and does now, and the steps by which it came; or why there are none.
     ensures ran { MatchOption result.history
-        (IsUnstepped N.job D.tells (D.history disk) (D.history result.disk) result.end result.report)
-        (λ steps. WasCrewed N.job N.files D.tells (D.history disk) (D.history result.disk) steps result.end result.report) }
+        (IsUnstepped N.job D.tells (D.history disk) (D.history result.disk) result.end result.report result.log)
+        (λ steps. WasCrewed N.job N.files D.tells (D.history disk) (D.history result.disk) steps result.end result.report result.log) }
 
     // At Done every image acknowledges every frame, and the folder has the whole reel: that of a run on one thread.
     ensures acked { result.end ≡ RunEnd.Done → D.tells ≡ true → AreAllAcked N.job (moment_of (D.history result.disk)) }
@@ -268,21 +288,25 @@ fn crew_under<
     ensures steady { (HasDiskFailed result.history result.end → ⊥) → D.faults result.disk ≡ D.faults disk }
 {
     let Ok(back) = Vec::with_capacity(alloc, scans.len()) else {
-        return unmade(job, RunEnd::NoMemory, scans, disk);
+        return unmade(alloc, job, RunEnd::NoMemory, scans, disk);
     };
     let Ok(room) = Vec::with_capacity(alloc, scans.len()) else {
-        return unmade(job, RunEnd::NoMemory, scans, disk);
+        return unmade(alloc, job, RunEnd::NoMemory, scans, disk);
     };
     let reel = match Reel::<D, N>::begin(alloc, disk, job) {
         Ok(reel) => reel,
-        Err((fault, disk)) => return unmade(job, end_of_opening(fault), scans, disk),
+        Err((fault, disk)) => return unmade(alloc, job, end_of_opening(fault), scans, disk),
     };
     let threads = workers.min(scans.len() as u16);
     let board = match board_of(alloc, job, &reel, threads) {
         Some(board) => board,
-        None => return unmade(job, RunEnd::NoMemory, scans, reel.close()),
+        None => return unmade(alloc, job, RunEnd::NoMemory, scans, reel.close()),
     };
-    run_opened::<N, A, B, C, E, S, D, R>(
+    let (share, units) = match Share::<N, F>::new(alloc, share_cap, misses) {
+        Ok(made) => made,
+        Err(_) => return unmade(alloc, job, RunEnd::NoMemory, scans, reel.close()),
+    };
+    run_opened::<N, A, B, C, E, F, S, D, R>(
         rt,
         alloc,
         job,
@@ -292,6 +316,8 @@ fn crew_under<
         failed,
         memory,
         changed,
+        share,
+        units,
         usize::from(threads),
         scans,
         room,
@@ -302,7 +328,8 @@ fn crew_under<
 /// Runs N's job with several workers over a disk that was never used, and hands back every scan and the disk.
 ///
 /// The first `workers` scans have a worker each, or all scans where there are fewer. The folder is opened as `Reel::begin`
-/// opens it. It may wait for the lock that its workers share.
+/// opens it. The workers share at most `share_cap` decoded source frames, from 1 to 16: one that is shared isn't loaded again.
+/// It may wait for the locks that its workers share.
 pub fn run_crew<
     N: Work + Start + Send + Sync,
     S: Scans + Send,
@@ -331,8 +358,8 @@ pub fn run_crew<
 
     // What the folder acknowledged at the opening and does now, and the steps by which it came; or why there are none.
     ensures ran { MatchOption result.history
-        (IsUnstepped N.job D.tells (D.history disk) (D.history result.disk) result.end result.report)
-        (λ steps. WasCrewed N.job N.files D.tells (D.history disk) (D.history result.disk) steps result.end result.report) }
+        (IsUnstepped N.job D.tells (D.history disk) (D.history result.disk) result.end result.report result.log)
+        (λ steps. WasCrewed N.job N.files D.tells (D.history disk) (D.history result.disk) steps result.end result.report result.log) }
 
     // At Done every image acknowledges every frame, and the folder has the whole reel: that of a run on one thread.
     ensures acked { result.end ≡ RunEnd.Done → D.tells ≡ true → AreAllAcked N.job (moment_of (D.history result.disk)) }
@@ -349,8 +376,7 @@ pub fn run_crew<
     ensures cause { HasCause (D.faults disk) (D.faults result.disk) (HasDiskFailed result.history result.end) }
     ensures steady { (HasDiskFailed result.history result.end → ⊥) → D.faults result.disk ≡ D.faults disk }
 {
-    let _ = share_cap;
-    crew_under::<N, Brand, Brand, Brand, Brand, S, D, R>(
+    crew_under::<N, Brand, Brand, Brand, Brand, Brand, S, D, R>(
         rt,
         alloc,
         job,
@@ -358,8 +384,10 @@ pub fn run_crew<
         Blank::new(17),
         Blank::new(17),
         Blank::new(17),
+        Blank::new(17),
         scans,
         workers,
         disk,
+        share_cap,
     )
 }

@@ -7,10 +7,12 @@ mod rest;
 mod rounds;
 mod seat;
 mod seats;
+mod sharing;
 mod work;
 
 pub use crew::{Crew, run_crew};
+pub use frame_share::{ShareLog, ShareStep};
 pub use rounds::worker;
 pub use seat::Seat;
 pub use shared_station::{Marks, Station};
-pub use single_run::{Report, RunEnd, ShareLog, run_alone};
+pub use single_run::{Report, RunEnd, run_alone};

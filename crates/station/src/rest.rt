@@ -1,24 +1,27 @@
 //! What is left when all workers have returned and none has stopped: frames that one still holds, and frames that are
 //! free.
-ghost use Rattle.std.specs.Prelude.{◌≡◌, ◌≢◌, ◌+◌, ◌-◌, ◌<◌, ◌≤◌, ◌^◌, ◌||◌, ℕ, true, false, length, Err, None, IfErr, IfOk, IfSome, IsErr};
+ghost use Rattle.std.specs.Prelude.{◌≡◌, ◌≢◌, ◌+◌, ◌-◌, ◌<◌, ◌≤◌, ◌^◌, ◌||◌, ℕ, true, false, length, Err, None, IfErr, IfOk, IfSome, OnOk, IsErr};
 ghost use Rattle.conform_job.specs.Answers.{AreInfosOf};
 ghost use Rattle.conform_job.specs.Names.{Tells};
 ghost use Rattle.render_board.specs.Board.{IsNext, has_stop, is_done, turn_of, with_step};
 ghost use Rattle.render_board.specs.declared.board.Turn.TheVariants as turns;
 ghost use Rattle.render_board.specs.declared.step.Step.TheVariants as steps;
+ghost use Rattle.render_board.specs.declared.step.Why.TheVariants as whys;
 ghost use Rattle.reel_writer.specs.Reel.{frames_of};
 ghost use Rattle.single_run.specs.Ends.{IsChange, IsStop};
 ghost use Rattle.single_run.specs.Scanned.{IsScanned};
 ghost use Rattle.station.specs.Stepped.{HasStepped};
+ghost use Rattle.station.specs.Worked.{MayRaise};
 
 use crate::rounds::{is_source_fault, why_of};
 use crate::seat::Seat;
 use conform_job::{Job, Work};
 use frame_render::{FrameBuf, Rendered};
+use frame_share::{Share, Units};
 use reel_disk::{Disk, Start};
-use render_board::{Claim, Turn};
+use render_board::{Claim, Turn, Why};
 use scan_source::Scans;
-use shared_station::Station;
+use shared_station::{Marks, Station};
 use single_run::{RunEnd, make_frame};
 use std::alloc::Global;
 use std::sync::ledger::Ledger;
@@ -45,11 +48,13 @@ fn either(a: bool, b: bool) -> bool
 }
 
 /// Makes a frame in room of its own.
-fn make_apart<N: Work, S: Scans>(
+fn make_apart<N: Work, F: Ledger, S: Scans>(
     alloc: Global,
     job: &Job,
     scan: &mut S,
     i: u32,
+    share: &mut Share<N, F>,
+    units: &mut Units<F>,
     loads: &mut u64,
 ) -> Result<Rendered<N>, RunEnd>
     requires job { job.now ≡ N.job }
@@ -57,12 +62,16 @@ fn make_apart<N: Work, S: Scans>(
     requires infos { AreInfosOf N.job.parts N.files N.job.infos }
     requires index { i < frames_of N.job }
     requires few { loads.old + 2 < 2 ^ 64 }
+    requires closed { units.old.pending ≡ 0 }
     ensures index { IfOk result (λ frame. frame.index ≡ i) }
     ensures stop { IfErr result (IsStop N.job N.files) }
     ensures never { result ≢ Err RunEnd.DiskFault }
+    ensures closed { OnOk result (units.new.pending ≡ 0) }
+    ensures parts { units.new.parts ≡ units.old.parts }
+    ensures counted { units.new.amount + loads.old ≡ units.old.amount + loads.new }
     ensures most { loads.new ≤ loads.old + 2 }
     ensures later { loads.old ≤ loads.new }
-    ensures loaded { IfErr result (λ end. IsChange end → loads.old < loads.new) }
+    ensures changed { IfErr result (λ end. IsChange end → loads.old < loads.new) }
     ensures scan { IsScanned S.world S.faults S.loads (loads.new - loads.old) (result ≡ Err RunEnd.SourceFault) scan.old scan.new }
     ensures same { S.same scan.old scan.new }
 {
@@ -71,15 +80,25 @@ fn make_apart<N: Work, S: Scans>(
         Err(_) => return Err(RunEnd::NoMemory),
     };
     let mut into = Vec::new(alloc);
-    make_frame(alloc, job, scan, i, &mut into, room, loads)
+    make_frame(alloc, job, scan, i, &mut into, room, share, units, loads)
 }
 
 /// Makes and finishes the frame that a worker holds. It says whether it is done; else a worker has stopped.
-fn finish_as<S: Scans, D: Disk, N: Work + Start, A: Ledger, B: Ledger, C: Ledger, E: Ledger>(
+fn finish_as<
+    S: Scans,
+    D: Disk,
+    N: Work + Start,
+    A: Ledger,
+    B: Ledger,
+    C: Ledger,
+    E: Ledger,
+    F: Ledger,
+>(
     alloc: Global,
     job: &Job,
     station: &mut Station<D, N, A, B, C, E>,
-    seat: &mut Seat<S, N, A, B, C, E>,
+    share: &mut Share<N, F>,
+    seat: &mut Seat<S, N, A, B, C, E, F>,
     worker: u16,
     i: u32,
 ) -> bool
@@ -89,6 +108,10 @@ fn finish_as<S: Scans, D: Disk, N: Work + Start, A: Ledger, B: Ledger, C: Ledger
     requires few { seat.old.loads + 2 < 2 ^ 64 }
     requires worker { worker < station.old.log.workers }
     requires holds { turn_of station.old.log worker ≡ turns.Holds i }
+    requires closed { seat.old.units.pending ≡ 0 }
+    ensures closed { result ≡ true → seat.new.units.pending ≡ 0 }
+    ensures parts { seat.new.units.parts ≡ seat.old.units.parts }
+    ensures counted { seat.new.units.amount + seat.old.loads ≡ seat.old.units.amount + seat.new.loads }
     ensures done { result ≡ true → station.new.log ≡ with_step station.old.log (steps.Finish worker i) }
     ensures stopped { result ≡ false → has_stop station.new.log.steps ≡ true }
     ensures start { station.new.log.start ≡ station.old.log.start }
@@ -102,7 +125,15 @@ fn finish_as<S: Scans, D: Disk, N: Work + Start, A: Ledger, B: Ledger, C: Ledger
     if station.is_closed() {
         return false;
     }
-    let made = make_apart::<N, S>(alloc, job, &mut seat.scan, i, &mut seat.loads);
+    let made = make_apart::<N, F, S>(
+        alloc,
+        job,
+        &mut seat.scan,
+        i,
+        share,
+        &mut seat.units,
+        &mut seat.loads,
+    );
     seat.has_failed = either(seat.has_failed, is_source_fault(&made));
     match made {
         Ok(frame) => station.finish(worker, &frame, &mut seat.marks).is_ok(),
@@ -114,11 +145,21 @@ fn finish_as<S: Scans, D: Disk, N: Work + Start, A: Ledger, B: Ledger, C: Ledger
 }
 
 /// Finishes the frame that a worker holds, if it does. It says whether the worker is idle then; else one has stopped.
-fn finish_one<S: Scans, D: Disk, N: Work + Start, A: Ledger, B: Ledger, C: Ledger, E: Ledger>(
+fn finish_one<
+    S: Scans,
+    D: Disk,
+    N: Work + Start,
+    A: Ledger,
+    B: Ledger,
+    C: Ledger,
+    E: Ledger,
+    F: Ledger,
+>(
     alloc: Global,
     job: &Job,
     station: &mut Station<D, N, A, B, C, E>,
-    seat: &mut Seat<S, N, A, B, C, E>,
+    share: &mut Share<N, F>,
+    seat: &mut Seat<S, N, A, B, C, E, F>,
     worker: u16,
 ) -> bool
     requires job { job.now ≡ N.job }
@@ -126,6 +167,10 @@ fn finish_one<S: Scans, D: Disk, N: Work + Start, A: Ledger, B: Ledger, C: Ledge
     requires infos { AreInfosOf N.job.parts N.files N.job.infos }
     requires few { seat.old.loads + 2 < 2 ^ 64 }
     requires worker { worker < station.old.log.workers }
+    requires closed { seat.old.units.pending ≡ 0 }
+    ensures closed { result ≡ true → seat.new.units.pending ≡ 0 }
+    ensures parts { seat.new.units.parts ≡ seat.old.units.parts }
+    ensures counted { seat.new.units.amount + seat.old.loads ≡ seat.old.units.amount + seat.new.loads }
     ensures idle { result ≡ true → turn_of station.new.log worker ≡ turns.Idle }
     ensures others { result ≡ true → (w : ℕ) → w ≢ worker → turn_of station.new.log w ≡ turn_of station.old.log w }
     ensures stopped { result ≡ false → has_stop station.new.log.steps ≡ true }
@@ -140,21 +185,35 @@ fn finish_one<S: Scans, D: Disk, N: Work + Start, A: Ledger, B: Ledger, C: Ledge
     match station.turn(worker) {
         Turn::Idle => true,
         Turn::Stopped => false,
-        Turn::Holds(i) => finish_as(alloc, job, station, seat, worker, i),
+        Turn::Holds(i) => finish_as(alloc, job, station, share, seat, worker, i),
     }
 }
 
 /// Finishes each frame that a worker holds. It says whether all are idle then; else a worker has stopped.
-fn finish_held<S: Scans, D: Disk, N: Work + Start, A: Ledger, B: Ledger, C: Ledger, E: Ledger>(
+fn finish_held<
+    S: Scans,
+    D: Disk,
+    N: Work + Start,
+    A: Ledger,
+    B: Ledger,
+    C: Ledger,
+    E: Ledger,
+    F: Ledger,
+>(
     alloc: Global,
     job: &Job,
     station: &mut Station<D, N, A, B, C, E>,
-    seat: &mut Seat<S, N, A, B, C, E>,
+    share: &mut Share<N, F>,
+    seat: &mut Seat<S, N, A, B, C, E, F>,
 ) -> bool
     requires job { job.now ≡ N.job }
     requires files { Tells N.files (S.world seat.old.scan) }
     requires infos { AreInfosOf N.job.parts N.files N.job.infos }
     requires few { seat.old.loads ≤ 524288 }
+    requires closed { seat.old.units.pending ≡ 0 }
+    ensures closed { result ≡ true → seat.new.units.pending ≡ 0 }
+    ensures parts { seat.new.units.parts ≡ seat.old.units.parts }
+    ensures counted { seat.new.units.amount + seat.old.loads ≡ seat.old.units.amount + seat.new.loads }
     ensures idle { result ≡ true → (w : ℕ) → w < station.new.log.workers → turn_of station.new.log w ≡ turns.Idle }
     ensures stopped { result ≡ false → has_stop station.new.log.steps ≡ true }
     ensures start { station.new.log.start ≡ station.old.log.start }
@@ -164,7 +223,7 @@ fn finish_held<S: Scans, D: Disk, N: Work + Start, A: Ledger, B: Ledger, C: Ledg
     ensures same { S.same seat.old.scan seat.new.scan }
 {
     for worker in 0..station.workers() {
-        if !finish_one(alloc, job, station, seat, worker) {
+        if !finish_one(alloc, job, station, share, seat, worker) {
             return false;
         }
     }
@@ -188,17 +247,30 @@ fn claim_first<D: Disk, N: Work + Start, A: Ledger, B: Ledger, C: Ledger, E: Led
 }
 
 /// Claims and finishes each free frame as worker 0.
-fn finish_free<S: Scans, D: Disk, N: Work + Start, A: Ledger, B: Ledger, C: Ledger, E: Ledger>(
+fn finish_free<
+    S: Scans,
+    D: Disk,
+    N: Work + Start,
+    A: Ledger,
+    B: Ledger,
+    C: Ledger,
+    E: Ledger,
+    F: Ledger,
+>(
     alloc: Global,
     job: &Job,
     station: &mut Station<D, N, A, B, C, E>,
-    seat: &mut Seat<S, N, A, B, C, E>,
+    share: &mut Share<N, F>,
+    seat: &mut Seat<S, N, A, B, C, E, F>,
 )
     requires job { job.now ≡ N.job }
     requires files { Tells N.files (S.world seat.old.scan) }
     requires infos { AreInfosOf N.job.parts N.files N.job.infos }
     requires few { seat.old.loads ≤ 524320 }
+    requires closed { seat.old.units.pending ≡ 0 }
     requires idle { (w : ℕ) → w < station.old.log.workers → turn_of station.old.log w ≡ turns.Idle }
+    ensures parts { seat.new.units.parts ≡ seat.old.units.parts }
+    ensures counted { seat.new.units.amount + seat.old.loads ≡ seat.old.units.amount + seat.new.loads }
     ensures whole { has_stop station.new.log.steps ≡ false → (i : ℕ) → i < frames_of N.job → is_done station.new.log i ≡ true }
     ensures most { seat.new.loads ≤ 2097152 }
     ensures stepped { HasStepped N.files S.world S.faults S.loads seat.old.scan seat.new.scan seat.old.loads seat.new.loads seat.old.has_failed seat.new.has_failed seat.old.marks seat.new.marks }
@@ -209,15 +281,31 @@ fn finish_free<S: Scans, D: Disk, N: Work + Start, A: Ledger, B: Ledger, C: Ledg
         let Some(i) = claim_first(station) else {
             return;
         };
-        if !finish_as(alloc, job, station, seat, 0, i) {
+        if !finish_as(alloc, job, station, share, seat, 0, i) {
             return;
         }
     }
     unreachable!()
 }
 
+/// Stops as worker 0, for want of memory, where no worker has stopped.
+fn stop_first<D: Disk, N: Work + Start, A: Ledger, B: Ledger, C: Ledger, E: Ledger>(
+    station: &mut Station<D, N, A, B, C, E>,
+    marks: &mut Marks<A, B, C, E>,
+)
+    ensures stopped { has_stop station.new.log.steps ≡ true }
+    ensures marks { MayRaise whys.Memory marks.old marks.new }
+{
+    let _ = station.workers();
+    if let Turn::Stopped = station.turn(0) {
+        return;
+    }
+    station.stop(0, Why::Memory, marks);
+}
+
 /// Finishes what the workers left, where none of them has stopped: first each frame that a worker holds, as that worker,
-/// and then each free one as worker 0. Either a worker has stopped then, or every frame is done.
+/// and then each free one as worker 0. Where a miss has had no put, for want of memory, worker 0 stops instead. Either a
+/// worker has stopped then, or every frame is done.
 pub(crate) fn finish_rest<
     S: Scans,
     D: Disk,
@@ -226,16 +314,22 @@ pub(crate) fn finish_rest<
     B: Ledger,
     C: Ledger,
     E: Ledger,
+    F: Ledger,
 >(
     alloc: Global,
     job: &Job,
     station: &mut Station<D, N, A, B, C, E>,
-    seat: &mut Seat<S, N, A, B, C, E>,
+    share: &mut Share<N, F>,
+    seat: &mut Seat<S, N, A, B, C, E, F>,
+    all_put: bool,
 )
     requires job { job.now ≡ N.job }
     requires files { Tells N.files (S.world seat.old.scan) }
     requires infos { AreInfosOf N.job.parts N.files N.job.infos }
     requires few { seat.old.loads ≤ 524288 }
+    requires put { all_put ≡ true → seat.old.units.pending ≡ 0 }
+    ensures parts { seat.new.units.parts ≡ seat.old.units.parts }
+    ensures counted { seat.new.units.amount + seat.old.loads ≡ seat.old.units.amount + seat.new.loads }
     ensures whole { has_stop station.new.log.steps ≡ false → (i : ℕ) → i < frames_of N.job → is_done station.new.log i ≡ true }
     ensures most { seat.new.loads ≤ 2097152 }
     ensures stepped { HasStepped N.files S.world S.faults S.loads seat.old.scan seat.new.scan seat.old.loads seat.new.loads seat.old.has_failed seat.new.has_failed seat.old.marks seat.new.marks }
@@ -244,7 +338,11 @@ pub(crate) fn finish_rest<
     if has_stopped(station) {
         return;
     }
-    if finish_held(alloc, job, station, seat) {
-        finish_free(alloc, job, station, seat);
+    if !all_put {
+        stop_first(station, &mut seat.marks);
+        return;
+    }
+    if finish_held(alloc, job, station, share, seat) {
+        finish_free(alloc, job, station, share, seat);
     }
 }

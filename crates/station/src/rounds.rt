@@ -1,4 +1,4 @@
-//! A worker's rounds: a claim under the lock, then loads and rendering outside it, then a finish or a stop under it.
+//! A worker's rounds: a claim under the station's lock, then loads and rendering outside it, then a finish or a stop under it.
 ghost use Rattle.std.specs.Prelude.{◌≡◌, ◌≢◌, ◌↔◌, ◌+◌, ◌-◌, ◌<◌, ◌≤◌, ◌^◌, true, false, Err, length, IfSome, IfOk, IfErr, OnOk, IsErr};
 ghost use Rattle.conform_job.specs.Answers.{AreInfosOf};
 ghost use Rattle.conform_job.specs.Names.{Tells};
@@ -12,13 +12,15 @@ ghost use Rattle.shared_station.specs.StationSteps.{MayStop, why_by};
 ghost use Rattle.station.specs.Worked.{HasCauses, KeepsParts, KeepsSources, MayRaise};
 
 use crate::seat::Seat;
+use crate::sharing::make_shared;
 use conform_job::{Job, Work};
 use frame_render::{FrameBuf, Rendered};
+use frame_share::Share;
 use reel_disk::{Disk, Start};
 use render_board::{Claim, Turn, Why};
 use scan_source::Scans;
 use shared_station::{Marks, Station};
-use single_run::{RunEnd, make_frame};
+use single_run::RunEnd;
 use std::alloc::Global;
 use std::sync::ledger::Ledger;
 use std::sync::{Mutex, Wait};
@@ -115,12 +117,23 @@ fn give_up<D: Disk, N: Work + Start, A: Ledger, B: Ledger, C: Ledger, E: Ledger,
 }
 
 /// One round: claims a frame, makes it and finishes it. The room is handed back where the worker goes on.
-fn round<S: Scans, D: Disk, N: Work + Start, A: Ledger, B: Ledger, C: Ledger, E: Ledger, R: Wait>(
+fn round<
+    S: Scans,
+    D: Disk,
+    N: Work + Start,
+    A: Ledger,
+    B: Ledger,
+    C: Ledger,
+    E: Ledger,
+    F: Ledger,
+    R: Wait,
+>(
     rt: &R,
     alloc: Global,
     job: &Job,
-    seat: &mut Seat<S, N, A, B, C, E>,
+    seat: &mut Seat<S, N, A, B, C, E, F>,
     station: &Mutex<Station<D, N, A, B, C, E>>,
+    share: &Mutex<Share<N, F>>,
     into: &mut Vec<u8>,
     room: FrameBuf,
 ) -> Option<FrameBuf>
@@ -130,7 +143,11 @@ fn round<S: Scans, D: Disk, N: Work + Start, A: Ledger, B: Ledger, C: Ledger, E:
     requires room { length room ≡ frame_size N.job }
     requires few { seat.old.loads + 2 < 2 ^ 64 }
     requires unfailed { seat.old.has_failed ≡ false }
+    requires closed { seat.old.units.pending ≡ 0 }
     ensures number { seat.new.number ≡ seat.old.number }
+    ensures parts { seat.new.units.parts ≡ seat.old.units.parts }
+    ensures counted { seat.new.units.amount + seat.old.loads ≡ seat.old.units.amount + seat.new.loads }
+    ensures closed { IfSome result (λ back. seat.new.units.pending ≡ 0) }
     ensures room { IfSome result (λ back. length back ≡ frame_size N.job) }
     ensures later { seat.old.loads ≤ seat.new.loads }
     ensures most { seat.new.loads ≤ seat.old.loads + 2 }
@@ -142,7 +159,18 @@ fn round<S: Scans, D: Disk, N: Work + Start, A: Ledger, B: Ledger, C: Ledger, E:
     let Some(i) = take_frame(rt, seat.number, station) else {
         return None;
     };
-    let made = make_frame::<N, S>(alloc, job, &mut seat.scan, i, into, room, &mut seat.loads);
+    let made = make_shared::<N, F, S, R>(
+        rt,
+        alloc,
+        job,
+        &mut seat.scan,
+        i,
+        into,
+        room,
+        share,
+        &mut seat.units,
+        &mut seat.loads,
+    );
     seat.has_failed = is_source_fault(&made);
     match made {
         Ok(frame) => {
@@ -160,7 +188,7 @@ fn round<S: Scans, D: Disk, N: Work + Start, A: Ledger, B: Ledger, C: Ledger, E:
 }
 
 /// A worker's part of a run: it claims, makes and finishes frames until none is left, or somebody stops. It loads and
-/// renders outside the lock, and waits for the lock alone.
+/// renders outside both locks, holds one of them at a time, and waits for them alone.
 ///
 /// It stops where a load failed, where memory ran out, where the disk failed in a finish, and where a source file isn't
 /// what it was when the job was planned. Each stop is counted in its marks.
@@ -172,20 +200,25 @@ pub fn worker<
     B: Ledger,
     C: Ledger,
     E: Ledger,
+    F: Ledger,
     R: Wait,
 >(
     rt: &R,
     alloc: Global,
     job: &Job,
-    seat: &mut Seat<S, N, A, B, C, E>,
+    seat: &mut Seat<S, N, A, B, C, E, F>,
     station: &Mutex<Station<D, N, A, B, C, E>>,
+    share: &Mutex<Share<N, F>>,
 )
     requires job { job.now ≡ N.job }
     requires files { Tells N.files (S.world seat.old.scan) }
     requires infos { AreInfosOf N.job.parts N.files N.job.infos }
     requires none { seat.old.loads ≡ 0 }
     requires unfailed { seat.old.has_failed ≡ false }
+    requires closed { seat.old.units.pending ≡ 0 }
     ensures number { seat.new.number ≡ seat.old.number }
+    ensures parts { seat.new.units.parts ≡ seat.old.units.parts }
+    ensures counted { seat.new.units.amount ≡ seat.old.units.amount + seat.new.loads }
     ensures few { seat.new.loads ≤ 524288 }
     ensures scan { IsScanned S.world S.faults S.loads seat.new.loads (seat.new.has_failed ≡ true) seat.old.scan seat.new.scan }
     ensures same { S.same seat.old.scan seat.new.scan }
@@ -200,7 +233,7 @@ pub fn worker<
     };
     let mut into = Vec::new(alloc);
     for _ in 0..job.timeline().count() {
-        match round(rt, alloc, job, seat, station, &mut into, room) {
+        match round(rt, alloc, job, seat, station, share, &mut into, room) {
             Some(back) => room = back,
             None => return,
         }

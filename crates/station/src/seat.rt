@@ -1,5 +1,6 @@
 //! What one worker has for itself.
 use conform_job::Work;
+use frame_share::Units;
 use scan_source::Scans;
 use shared_station::Marks;
 use std::marker::PhantomData;
@@ -7,13 +8,15 @@ use std::sync::ledger::Ledger;
 
 /// What one worker of a run of N's job has for itself.
 #[derive(Drop)]
-pub struct Seat<S: Scans, N: Work, A: Ledger, B: Ledger, C: Ledger, E: Ledger> {
+pub struct Seat<S: Scans, N: Work, A: Ledger, B: Ledger, C: Ledger, E: Ledger, F: Ledger> {
     /// Which worker it is, from 0.
     pub number: u16,
     /// The source files as this worker loads them.
     pub scan: S,
     /// Its shares of the totals of stops.
     pub marks: Marks<A, B, C, E>,
+    /// Its share of the total of misses.
+    pub units: Units<F>,
     /// How often it loaded a source file.
     pub loads: u64,
     /// Whether a load of it failed, which ends its work.

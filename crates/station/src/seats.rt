@@ -1,29 +1,37 @@
 //! The seats of a crew: one for each scan, made before the workers begin and taken apart after they have returned.
 ghost use Rattle.std.specs.Prelude.{◌≡◌, ◌+◌, ◌*◌, ◌<◌, ◌≤◌, ◌++◌, ◌∷◌, ℕ, All, [], false, length, map, sum_by, vec_len, vec_capacity};
+ghost use Rattle.frame_share.specs.Units.{fresh as unasked};
 ghost use Rattle.shared_station.specs.Marks.{HasMoreThan, fresh};
 ghost use Rattle.station.specs.Seats.{HasGiven, HasTaken, IsOnePart};
 
 use crate::seat::Seat;
 use conform_job::Work;
+use frame_share::Units;
 use scan_source::Scans;
 use shared_station::Marks;
 use std::marker::PhantomData;
 use std::sync::ledger::Ledger;
 
 /// A seat for each scan, in their order. Takes no memory.
-pub(crate) fn seat_all<S: Scans, N: Work, A: Ledger, B: Ledger, C: Ledger, E: Ledger>(
-    room: Vec<Seat<S, N, A, B, C, E>>,
+pub(crate) fn seat_all<S: Scans, N: Work, A: Ledger, B: Ledger, C: Ledger, E: Ledger, F: Ledger>(
+    room: Vec<Seat<S, N, A, B, C, E, F>>,
     scans: Vec<S>,
     marks: &mut Marks<A, B, C, E>,
-) -> Vec<Seat<S, N, A, B, C, E>>
+    units: &mut Units<F>,
+) -> Vec<Seat<S, N, A, B, C, E, F>>
     requires empty { room.items ≡ [] }
     requires room { vec_len scans ≤ vec_capacity room }
     requires few { vec_len scans ≤ 16 }
     requires parts { HasMoreThan (vec_len scans) marks.old }
+    requires shares { vec_len scans < units.old.parts }
+    requires closed { units.old.pending ≡ 0 }
     ensures scans { map (λ s. s.scan) result.items ≡ scans.items }
     ensures len { vec_len result ≡ vec_len scans }
     ensures fresh { All (λ s. (s.marks ≡ fresh) × (s.loads ≡ 0) × (s.has_failed ≡ false)) result.items }
     ensures given { HasGiven marks.old (vec_len scans) marks.new }
+    ensures unasked { All (λ s. s.units ≡ unasked) result.items }
+    ensures shares { units.new.parts + vec_len scans ≡ units.old.parts }
+    ensures amount { units.new.amount ≡ units.old.amount }
 {
     let mut seats = room;
     let mut number = 0;
@@ -32,6 +40,7 @@ pub(crate) fn seat_all<S: Scans, N: Work, A: Ledger, B: Ledger, C: Ledger, E: Le
             number,
             scan,
             marks: marks.split(),
+            units: units.split(),
             loads: 0,
             has_failed: false,
             of: PhantomData,
@@ -42,22 +51,27 @@ pub(crate) fn seat_all<S: Scans, N: Work, A: Ledger, B: Ledger, C: Ledger, E: Le
     seats
 }
 
-/// The scans, in their order, and how many loads the seats counted; all marks are in one. Takes no memory.
-pub(crate) fn unseat<S: Scans, N: Work, A: Ledger, B: Ledger, C: Ledger, E: Ledger>(
-    seats: Vec<Seat<S, N, A, B, C, E>>,
+/// The scans, in their order, and how many loads the seats counted; all marks are in one, and so are all units. Takes no
+/// memory.
+pub(crate) fn unseat<S: Scans, N: Work, A: Ledger, B: Ledger, C: Ledger, E: Ledger, F: Ledger>(
+    seats: Vec<Seat<S, N, A, B, C, E, F>>,
     room: Vec<S>,
     marks: &mut Marks<A, B, C, E>,
+    units: &mut Units<F>,
 ) -> (Vec<S>, u64)
     requires empty { room.items ≡ [] }
     requires room { vec_len seats ≤ vec_capacity room }
     requires some { vec_len seats ≤ 16 }
     requires few { All (λ s. s.loads ≤ 2097152) seats.items }
     requires one { All (λ s. IsOnePart s.marks) seats.items }
+    requires counted { All (λ s. (s.units.parts ≡ 1) × (s.units.amount ≡ s.loads)) seats.items }
     ensures scans { result.0.items ≡ map (λ s. s.scan) seats.items }
     ensures loads { result.1 ≡ sum_by (λ s. s.loads) seats.items }
     ensures source { marks.new.source.amount ≡ marks.old.source.amount + sum_by (λ s. s.marks.source.amount) seats.items }
     ensures changed { marks.new.changed.amount ≡ marks.old.changed.amount + sum_by (λ s. s.marks.changed.amount) seats.items }
     ensures taken { HasTaken marks.old (vec_len seats) marks.new }
+    ensures shares { units.new.parts ≡ units.old.parts + vec_len seats }
+    ensures amount { units.new.amount ≡ units.old.amount + result.1 }
 {
     let mut scans = room;
     let mut loads = 0;
@@ -66,11 +80,13 @@ pub(crate) fn unseat<S: Scans, N: Work, A: Ledger, B: Ledger, C: Ledger, E: Ledg
             number: _,
             scan,
             marks: theirs,
+            units: asked,
             loads: more,
             has_failed: _,
             of: _,
         } = seat;
         marks.join(theirs);
+        units.join(asked);
         loads += more;
         push_within(&mut scans, scan);
     }

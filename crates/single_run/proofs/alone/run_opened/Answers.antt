@@ -13,25 +13,25 @@ use Rattle.single_run.proofs.alone.run_opened.Goals as goal
 
 pub returns-clause-exit : goal.returns-clause-exit
 returns-clause-exit g c told steady k =
-    let new = c.run_frames-end.new.reel in
+    let new = c.run_shared-end.new.reel in
     let all = closed_frames c.args.reel.ledger.gates (frames_of g.N.Work.job) in
     let of = c.report_of-report.ensures.reel in
     let rendered = ap (λ (r : Report). r.rendered) c.report_of-report.ensures.report in
     subst (λ d. HasAcked g.N.Work.job k (view_of (g.D.Disk.history d)) ↔ ((get_or c.args.reel.ledger.gates k false ≡ true) ⊎ Contains (take c.report_of-report.result.rendered all) k)) (sym c.close.ensures)
-    (exit_acked g.N.Work.job g.D.Disk.tells g.D.Disk.history new of (of.agrees (c.run_frames-end.ensures.stays_open steady) told) c.args.reel.ledger.gates c.run_frames-end.ensures.gates (take c.report_of-report.result.rendered all)
-    (c.run_frames-end.ensures.acks ∙ ap (λ (n : ℕ). take n all) (sym rendered)) k)
+    (exit_acked g.N.Work.job g.D.Disk.tells g.D.Disk.history new of (of.agrees (c.run_shared-end.ensures.stays_open steady) told) c.args.reel.ledger.gates c.run_shared-end.ensures.gates (take c.report_of-report.result.rendered all)
+    (c.run_shared-end.ensures.acks ∙ ap (λ (n : ℕ). take n all) (sym rendered)) k)
 
 pub returns-clause-acked : goal.returns-clause-acked
 returns-clause-acked g c done told =
-    let new = c.run_frames-end.new.reel in
+    let new = c.run_shared-end.new.reel in
     let of = c.report_of-report.ensures.reel in
-    let steady : c.run_frames-end.result ≢ run_end.DiskFault = λ same. let is = sym done ∙ same in cc in
-    let finished = subst (λ (e : RunEnd). WereFinished g.N.Work.job c.args.reel.ledger.gates e (length new.acks) c.run_frames-end.new.loads) done c.run_frames-end.ensures.finished in
+    let steady : c.run_shared-end.result.0 ≢ run_end.DiskFault = λ same. let is = sym done ∙ same in cc in
+    let finished = subst (λ (e : RunEnd). WereFinished g.N.Work.job c.args.reel.ledger.gates e (length new.acks) c.run_shared-end.result.1) done c.run_shared-end.ensures.finished in
     subst (λ d. AreAllAcked g.N.Work.job (moment_of (g.D.Disk.history d))) (sym c.close.ensures) (record {
       each = λ i lt.
-          images_acked g.N.Work.job g.D.Disk.tells g.D.Disk.history new of (of.agrees (c.run_frames-end.ensures.stays_open steady) told) i
-          ((c.run_frames-end.ensures.gates i).1 (all_done g.N.Work.job c.args.reel.ledger.gates new.acks (length new.acks) c.run_frames-end.new.loads finished c.run_frames-end.ensures.acks i lt));
+          images_acked g.N.Work.job g.D.Disk.tells g.D.Disk.history new of (of.agrees (c.run_shared-end.ensures.stays_open steady) told) i
+          ((c.run_shared-end.ensures.gates i).1 (all_done g.N.Work.job c.args.reel.ledger.gates new.acks (length new.acks) c.run_shared-end.result.1 finished c.run_shared-end.ensures.acks i lt));
     })
 
 pub returns-clause-changed : goal.returns-clause-changed
-returns-clause-changed g c change = rose_by _ _ _ (c.run_frames-end.ensures.loaded change) c.run_frames-end.ensures.scan.asked
+returns-clause-changed g c change = rose_by _ _ _ (c.run_shared-end.ensures.changed change) c.run_shared-end.ensures.scan.asked

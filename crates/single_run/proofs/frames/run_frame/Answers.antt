@@ -1,9 +1,12 @@
-use Rattle.std.proofs.Common.{sym, ◌∙◌, arith}
+use Rattle.std.proofs.Common.{List, sym, ◌∙◌, subst}
+use Rattle.cf_base.specs.declared.key.Key.{Key}
 use Rattle.reel_disk.proofs.Sparing.{spares_wider}
-use Rattle.conform_job.specs.Job.{file_of}
+use Rattle.conform_job.specs.Job.{file_of, need_at}
 use Rattle.reel_writer.specs.Reel.{IsWrittenFile}
 use Rattle.reel_writer.proofs.ReelLaws.{reel_run_itself}
-use Rattle.single_run.specs.Asks.{IsRunFile}
+use Rattle.single_run.specs.Asks.{IsRunFile, keys_of_need}
+use Rattle.single_run.specs.Sharing.{HasAsked}
+use Rattle.single_run.proofs.Logs.{asked_is_tried, asked_none}
 use Rattle.single_run.proofs.Stepping.{past_itself, asks_if_open, asks_if_closed, run_file}
 use Rattle.single_run.proofs.frames.run_frame.Goals as goal
 
@@ -14,7 +17,7 @@ pub returns-then-is_acked-clause-run : goal.returns-then-is_acked-clause-run
 returns-then-is_acked-clause-run g c told = reel_run_itself g.N.Work.job g.N.Work.files (g.D.Disk.history c.args.reel.now.disk)
 
 pub returns-then-is_acked-clause-asked : goal.returns-then-is_acked-clause-asked
-returns-then-is_acked-clause-asked g c = let none = asks_if_open g.N.Work.job c.args.reel.now.ledger.gates c.args.i (sym c.is_acked.ensures ∙ c.if-is_acked.true) in omega (arith, none)
+returns-then-is_acked-clause-asked g c = subst (λ (l : List Key). HasAsked c.args.share.now c.args.share.now l) (sym (asks_if_open g.N.Work.job c.args.reel.now.ledger.gates c.args.i (sym c.is_acked.ensures ∙ c.if-is_acked.true))) (asked_none c.args.share.now)
 
 pub returns-in-Err-clause-run : goal.returns-in-Err-clause-run
 returns-in-Err-clause-run g c told = reel_run_itself g.N.Work.job g.N.Work.files (g.D.Disk.history c.args.reel.now.disk)
@@ -26,9 +29,10 @@ returns-in-Ok-finish-clause-spares g c told =
 
 pub returns-in-Ok-finish-clause-asked : goal.returns-in-Ok-finish-clause-asked
 returns-in-Ok-finish-clause-asked g c =
-    let one = asks_if_closed g.N.Work.job c.args.reel.now.ledger.gates c.args.i (sym c.is_acked.ensures ∙ c.if-is_acked.false) in
-    let asked = c.in-Ok.ensures.asked in
-    omega (arith, one, asked)
+    subst (λ (l : List Key). HasAsked c.args.share.now c.make_frame.new.share l) (sym (asks_if_closed g.N.Work.job c.args.reel.now.ledger.gates c.args.i (sym c.is_acked.ensures ∙ c.if-is_acked.false))) c.in-Ok.ensures.asked
+
+pub returns-in-Err-finish-clause-tried : goal.returns-in-Err-finish-clause-tried
+returns-in-Err-finish-clause-tried g c = asked_is_tried c.args.share.now c.make_frame.new.share (keys_of_need (need_at g.N.Work.job c.args.i)) c.in-Ok.ensures.asked
 
 pub returns-in-Err-finish-clause-spares : goal.returns-in-Err-finish-clause-spares
 returns-in-Err-finish-clause-spares g c told =

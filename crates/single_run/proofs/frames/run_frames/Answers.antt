@@ -1,4 +1,4 @@
-use Rattle.std.proofs.Common.{◌≡◌, ℕ, suc, ◌+◌, ◌-◌, ◌<◌, List, length, take, refl, sym, ◌∙◌, ap, subst, arith}
+use Rattle.std.proofs.Common.{◌≡◌, ℕ, suc, ◌+◌, ◌-◌, ◌<◌, List, ◌++◌, length, take, refl, sym, ◌∙◌, ap, subst, arith}
 use Rattle.std.specs.Prelude.{Err}
 use Rattle.frame_render.specs.Frame.{frame_size}
 use Rattle.reel_disk.proofs.Sparing.{spares_itself, spares_along, spares_wider}
@@ -6,8 +6,10 @@ use Rattle.reel_writer.specs.Reel.{frames_of}
 use Rattle.reel_writer.proofs.ReelLaws.{reel_run_itself, reel_run_along}
 use Rattle.single_run.specs.Asks.{IsRunFile, asks_of_frames, closed_frames}
 use Rattle.single_run.specs.Ran.{ArePast, WereFinished}
+use Rattle.single_run.specs.Sharing.{IsPaired, asks_of}
 use Rattle.single_run.specs.declared.run_end.RunEnd.TheVariants as end
-use Rattle.single_run.proofs.Running.{asks_few, asks_more, asks_first, taken, stopped, unbegun, gates_are, run_file_along, acks_then, gates_then, kept_then, err_same, not_done}
+use Rattle.single_run.proofs.Logs.{asks_along, paired_along}
+use Rattle.single_run.proofs.Running.{acks_are, all_finished, asks_more, asks_first, taken, stopped, unbegun, gates_are, run_file_along, acks_then, gates_then, kept_then, err_same, not_done}
 use Rattle.single_run.proofs.Scanning.{scanned_itself, scanned_as, scanned_along}
 use Rattle.single_run.proofs.Stepping.{past_none, past_more, gate_still, if_still}
 use Rattle.single_run.proofs.frames.run_frames.Goals as goal
@@ -17,14 +19,19 @@ loop-i-init g c = record {
   within = omega arith;
   ending = c.count-i-end.ensures.count ∙ ap frames_of c.requires.job;
   past = past_none c.args.reel.now c.requires.is_open;
-  asked = c.requires.zero ∙ sym (asks_first g.N.Work.job c.args.reel.now.ledger.gates);
-  few = let zero = c.requires.zero in omega (arith, zero);
+  asked = ap asks_of c.requires.unasked ∙ sym (asks_first g.N.Work.job c.args.reel.now.ledger.gates);
+  paired = subst (IsPaired ⊥) (sym c.requires.unasked) tt;
+  capacity = refl;
+  parts = refl;
+  closed = c.requires.zero.2;
+  counted = c.requires.zero.1 ∙ sym c.requires.zero.0;
+  few = let zero = c.requires.zero.0 in omega (arith, zero);
   room = c.in-Ok.ensures.room ∙ ap frame_size c.requires.job;
   run = λ told. reel_run_itself g.N.Work.job g.N.Work.files (g.D.Disk.history c.args.reel.now.disk);
   spares = λ told. spares_itself (g.D.Disk.history c.args.reel.now.disk) (IsRunFile g.N.Work.job c.args.reel.now.ledger.gates);
   faults = refl;
   same_disk = g.met.D.Disk.same_itself c.args.reel.now.disk;
-  scan = scanned_as g.S.Scans.world g.S.Scans.faults g.S.Scans.loads c.args.scan.now c.args.scan.now 0 c.args.loads.now ⊥ ⊥ (sym c.requires.zero) (λ never. never) (λ never. never) (scanned_itself g.S.Scans.world g.S.Scans.faults g.S.Scans.loads ⊥ (λ never. never) c.args.scan.now);
+  scan = scanned_as g.S.Scans.world g.S.Scans.faults g.S.Scans.loads c.args.scan.now c.args.scan.now 0 c.args.loads.now ⊥ ⊥ (sym c.requires.zero.0) (λ never. never) (λ never. never) (scanned_itself g.S.Scans.world g.S.Scans.faults g.S.Scans.loads ⊥ (λ never. never) c.args.scan.now);
   same_scan = g.met.S.Scans.same_refl c.args.scan.now;
 }
 
@@ -34,16 +41,21 @@ loop-i-preserved g c =
     let step = c.in-Ok-run_frame.ensures in
     let next : suc c.loop-i.i ≡ c.loop-i.i + 1 = omega arith in
     let still = if_still c.args.reel.now c.loop-i.reel c.loop-i.i inv.past in
-    let few = asks_few g.N.Work.job c.loop-i.reel.ledger.gates c.loop-i.i in
-    let more = asks_more g.N.Work.job c.args.reel.now.ledger.gates c.loop-i.i in
-    let same = ap (λ (l : List ℕ). length (asks_of_frames g.N.Work.job l)) still in
+    let asked = step.asked in
     let steady = step.steady (λ same. cc) in
     record {
       within = let lt = c.loop-i-test.true in let all = inv.ending in omega (arith, lt, all);
       ending = inv.ending;
       past = subst (λ (n : ℕ). ArePast n c.args.reel.now c.run_frame.new.reel) next (past_more c.args.reel.now c.loop-i.reel c.loop-i.i inv.past c.run_frame.new.reel step.past);
-      asked = subst (λ (n : ℕ). c.run_frame.new.loads ≡ length (asks_of_frames g.N.Work.job (closed_frames c.args.reel.now.ledger.gates n))) next (let was = inv.asked in let asked = step.asked in omega (arith, was, asked, more, same));
-      few = let was = inv.few in let asked = step.asked in omega (arith, was, asked, few);
+      asked = subst (λ (n : ℕ). asks_of c.run_frame.new.share.steps ≡ asks_of_frames g.N.Work.job (closed_frames c.args.reel.now.ledger.gates n)) next
+          (ap asks_of asked.steps ∙ asks_along c.loop-i.share.steps asked.more ∙ ap (λ l. l ++ asks_of asked.more) inv.asked
+          ∙ ap (λ l. asks_of_frames g.N.Work.job (closed_frames c.args.reel.now.ledger.gates c.loop-i.i) ++ l) (asked.asks ∙ ap (asks_of_frames g.N.Work.job) still) ∙ sym (asks_more g.N.Work.job c.args.reel.now.ledger.gates c.loop-i.i));
+      paired = subst (IsPaired ⊥) (sym asked.steps) (paired_along ⊥ c.loop-i.share.steps asked.more inv.paired asked.paired);
+      capacity = asked.room ∙ inv.capacity;
+      parts = c.run_frame.ensures.parts ∙ inv.parts;
+      closed = step.closed;
+      counted = let was = inv.counted in let now = c.run_frame.ensures.counted in omega (arith, was, now);
+      few = let was = inv.few in let two = c.run_frame.ensures.two in omega (arith, was, two);
       room = step.room;
       run = λ told. reel_run_along g.N.Work.job g.N.Work.files _ _ _ (inv.run told) (step.run told);
       spares = λ told. spares_along _ _ _ (IsRunFile g.N.Work.job c.args.reel.now.ledger.gates) (inv.run told).extends (step.run told).extends (inv.spares told)
@@ -57,7 +69,7 @@ loop-i-preserved g c =
 
 -- no room for a frame
 pub returns-in-Err-clause-finished : goal.returns-in-Err-clause-finished
-returns-in-Err-clause-finished g c = unbegun g.N.Work.job c.args.reel.now.ledger.gates end.NoMemory _ _ (λ same. cc) (ap length c.requires.none) c.requires.zero
+returns-in-Err-clause-finished g c = unbegun g.N.Work.job c.args.reel.now.ledger.gates end.NoMemory _ _ (λ same. cc) (ap length c.requires.none) c.requires.unasked
 
 pub returns-in-Err-clause-run : goal.returns-in-Err-clause-run
 returns-in-Err-clause-run g c told = reel_run_itself g.N.Work.job g.N.Work.files (g.D.Disk.history c.args.reel.now.disk)
@@ -68,12 +80,9 @@ returns-in-Err-run_frame-clause-finished g c =
     let inv = c.loop-i.invariant in
     let lt : c.loop-i.i < c.count-i-end.result = c.loop-i-test.true in
     let all = inv.ending in
-    let was = inv.asked in
-    let later = c.run_frame.ensures.later in
-    let most = c.run_frame.ensures.most in
-    subst (λ (l : List ℕ). WereFinished g.N.Work.job c.args.reel.now.ledger.gates c.in-Err-run_frame.end (length l) c.run_frame.new.loads) (sym (acks_then c.args.reel.now c.loop-i.reel c.loop-i.i c.requires.none inv.past c.run_frame.new.reel c.in-Err-run_frame.ensures.unfinished))
-    (stopped g.N.Work.job c.args.reel.now.ledger.gates c.in-Err-run_frame.end c.loop-i.i c.run_frame.new.loads (not_done g.N.Work.job g.N.Work.files c.in-Err-run_frame.end c.in-Err-run_frame.ensures.stop) (omega (arith, lt, all))
-    (sym (gate_still c.args.reel.now c.loop-i.reel c.loop-i.i inv.past) ∙ c.in-Err-run_frame.ensures.closed) (omega (arith, was, later)) (omega (arith, was, most)))
+    subst (λ (l : List ℕ). WereFinished g.N.Work.job c.args.reel.now.ledger.gates c.in-Err-run_frame.end (length l) c.run_frame.new.share.steps) (sym (acks_then c.args.reel.now c.loop-i.reel c.loop-i.i c.requires.none inv.past c.run_frame.new.reel c.in-Err-run_frame.ensures.unfinished))
+    (stopped g.N.Work.job c.args.reel.now.ledger.gates c.in-Err-run_frame.end c.loop-i.i c.loop-i.share c.run_frame.new.share (not_done g.N.Work.job g.N.Work.files c.in-Err-run_frame.end c.in-Err-run_frame.ensures.stop) (omega (arith, lt, all))
+    (sym (gate_still c.args.reel.now c.loop-i.reel c.loop-i.i inv.past) ∙ c.in-Err-run_frame.ensures.shut) inv.asked inv.paired c.in-Err-run_frame.ensures.tried)
 
 pub returns-in-Err-run_frame-clause-acks : goal.returns-in-Err-run_frame-clause-acks
 returns-in-Err-run_frame-clause-acks g c =
@@ -105,3 +114,14 @@ returns-in-Err-run_frame-clause-scan g c =
 -- every frame is finished
 pub returns-clause-gates : goal.returns-clause-gates
 returns-clause-gates g c = gates_are c.args.reel.now c.loop-i.reel c.loop-i.i c.requires.none c.loop-i.invariant.past
+
+pub returns-clause-finished : goal.returns-clause-finished
+returns-clause-finished g c =
+    let inv = c.loop-i.invariant in
+    let late = c.loop-i-test.false in
+    let within = inv.within in
+    let ending = inv.ending in
+    let all : c.loop-i.i ≡ frames_of g.N.Work.job = omega (arith, late, within, ending) in
+    all_finished g.N.Work.job c.args.reel.now.ledger.gates (length c.loop-i.reel.acks) c.loop-i.share.steps
+    (ap length (acks_are c.args.reel.now c.loop-i.reel c.loop-i.i c.requires.none inv.past) ∙ ap (λ (n : ℕ). length (closed_frames c.args.reel.now.ledger.gates n)) all)
+    (inv.asked ∙ ap (λ (n : ℕ). asks_of_frames g.N.Work.job (closed_frames c.args.reel.now.ledger.gates n)) all) inv.paired

@@ -5,6 +5,7 @@ use Rattle.reel_writer.specs.Reel.{frames_of, IsReelRun}
 use Rattle.single_run.specs.Asks.{IsRunFile, asks_of_frames, closed_frames}
 use Rattle.single_run.specs.Ran.{ArePast}
 use Rattle.single_run.specs.Scanned.{IsScanned}
+use Rattle.single_run.specs.Sharing.{IsPaired, asks_of}
 use Rattle.single_run.proofs.frames.run_frames.Given as goal
 
 -- the frames below i are finished, and nothing failed
@@ -13,7 +14,12 @@ invariant-loop-i g l = record {
   within : l.i ≤ frames_of g.N.Work.job;
   ending : l.i-end ≡ frames_of g.N.Work.job;
   past : ArePast l.i l.fn.reel l.reel;
-  asked : l.loads ≡ length (asks_of_frames g.N.Work.job (closed_frames l.fn.reel.ledger.gates l.i));
+  asked : asks_of l.share.steps ≡ asks_of_frames g.N.Work.job (closed_frames l.fn.reel.ledger.gates l.i);
+  paired : IsPaired ⊥ l.share.steps;
+  capacity : l.share.capacity ≡ l.fn.share.capacity;
+  parts : l.units.parts ≡ l.fn.units.parts;
+  closed : l.units.pending ≡ 0;
+  counted : l.units.amount ≡ l.loads;
   few : l.loads ≤ 2 * l.i;
   room : length l.room ≡ frame_size g.N.Work.job;
   run : g.D.Disk.tells ≡ true → IsReelRun g.N.Work.job g.N.Work.files (g.D.Disk.history l.fn.reel.disk) (g.D.Disk.history l.reel.disk);

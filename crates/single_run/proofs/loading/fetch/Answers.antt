@@ -5,7 +5,7 @@ use Rattle.conform_job.specs.Job.{JobData}
 use Rattle.frame_render.specs.Frame.{IsFrontOf}
 use Rattle.dpx_header.specs.Frame.{need_of}
 use Rattle.single_run.proofs.Fetching.{info_known}
-use Rattle.single_run.proofs.fetch.fetch.Goals as goal
+use Rattle.single_run.proofs.loading.fetch.Goals as goal
 
 pub look-requires-clause-frame : goal.look-requires-clause-frame
 look-requires-clause-frame g c = (info_known _ _ _ c.requires.infos c.args.key c.args.info c.requires.known).frame

@@ -10,7 +10,7 @@ use Rattle.conform_job.specs.Job.{JobData}
 use Rattle.single_run.specs.Ends.{seen_by}
 use Rattle.single_run.proofs.Fetching.{info_known, told_here, got_front, got_changed, absent_changed}
 use Rattle.single_run.proofs.Scanning.{scanned_once}
-use Rattle.single_run.proofs.fetch.look.Goals as goal
+use Rattle.single_run.proofs.loading.look.Goals as goal
 
 pub returns-in-Got-clause-changed : goal.returns-in-Got-clause-changed
 returns-in-Got-clause-changed g c =

@@ -1,5 +1,6 @@
 //! Source frames, loaded and decoded.
-ghost use Rattle.std.specs.Prelude.{◌≡◌, ◌≢◌, ◌+◌, ◌<◌, ◌≤◌, ◌^◌, ◌↔◌, true, Some, Err, length, IfSome, IfOk, IfErr, IsErr};
+ghost use Rattle.std.specs.Prelude.{◌≡◌, ◌≢◌, ◌≤◌, ◌↔◌, true, None, Some, Err, length, IfSome, IfOk, IfErr};
+ghost use Rattle.std.specs.Arc.{arc_value};
 ghost use Rattle.dpx_header.specs.Frame.{IsFrame, need_of};
 ghost use Rattle.dpx_header.specs.Reading.{info_of};
 ghost use Rattle.dpx_header.specs.declared.info.FrameInfo.{FrameInfo};
@@ -8,8 +9,7 @@ ghost use Rattle.scan_source.specs.World.{file_at};
 ghost use Rattle.conform_job.specs.Answers.{AreInfosOf};
 ghost use Rattle.conform_job.specs.Keys.{info_at};
 ghost use Rattle.conform_job.specs.Names.{Tells};
-ghost use Rattle.frame_render.specs.Frame.{HasKeyOf, IsFrontOf};
-ghost use Rattle.single_run.specs.Asks.{key_of_side};
+ghost use Rattle.frame_render.specs.Frame.{IsFrontOf};
 ghost use Rattle.single_run.specs.Ends.{seen_by, IsFail, IsStop};
 ghost use Rattle.single_run.specs.Scanned.{IsScanned};
 
@@ -21,6 +21,7 @@ use frame_render::Decoded;
 use scan_source::{Loaded, Scans, head_of};
 use source_reels::Seen;
 use std::alloc::Global;
+use std::sync::Arc;
 
 /// What a file of that many bytes says, which begins with these.
 fn seen_in(bytes: &[u8], len: u64) -> Seen
@@ -77,19 +78,19 @@ fn look<N: Work, S: Scans>(
 ///
 /// `Changed` comes where no file is there, or its header isn't what the job has; `SourceFault`
 /// where the load failed; `NoMemory` for want of memory alone.
-fn fetch<N: Work, S: Scans>(
+pub fn fetch<N: Work, S: Scans>(
     alloc: Global,
     job: &Job,
     scan: &mut S,
     key: Key,
     info: FrameInfo,
     into: &mut Vec<u8>,
-) -> Result<Decoded<N>, RunEnd>
+) -> Result<Arc<Decoded<N>>, RunEnd>
     requires job { job.now ≡ N.job }
     requires files { Tells N.files (S.world scan.old) }
     requires infos { AreInfosOf N.job.parts N.files N.job.infos }
     requires known { info_at N.job.infos key ≡ Some info }
-    ensures key { IfOk result (λ decoded. decoded.key ≡ key) }
+    ensures key { IfOk result (λ frame. (arc_value frame).key ≡ key) }
     ensures stop { IfErr result (IsStop N.job N.files) }
     ensures never { result ≢ Err RunEnd.DiskFault }
     ensures scan { IsScanned S.world S.faults S.loads 1 (result
@@ -107,41 +108,12 @@ fn fetch<N: Work, S: Scans>(
             now,
         });
     }
-    match Decoded::of(alloc, job, key, &info, into) {
-        Ok(decoded) => Ok(decoded),
-        Err(_) => Err(RunEnd::NoMemory),
-    }
-}
-
-/// The source frame of a side, where it needs one; a load is counted.
-pub(crate) fn fetch_side<N: Work, S: Scans>(
-    alloc: Global,
-    job: &Job,
-    scan: &mut S,
-    need: Option<(Key, FrameInfo)>,
-    into: &mut Vec<u8>,
-    loads: &mut u64,
-) -> Result<Option<Decoded<N>>, RunEnd>
-    requires job { job.now ≡ N.job }
-    requires files { Tells N.files (S.world scan.old) }
-    requires infos { AreInfosOf N.job.parts N.files N.job.infos }
-    requires known { IfSome need (λ n. info_at N.job.infos n.0 ≡ Some n.1) }
-    requires few { loads.old + 1 < 2 ^ 64 }
-    ensures key { IfOk result (λ decoded. HasKeyOf need decoded) }
-    ensures stop { IfErr result (IsStop N.job N.files) }
-    ensures never { result ≢ Err RunEnd.DiskFault }
-    ensures asked { loads.new ≡ loads.old + length (key_of_side need) }
-    ensures loaded { IsErr result → loads.old < loads.new }
-    ensures scan { IsScanned S.world S.faults S.loads (length (key_of_side need)) (result
-        ≡ Err RunEnd.SourceFault) scan.old scan.new }
-    ensures same { S.same scan.old scan.new }
-{
-    let Some((key, info)) = need else {
-        return Ok(None);
+    let decoded = match Decoded::of(alloc, job, key, &info, into) {
+        Ok(decoded) => decoded,
+        Err(_) => return Err(RunEnd::NoMemory),
     };
-    *loads += 1;
-    match fetch(alloc, job, scan, key, info, into) {
-        Ok(decoded) => Ok(Some(decoded)),
-        Err(end) => Err(end),
+    match Arc::new(alloc, decoded) {
+        Ok(frame) => Ok(frame),
+        Err(_) => Err(RunEnd::NoMemory),
     }
 }

@@ -2,7 +2,7 @@ use Rattle.std.proofs.Common.{List, ℕ, sym, ◌∙◌, ap}
 use Rattle.dpx_header.specs.Reading.{info_of}
 use Rattle.single_run.specs.Ends.{seen_by}
 use Rattle.single_run.proofs.Fetching.{same_info}
-use Rattle.single_run.proofs.fetch.seen_in.Goals as goal
+use Rattle.single_run.proofs.loading.seen_in.Goals as goal
 
 pub returns-in-Ok-clause-seen : goal.returns-in-Ok-clause-seen
 returns-in-Ok-clause-seen c = ap seen_by (sym c.in-Ok.is ∙ c.read_header.ensures.info ∙ ap (λ (l : List ℕ). info_of l c.args.len) c.head_of.ensures)

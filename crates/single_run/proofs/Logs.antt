@@ -1,0 +1,69 @@
+-- Logs of runs on one thread, step after step.
+use Rattle.std.proofs.Common.{◌≡◌, true, false, List, [], ◌∷◌, ◌++◌, refl, sym, ◌∙◌, ap, subst, append-nil}
+use Rattle.std.specs.List.{filter_map}
+use Rattle.std.proofs.lemmas.List.{append_assoc}
+use Rattle.std.proofs.lemmas.List.Elements.{filter_map-append}
+use Rattle.cf_base.specs.declared.key.Key.{Key}
+use Rattle.frame_share.specs.declared.step.ShareStep.{ShareStep}
+use Rattle.frame_share.specs.declared.step.ShareStep.TheVariants.{Ask, Put}
+use Rattle.frame_share.specs.Share.{ShareView}
+use Rattle.single_run.specs.Sharing.{HasAsked, HasTried, IsPaired, asked_by, asks_of}
+
+pub paired_along : (E : Type 0) (xs ys : List ShareStep) → IsPaired ⊥ xs → IsPaired E ys → IsPaired E (xs ++ ys)
+paired_along E [] ys p q = q
+paired_along E (Ask k true ∷ xs) ys p q = paired_along E xs ys p q
+paired_along E (Ask k false ∷ []) ys p q = absurd p
+paired_along E (Ask k false ∷ Ask n h ∷ xs) ys p q = absurd p
+paired_along E (Ask k false ∷ Put n kept ∷ xs) ys p q = (p.0, paired_along E xs ys p.1 q)
+paired_along E (Put k kept ∷ xs) ys p q = absurd p
+
+pub paired_less : (xs : List ShareStep) → IsPaired ⊥ xs → IsPaired (Unit {0}) xs
+paired_less xs p = subst (IsPaired (Unit {0})) (append-nil xs) (paired_along (Unit {0}) xs [] p tt)
+
+pub asks_along : (xs ys : List ShareStep) → asks_of (xs ++ ys) ≡ asks_of xs ++ asks_of ys
+asks_along xs ys = filter_map-append asked_by xs ys
+
+steps_along : (a b c : ShareView) (xs ys : List ShareStep) → b.steps ≡ a.steps ++ xs → c.steps ≡ b.steps ++ ys → c.steps ≡ a.steps ++ (xs ++ ys)
+steps_along a b c xs ys e f = f ∙ ap (λ l. l ++ ys) e ∙ append_assoc a.steps xs ys
+
+pub asked_asked : (a b c : ShareView) (ks ls : List Key) → HasAsked a b ks → HasAsked b c ls → HasAsked a c (ks ++ ls)
+asked_asked a b c ks ls p q = record {
+  more = p.more ++ q.more;
+  room = q.room ∙ p.room;
+  steps = steps_along a b c p.more q.more p.steps q.steps;
+  asks = asks_along p.more q.more ∙ ap (λ x. x ++ asks_of q.more) p.asks ∙ ap (λ x. ks ++ x) q.asks;
+  paired = paired_along ⊥ p.more q.more p.paired q.paired;
+}
+
+pub asked_tried : (a b c : ShareView) (ks ls : List Key) → HasAsked a b ks → HasTried b c ls → HasTried a c (ks ++ ls)
+asked_tried a b c ks ls p q = record {
+  more = p.more ++ q.more;
+  rest = q.rest;
+  room = q.room ∙ p.room;
+  steps = steps_along a b c p.more q.more p.steps q.steps;
+  asks = ap (λ x. x ++ ls) (sym p.asks) ∙ ap (λ x. asks_of p.more ++ x) q.asks ∙ sym (append_assoc (asks_of p.more) (asks_of q.more) q.rest) ∙ ap (λ x. x ++ q.rest) (sym (asks_along p.more q.more));
+  paired = paired_along (Unit {0}) p.more q.more p.paired q.paired;
+}
+
+pub tried_more : (a b : ShareView) (ks ls : List Key) → HasTried a b ks → HasTried a b (ks ++ ls)
+tried_more a b ks ls p = record {
+  more = p.more;
+  rest = p.rest ++ ls;
+  room = p.room;
+  steps = p.steps;
+  asks = ap (λ x. x ++ ls) p.asks ∙ append_assoc (asks_of p.more) p.rest ls;
+  paired = p.paired;
+}
+
+pub asked_is_tried : (a b : ShareView) (ks : List Key) → HasAsked a b ks → HasTried a b ks
+asked_is_tried a b ks p = record {
+  more = p.more;
+  rest = [];
+  room = p.room;
+  steps = p.steps;
+  asks = sym (append-nil ks) ∙ ap (λ x. x ++ []) (sym p.asks);
+  paired = paired_less p.more p.paired;
+}
+
+pub asked_none : (a : ShareView) → HasAsked a a []
+asked_none a = record { more = []; room = refl; steps = sym (append-nil a.steps); asks = refl; paired = tt }

@@ -1,0 +1,28 @@
+use Rattle.std.proofs.Common.{◌≡◌, List, length, refl, sym, ◌∙◌, ap, subst}
+use Rattle.frame_share.specs.declared.step.ShareStep.{ShareStep}
+use Rattle.frame_share.specs.Share.{IsLegal}
+use Rattle.reel_writer.proofs.ReelLaws.{reel_run_itself}
+use Rattle.single_run.specs.Ran.{WereFinished}
+use Rattle.single_run.specs.Sharing.{IsPaired}
+use Rattle.single_run.specs.declared.run_end.RunEnd.TheVariants as end
+use Rattle.single_run.proofs.Determined.{determined}
+use Rattle.single_run.proofs.Running.{unbegun}
+use Rattle.single_run.proofs.alone.run_shared.Goals as goal
+
+-- no room for the share
+pub returns-in-Err-clause-finished : goal.returns-in-Err-clause-finished
+returns-in-Err-clause-finished g c = unbegun g.N.Work.job c.args.reel.now.ledger.gates end.NoMemory _ _ (λ same. cc) (ap length c.requires.none) c.empty.ensures
+
+pub returns-in-Err-clause-run : goal.returns-in-Err-clause-run
+returns-in-Err-clause-run g c told = reel_run_itself g.N.Work.job g.N.Work.files (g.D.Disk.history c.args.reel.now.disk)
+
+pub returns-clause-finished : goal.returns-clause-finished
+returns-clause-finished g c = subst (λ (l : List ShareStep). WereFinished g.N.Work.job c.args.reel.now.ledger.gates c.run_frames-end.result (length c.run_frames-end.new.reel.acks) l) (sym (c.into_log.ensures.steps ∙ ap (λ s. s.steps) c.settle.ensures.same)) c.run_frames-end.ensures.finished
+
+pub returns-clause-determined : goal.returns-clause-determined
+returns-clause-determined g c =
+    let kept = c.into_log.ensures.kept in
+    let room : c.settle.new.self.capacity ≡ c.args.share_cap = ap (λ s. s.capacity) c.settle.ensures.same ∙ c.run_frames-end.ensures.room ∙ ap (λ s. s.capacity) c.in-Ok.ensures.share in
+    determined c.args.share_cap c.into_log.result
+    (subst (λ n. IsLegal n c.into_log.result) room (subst (λ xs. IsLegal c.settle.new.self.capacity xs) (sym c.into_log.ensures.steps) kept.legal))
+    (subst (λ xs. IsPaired (Unit {0}) xs) (sym (c.into_log.ensures.steps ∙ ap (λ s. s.steps) c.settle.ensures.same)) c.run_frames-end.ensures.finished.paired)

@@ -1,0 +1,130 @@
+//! Source frames by way of the share: one that is there isn't loaded again.
+ghost use Rattle.std.specs.Prelude.{◌≡◌, ◌≢◌, ◌+◌, ◌-◌, ◌<◌, ◌≤◌, ◌^◌, ◌∷◌, [], Some, Err, IfSome, IfOk, IfErr, OnOk, OnErr};
+ghost use Rattle.std.specs.Arc.{arc_value};
+ghost use Rattle.std.specs.Option.{option_copied, option_map};
+ghost use Rattle.dpx_header.specs.declared.info.FrameInfo.{FrameInfo};
+ghost use Rattle.conform_job.specs.Answers.{AreInfosOf};
+ghost use Rattle.conform_job.specs.Keys.{info_at};
+ghost use Rattle.conform_job.specs.Names.{Tells};
+ghost use Rattle.frame_render.specs.Frame.{HasKeyOf};
+ghost use Rattle.single_run.specs.Asks.{key_of_side};
+ghost use Rattle.single_run.specs.Ends.{IsChange, IsStop};
+ghost use Rattle.single_run.specs.Scanned.{IsScanned};
+ghost use Rattle.single_run.specs.Sharing.{HasAsked, HasTried};
+
+use crate::RunEnd;
+use crate::loading::fetch;
+use cf_base::Key;
+use conform_job::{Job, Work};
+use dpx_header::FrameInfo;
+use frame_render::Decoded;
+use frame_share::{Ask, Placed, Share, Units};
+use scan_source::Scans;
+use std::alloc::Global;
+use std::sync::Arc;
+use std::sync::ledger::Ledger;
+
+/// The source frame of a key: the shared one where it is there, else by one load, and then it is put
+/// there. A load is counted.
+fn frame_of<N: Work, L: Ledger, S: Scans>(
+    alloc: Global,
+    job: &Job,
+    scan: &mut S,
+    key: Key,
+    info: FrameInfo,
+    into: &mut Vec<u8>,
+    share: &mut Share<N, L>,
+    units: &mut Units<L>,
+    loads: &mut u64,
+) -> Result<Arc<Decoded<N>>, RunEnd>
+    requires job { job.now ≡ N.job }
+    requires files { Tells N.files (S.world scan.old) }
+    requires infos { AreInfosOf N.job.parts N.files N.job.infos }
+    requires known { info_at N.job.infos key ≡ Some info }
+    requires closed { units.old.pending ≡ 0 }
+    requires few { loads.old + 1 < 2 ^ 64 }
+    ensures key { IfOk result (λ frame. (arc_value frame).key ≡ key) }
+    ensures stop { IfErr result (IsStop N.job N.files) }
+    ensures never { result ≢ Err RunEnd.DiskFault }
+    ensures asked { OnOk result (HasAsked share.old share.new (key ∷ [])) }
+    ensures tried { OnErr result (HasTried share.old share.new (key ∷ [])) }
+    ensures closed { OnOk result (units.new.pending ≡ 0) }
+    ensures parts { units.new.parts ≡ units.old.parts }
+    ensures counted { units.new.amount + loads.old ≡ units.old.amount + loads.new }
+    ensures later { loads.old ≤ loads.new }
+    ensures most { loads.new ≤ loads.old + 1 }
+    ensures changed { IfErr result (λ end. IsChange end → loads.old < loads.new) }
+    ensures scan { IsScanned S.world S.faults S.loads (loads.new - loads.old) (result
+        ≡ Err RunEnd.SourceFault) scan.old scan.new }
+    ensures same { S.same scan.old scan.new }
+{
+    let ticket = match share.ask(key, units) {
+        Ask::Hit(frame) => return Ok(frame),
+        Ask::NoMemory => return Err(RunEnd::NoMemory),
+        Ask::Miss(ticket) => ticket,
+    };
+    *loads += 1;
+    let frame = match fetch::<N, S>(alloc, job, scan, key, info, into) {
+        Ok(frame) => frame,
+        Err(end) => return Err(end),
+    };
+    let ours = match Arc::try_clone(&frame) {
+        Ok(ours) => ours,
+        Err(_) => return Err(RunEnd::NoMemory),
+    };
+    match share.put(ticket, frame, units) {
+        Placed::Kept | Placed::Left => Ok(ours),
+        Placed::NoMemory => Err(RunEnd::NoMemory),
+    }
+}
+
+/// The source frame of a side, where it needs one.
+pub(crate) fn side_of<N: Work, L: Ledger, S: Scans>(
+    alloc: Global,
+    job: &Job,
+    scan: &mut S,
+    need: Option<(Key, FrameInfo)>,
+    into: &mut Vec<u8>,
+    share: &mut Share<N, L>,
+    units: &mut Units<L>,
+    loads: &mut u64,
+) -> Result<Option<Arc<Decoded<N>>>, RunEnd>
+    requires job { job.now ≡ N.job }
+    requires files { Tells N.files (S.world scan.old) }
+    requires infos { AreInfosOf N.job.parts N.files N.job.infos }
+    requires known { IfSome need (λ n. info_at N.job.infos n.0 ≡ Some n.1) }
+    requires closed { units.old.pending ≡ 0 }
+    requires few { loads.old + 1 < 2 ^ 64 }
+    ensures key { IfOk result (λ frame. HasKeyOf need (option_map (λ f. arc_value f) frame)) }
+    ensures stop { IfErr result (IsStop N.job N.files) }
+    ensures never { result ≢ Err RunEnd.DiskFault }
+    ensures asked { OnOk result (HasAsked share.old share.new (key_of_side need)) }
+    ensures tried { OnErr result (HasTried share.old share.new (key_of_side need)) }
+    ensures closed { OnOk result (units.new.pending ≡ 0) }
+    ensures parts { units.new.parts ≡ units.old.parts }
+    ensures counted { units.new.amount + loads.old ≡ units.old.amount + loads.new }
+    ensures later { loads.old ≤ loads.new }
+    ensures most { loads.new ≤ loads.old + 1 }
+    ensures changed { IfErr result (λ end. IsChange end → loads.old < loads.new) }
+    ensures scan { IsScanned S.world S.faults S.loads (loads.new - loads.old) (result
+        ≡ Err RunEnd.SourceFault) scan.old scan.new }
+    ensures same { S.same scan.old scan.new }
+{
+    let Some((key, info)) = need else {
+        return Ok(None);
+    };
+    match frame_of(alloc, job, scan, key, info, into, share, units, loads) {
+        Ok(frame) => Ok(Some(frame)),
+        Err(end) => Err(end),
+    }
+}
+
+/// A frame that is shared, as it is lent to rendering.
+pub fn lent<N: Work>(frame: &Option<Arc<Decoded<N>>>) -> Option<&Decoded<N>>
+    ensures frame { option_copied result ≡ option_map (λ f. arc_value f) frame.now }
+{
+    match frame {
+        Some(frame) => Some(&**frame),
+        None => None,
+    }
+}
