@@ -5,6 +5,7 @@ use Rattle.std.proofs.lemmas.Bool.{false≢true, true≢false}
 use Rattle.std.proofs.lemmas.Option.{same_Some}
 use Rattle.cf_base.specs.declared.file.FileId.{FileId}
 use Rattle.scan_source.specs.World.{World}
+use Rattle.frame_share.specs.declared.step.ShareStep.{ShareStep}
 use Rattle.conform_job.specs.Job.{JobData}
 use Rattle.reel_disk.specs.Disk.{Files, Moment, History, IsLoose, moment_of, view_of}
 use Rattle.reel_disk.specs.Runs.{Spares, Surely}
@@ -20,7 +21,7 @@ use Rattle.reel_writer.specs.Reel.{frames_of, HasAcked, IsReelRun}
 use Rattle.single_run.specs.declared.run_end.Report.{Report}
 use Rattle.single_run.specs.declared.run_end.RunEnd.{RunEnd}
 use Rattle.single_run.specs.declared.run_end.RunEnd.TheVariants.{Done, Changed as IsNow, SourceFault, DiskFault, NoMemory}
-use Rattle.station.specs.Crews.{IsCrewRun, WasCrewed, end_by, log_of}
+use Rattle.station.specs.Crews.{AreShared, IsCrewRun, WasCrewed, end_by, log_of}
 use Rattle.single_run.specs.Ends.{IsEnd}
 use Rattle.single_run.specs.Run.{AreAllAcked, IsOwnFile}
 use Rattle.shared_station.specs.Station.{IsStation, StationView, HasChanges, IsCrewFile, ShowsDone, at_start, start_of}
@@ -112,10 +113,10 @@ module _ {D : Type 0} (job : JobData) (told : Option World) (start : Option Mome
       by true some = absurd (omega (arith, none, some refl))
       by false some = refl
 
-  pub crewed : (tells ≡ true → IsFit job.parts.digest (frames_of job) (view_of (history disk))) → WasCrewed job told tells (history disk) (history other) steps end report
-  crewed fit =
-      subst (λ (l : List Step). WasCrewed job told tells (history disk) (history other) l end report) made.steps_are
-      (subst (λ (d : D). WasCrewed job told tells (history disk) (history d) v.log.steps end report) made.disk_is (record {
+  pub crewed : (tells ≡ true → IsFit job.parts.digest (frames_of job) (view_of (history disk))) → (log : List ShareStep) → AreShared log report → WasCrewed job told tells (history disk) (history other) steps end report log
+  crewed fit log shared =
+      subst (λ (l : List Step). WasCrewed job told tells (history disk) (history other) l end report log) made.steps_are
+      (subst (λ (d : D). WasCrewed job told tells (history disk) (history d) v.log.steps end report log) made.disk_is (record {
         gates = v.log.start;
         workers = v.log.workers;
         size = made.is.size;
@@ -131,6 +132,7 @@ module _ {D : Type 0} (job : JobData) (told : Option World) (start : Option Mome
         all = λ done. made.whole (ap has_stop (sym made.steps_are) ∙ end_done v.log.steps (first_why v.log.steps) refl (sym ends_here ∙ done));
         kept = made.kept ∙ made.is.kept;
         rendered = made.rendered ∙ ap (λ (l : List Step). length (finished_of l)) (sym made.steps_are);
+        shared = shared;
         exit = λ t none. open_shows job told v.log v.reel.ledger.closed (view_of (history v.reel.disk)) (open_still none) (made.is.shown t);
         failed_exit = λ t some. subst (λ (b : Bool). ShowsDone job v.log b (view_of (history v.reel.disk))) (made.is.closed.1 some) (made.is.shown t);
       }))

@@ -22,6 +22,7 @@ use Rattle.render_board.proofs.Histories.{stops_of-none}
 use Rattle.render_board.proofs.Runs.{true_or_false}
 use Rattle.render_board.proofs.Steps.{has_stop-step, turn_of-other, turn_of-own}
 use Rattle.conform_job.specs.Job.{JobData}
+use Rattle.frame_share.specs.Units.{Tally}
 use Rattle.single_run.specs.Ends.{IsChange, IsStop}
 use Rattle.single_run.specs.declared.run_end.RunEnd.{RunEnd}
 use Rattle.single_run.specs.declared.run_end.RunEnd.TheVariants.{Done, OtherJob, BadLedger, Changed as IsNow, SourceFault, DiskFault, NoMemory}
@@ -31,9 +32,9 @@ use Rattle.shared_station.specs.StationSteps.{why_by}
 use Rattle.conform_job.specs.Answers.{count_after}
 use Rattle.single_run.specs.Scanned.{IsScanned}
 use Rattle.station.specs.Stepped.{HasStepped}
-use Rattle.station.specs.Worked.{HasCauses, KeepsParts, KeepsSources}
+use Rattle.station.specs.Worked.{HasCauses, HasCounted, KeepsParts, KeepsSources}
 use Rattle.single_run.proofs.Scanning.{loads_along, scanned_itself}
-use Rattle.station.proofs.Working.{parts_along, causes_none}
+use Rattle.station.proofs.Working.{counted_along, parts_along, causes_none}
 
 or_left : (a b : Bool) → a ≡ true → (a || b) ≡ true
 or_left true b is = refl
@@ -230,6 +231,26 @@ module _ {S : Type 0} (told : Option World) (world : S → Option World) (faults
         | inr late ↦ let none = ap count (others k d late) ∙ (idle k d lt).0 in omega (arith, none)
       ])
     ]
+
+-- each seat has counted as many misses as loads, those after the threads none
+pub counted_all : {X : Type 0} (units : X → Tally) (count : X → ℕ) (has : X → Bool) (xs ys : List X) (s : X) (threads : ℕ) → 0 < threads → length ys ≡ length xs → All (λ x. (count x ≡ 0) × (has x ≡ false)) xs
+    → ((k : ℕ) (d : X) → k < threads → HasCounted (units (get_or xs k d)) (count (get_or ys k d)) (units (get_or ys k d)))
+    → ((k : ℕ) (d : X) → threads ≤ k → get_or ys k d ≡ get_or xs k d)
+    → (e : X) → (units s).parts ≡ (units (get_or ys 0 e)).parts → (units s).amount + count (get_or ys 0 e) ≡ (units (get_or ys 0 e)).amount + count s
+    → (k : ℕ) (d : X) → k < length xs → HasCounted (units (get_or xs k d)) (count (get_or (set ys 0 s) k d)) (units (get_or (set ys 0 s) k d))
+counted_all {X = X} units count has xs ys s threads some size idle each others e parts amount k d lt = elim (cases_eq k 0) [
+  | inl zero ↦
+      let first : 0 < length ys = omega (arith, lt, size) in
+      subst (λ (n : ℕ). HasCounted (units (get_or xs n d)) (count (get_or (set ys 0 s) n d)) (units (get_or (set ys 0 s) n d))) (sym zero)
+      (subst (λ (y : X). HasCounted (units (get_or xs 0 d)) (count y) (units y)) (sym (get_or-set_same ys 0 s d first))
+      (counted_along _ (units (get_or ys 0 d)) (units s) (count (get_or ys 0 d)) (count s) (each 0 d some)
+      (subst (λ (y : X). (units s).parts ≡ (units y).parts) (get_or_default ys 0 e d first) parts)
+      (subst (λ (y : X). (units s).amount + count y ≡ (units y).amount + count s) (get_or_default ys 0 e d first) amount)))
+  | inr other ↦ subst (λ (y : X). HasCounted (units (get_or xs k d)) (count y) (units y)) (sym (get_or-set_other ys 0 k s d other)) (elim (cases_lt k threads) [
+    | inl early ↦ each k d early
+    | inr late ↦ subst (λ (y : X). HasCounted (units (get_or xs k d)) (count y) (units y)) (sym (others k d late)) (record { parts = refl; amount = let none = (idle k d lt).0 in omega (arith, none) })
+  ])
+]
 
 -- the scans that were lent stay the same loans
 pub lent_all : {X S : Type 0} (same : S → S → Type 0) → ((s : S) → same s s) → ((a b c : S) → same a b → same b c → same a c) → (scan : X → S) (xs ys : List X) (s : X) (threads : ℕ) → 0 < threads → length ys ≡ length xs

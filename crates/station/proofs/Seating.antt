@@ -3,9 +3,10 @@ use Rattle.std.proofs.Common.{List, [], ◌∷◌, length, get_or, map, ◌++◌
 use Rattle.std.proofs.Math.ListN.{get_or-map}
 use Rattle.std.proofs.Math.Seq.{get_or-append_seam}
 use Rattle.std.proofs.lemmas.List.{append-nil, length-append, length-map, nil_from_length, take-append-le, take_all}
+use Rattle.frame_share.specs.Units.{Tally, fresh as unasked, joined as units_joined}
 use Rattle.shared_station.specs.Marks.{HasMoreThan, Tallies, fresh, joined}
 use Rattle.station.specs.Seats.{HasGiven, HasTaken, IsOnePart}
-use Rattle.station.specs.Worked.{KeepsParts}
+use Rattle.station.specs.Worked.{HasCounted, KeepsParts}
 
 -- A loop that takes its items out of a list: the next one is of that list, and at the end all of them came.
 pub not_all_came : {X : Type 0} (all came left rest : List X) (x : X) → came ++ left ≡ all → left ≡ x ∷ rest → length came < length all
@@ -82,3 +83,23 @@ one_part before now is kept = record {
   memory = kept.memory ∙ ap (λ (x : Tallies). x.memory.parts) is;
   changed = kept.changed ∙ ap (λ (x : Tallies). x.changed.parts) is;
 }
+
+-- one part of the units was handed out
+units_are : (before now out : Tally) → out ≡ unasked → units_joined now out ≡ before → units_joined now unasked ≡ before
+units_are before now out is all = subst (λ (u : Tally). units_joined now u ≡ before) is all
+
+pub units_left : (before now out : Tally) (all n : ℕ) {m : ℕ} → out ≡ unasked → units_joined now out ≡ before → before.parts + n ≡ all → m ≡ n + 1 → now.parts + m ≡ all
+units_left before now out all n is joins left more = let parts = ap (λ (u : Tally). u.parts) (units_are before now out is joins) in omega (arith, parts, left, more)
+
+pub units_amount : (before now out : Tally) → out ≡ unasked → units_joined now out ≡ before → now.amount ≡ before.amount
+units_amount before now out is joins = let amount = ap (λ (u : Tally). u.amount) (units_are before now out is joins) in omega (arith, amount)
+
+pub units_closed : (before now out : Tally) → units_joined now out ≡ before → before.pending ≡ 0 → now.pending ≡ 0
+units_closed before now out joins none = let pending = ap (λ (u : Tally). u.pending) joins in omega (arith, pending, none)
+
+-- a seat that asked from the start on has one part, and has counted its loads
+pub counted_part : (before now : Tally) (loads : ℕ) → before ≡ unasked → HasCounted before loads now → (now.parts ≡ 1) × (now.amount ≡ loads)
+counted_part before now loads is counted = (
+  counted.parts ∙ ap (λ (u : Tally). u.parts) is,
+  let none = ap (λ (u : Tally). u.amount) is in let amount = counted.amount in omega (arith, none, amount),
+)

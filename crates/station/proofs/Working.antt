@@ -2,12 +2,13 @@
 use Rattle.std.proofs.Common.{◌≡◌, ℕ, ◌+◌, ◌-◌, ◌<◌, ◌≤◌, Bool, true, length, sym, ◌∙◌, ap, subst, arith}
 use Rattle.std.specs.Prelude.{Option, None, Some}
 use Rattle.scan_source.specs.World.{World}
+use Rattle.frame_share.specs.Units.{Tally}
 use Rattle.render_board.specs.declared.board.Claim.TheVariants.{Take}
 use Rattle.render_board.specs.Board.{Log, claim_of}
 use Rattle.render_board.proofs.Holding.{claim_takes, least_free_is}
 use Rattle.shared_station.specs.Marks.{Tallies}
 use Rattle.single_run.specs.Scanned.{IsScanned}
-use Rattle.station.specs.Worked.{HasCauses, KeepsParts, KeepsSources}
+use Rattle.station.specs.Worked.{HasCauses, HasCounted, KeepsParts, KeepsSources}
 use Rattle.single_run.proofs.Scanning.{scanned_along}
 
 -- a frame that is taken is one of the reel's
@@ -24,6 +25,10 @@ parts_along a b c first second = record {
 
 pub sources_along : (a b c : Tallies) → KeepsSources a b → KeepsSources b c → KeepsSources a c
 sources_along a b c first second = record { source = second.source ∙ first.source; changed = second.changed ∙ first.changed }
+
+-- misses that were counted, and then those of one round more
+pub counted_along : (before mid now : Tally) (loads more : ℕ) → HasCounted before loads mid → now.parts ≡ mid.parts → now.amount + loads ≡ mid.amount + more → HasCounted before more now
+counted_along before mid now loads more first parts amount = record { parts = parts ∙ first.parts; amount = let was = first.amount in omega (arith, was, amount) }
 
 module _ (told : Option World) where
   -- rounds that stop for nothing, and then one that may

@@ -9,7 +9,7 @@ ghost use Rattle.single_run.specs.Ends.{IsChange, IsStop};
 ghost use Rattle.shared_station.specs.Marks.{Tallies};
 ghost use Rattle.single_run.specs.Scanned.{IsScanned};
 ghost use Rattle.shared_station.specs.StationSteps.{MayStop, why_by};
-ghost use Rattle.station.specs.Worked.{HasCauses, KeepsParts, KeepsSources, MayRaise};
+ghost use Rattle.station.specs.Worked.{HasCauses, HasCounted, KeepsParts, KeepsSources, MayRaise};
 
 use crate::seat::Seat;
 use crate::sharing::make_shared;
@@ -217,8 +217,7 @@ pub fn worker<
     requires unfailed { seat.old.has_failed ≡ false }
     requires closed { seat.old.units.pending ≡ 0 }
     ensures number { seat.new.number ≡ seat.old.number }
-    ensures parts { seat.new.units.parts ≡ seat.old.units.parts }
-    ensures counted { seat.new.units.amount ≡ seat.old.units.amount + seat.new.loads }
+    ensures asked { HasCounted seat.old.units seat.new.loads seat.new.units }
     ensures few { seat.new.loads ≤ 524288 }
     ensures scan { IsScanned S.world S.faults S.loads seat.new.loads (seat.new.has_failed ≡ true) seat.old.scan seat.new.scan }
     ensures same { S.same seat.old.scan seat.new.scan }

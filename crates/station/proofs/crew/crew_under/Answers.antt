@@ -64,11 +64,23 @@ returns-in-None-clause-spares g c told =
     subst (λ d. Spares (g.D.Disk.history c.args.disk) (g.D.Disk.history d) own) (sym (c.unmade-in-None.ensures.disk ∙ c.close.ensures))
     (spares_wider _ _ IsLedgerFile own (λ q ledger. inl ledger) (c.in-Ok-begin.ensures.spares told))
 
+pub returns-in-Err-new-clause-scans : goal.returns-in-Err-new-clause-scans
+returns-in-Err-new-clause-scans g c =
+    let met = g.met.S.Scans g.world.𝓛 g.world.𝓜 g.world.𝓡 ((λ s x. x), (λ x. x), (λ x. x), (λ x. x)) in
+    unworked g.S.Scans.world g.S.Scans.faults g.S.Scans.loads g.S.Scans.same met.same_refl _ _ _ _ _ (ap (λ (v : Vec _ Global). v.items) c.unmade-in-Err-new.ensures.scans) c.unmade-in-Err-new.ensures.loads.0
+    (λ is. let same = sym c.unmade-in-Err-new.ensures.end ∙ is in cc)
+
+pub returns-in-Err-new-clause-spares : goal.returns-in-Err-new-clause-spares
+returns-in-Err-new-clause-spares g c told =
+    let own = IsOwnFile g.N.Work.job (view_of (g.D.Disk.history c.args.disk)) in
+    subst (λ d. Spares (g.D.Disk.history c.args.disk) (g.D.Disk.history d) own) (sym (c.unmade-in-Err-new.ensures.disk ∙ c.close-in-Err-new.ensures))
+    (spares_wider _ _ IsLedgerFile own (λ q ledger. inl ledger) (c.in-Ok-begin.ensures.spares told))
+
 pub returns-clause-ran : goal.returns-clause-ran
 returns-clause-ran g c =
     by_steps c.run_opened.result.history _ _ _ c.run_opened.ensures.some c.run_opened.ensures.made (λ steps made.
     crewed g.N.Work.job g.N.Work.files g.N.Start.start g.D.Disk.tells g.D.Disk.history g.D.Disk.faults c.args.disk c.run_opened.result.disk steps c.run_opened.result.end c.run_opened.result.report
-    c.requires.start c.requires.moment made (λ told. (c.in-Ok-begin.ensures.answer told).fit))
+    c.requires.start c.requires.moment made (λ told. (c.in-Ok-begin.ensures.answer told).fit) c.run_opened.result.log c.run_opened.ensures.shared)
 
 pub returns-clause-run : goal.returns-clause-run
 returns-clause-run g c told =

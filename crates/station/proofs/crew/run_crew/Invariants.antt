@@ -11,3 +11,6 @@ ghosts-crew_under-C-Ledger g a = record { name = a.memory.name; parts = a.memory
 
 abbrev pub ghosts-crew_under-E-Ledger : goal.ghosts-crew_under-E-Ledger
 ghosts-crew_under-E-Ledger g a = record { name = a.changed.name; parts = a.changed.parts }
+
+abbrev pub ghosts-crew_under-F-Ledger : goal.ghosts-crew_under-F-Ledger
+ghosts-crew_under-F-Ledger g a = record { name = a.misses.name; parts = a.misses.parts }

@@ -4,11 +4,13 @@ use Rattle.conform_job.specs.Names.{Tells}
 use Rattle.render_board.specs.Board.{has_stop, is_done}
 use Rattle.render_board.specs.History.{first_why, is_changed, is_source, stops_of}
 use Rattle.single_run.specs.Ends.{IsChange}
+use Rattle.frame_share.specs.Share.{IsLegal, ShareView, misses_of}
+use Rattle.frame_share.specs.Units.{Tally, fresh as unasked}
 use Rattle.shared_station.specs.Marks.{fresh}
 use Rattle.station.specs.Seats.{IsOnePart}
 use Rattle.shared_station.specs.Station.{StationView}
 use Rattle.station.proofs.Gathering.{changed_seat, end_changed, end_source, gathered}
-use Rattle.station.proofs.Seating.{all_after, all_at, one_part, refilled}
+use Rattle.station.proofs.Seating.{all_after, all_at, counted_part, one_part, refilled}
 use Rattle.station.proofs.crew.run_opened.Goals as goal
 
 pub work_all-station-requires-clause-files : goal.work_all-station-requires-clause-files
@@ -28,6 +30,16 @@ unseat-scans-requires-clause-one g c =
     let all : All (λ s. s.marks ≡ fresh) c.deref_mut.result.now = rw c.deref_mut.ensures.value (λ k d lt. (c.seat_all-seats.ensures.fresh k d lt).0) in
     all_after (λ s. IsOnePart s.marks) c.deref_mut.result.now c.work_all-station.new.seats c.seat_all-seats.result.items c.seat_all-seats.result.len c.work_all-station.ensures.size (search rules)
     (λ k d lt. one_part _ _ (all k d lt) (c.work_all-station.ensures.each k d lt).causes.parts)
+
+pub work_all-station-requires-clause-closed : goal.work_all-station-requires-clause-closed
+work_all-station-requires-clause-closed g c κs within =
+    rw c.deref_mut.ensures.value (λ k d lt. ap (λ (u : Tally). u.pending) (c.seat_all-seats.ensures.unasked k d lt))
+
+pub unseat-scans-requires-clause-counted : goal.unseat-scans-requires-clause-counted
+unseat-scans-requires-clause-counted g c =
+    let unasked : All (λ s. s.units ≡ unasked) c.deref_mut.result.now = rw c.deref_mut.ensures.value c.seat_all-seats.ensures.unasked in
+    all_after (λ s. (s.units.parts ≡ 1) × (s.units.amount ≡ s.loads)) c.deref_mut.result.now c.work_all-station.new.seats c.seat_all-seats.result.items c.seat_all-seats.result.len c.work_all-station.ensures.size (search rules)
+    (λ k d lt. counted_part _ _ _ (unasked k d lt) (c.work_all-station.ensures.units k d lt))
 
 pub closing-requires-clause-whole : goal.closing-requires-clause-whole
 closing-requires-clause-whole g c none i lt =
@@ -71,3 +83,19 @@ returns-clause-scans g c =
     (c.closing.ensures.loads.0 ∙ c.unseat-scans.ensures.loads ∙ ap (sum_by (λ s. s.loads)) back)
     c.work_all-station.ensures.same c.work_all-station.ensures.unused
     (λ failed. let stops = end_source steps (first_why steps) refl (sym c.closing.ensures.end ∙ failed) in omega (arith, stops, settled, counted, none, sum))
+
+pub returns-clause-shared : goal.returns-clause-shared
+returns-clause-shared g c =
+    let kept = c.into_log.ensures.kept in
+    let steps : c.closing.result.log ≡ c.settle-2.new.self.steps = c.closing.ensures.log ∙ c.into_log.ensures.steps in
+    let counted = c.unseat-scans.ensures.amount in
+    let none = c.seat_all-seats.ensures.amount ∙ ap (λ (u : Tally). u.amount) c.requires.units in
+    let all : c.unseat-scans.result.1 ≡ c.unseat-scans.new.units.amount = omega (arith, counted, none) in
+    record {
+      capacity = c.settle-2.new.self.capacity;
+      some = kept.some;
+      most = kept.most;
+      legal = subst (IsLegal c.settle-2.new.self.capacity) (sym steps) kept.legal;
+      misses = c.closing.ensures.loads.1 ∙ all ∙ c.settle-2.ensures.settled ∙ ap (λ (v : ShareView). misses_of v.steps) (sym c.settle-2.ensures.same) ∙ ap misses_of (sym steps);
+      loads = c.closing.ensures.loads.0 ∙ sym c.closing.ensures.loads.1;
+    }

@@ -24,4 +24,4 @@ returns-in-Err-clause-stepped g c =
     c.make_apart-made.ensures.later c.either-seat.ensures
     (scanned_as g.S.Scans.world g.S.Scans.faults g.S.Scans.loads c.args.seat.now.scan c.make_apart-made.new.scan (c.make_apart-made.new.loads - c.args.seat.now.loads) (c.make_apart-made.new.loads - c.args.seat.now.loads) (c.make_apart-made.result ≡ Err SourceFault) (c.is_source_fault.result ≡ true) refl fault.0 fault.1 c.make_apart-made.ensures.scan)
     (stop_causes g.N.Work.job g.N.Work.files c.in-Err.end c.why_of.result (c.make_apart-made.new.loads - c.args.seat.now.loads) c.is_source_fault.result c.args.seat.now.marks c.stop.new.marks c.why_of.ensures.why (subst (λ (r : Result _ RunEnd). IfErr r (IsStop g.N.Work.job g.N.Work.files)) c.in-Err.is c.make_apart-made.ensures.stop)
-    (λ is. fault.1 (c.in-Err.is ∙ ap Err is)) (λ change. let more = subst (λ (r : Result _ RunEnd). IfErr r (λ end. IsChange end → c.args.seat.now.loads < c.make_apart-made.new.loads)) c.in-Err.is c.make_apart-made.ensures.loaded change in omega (arith, more)) c.stop.ensures.marks)
+    (λ is. fault.1 (c.in-Err.is ∙ ap Err is)) (λ change. let more = subst (λ (r : Result _ RunEnd). IfErr r (λ end. IsChange end → c.args.seat.now.loads < c.make_apart-made.new.loads)) c.in-Err.is c.make_apart-made.ensures.changed change in omega (arith, more)) c.stop.ensures.marks)

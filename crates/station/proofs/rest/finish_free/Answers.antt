@@ -1,4 +1,4 @@
-use Rattle.std.proofs.Common.{◌≡◌, ◌∙◌, Bool, List, length, rules, arith, ap}
+use Rattle.std.proofs.Common.{◌≡◌, ◌∙◌, Bool, List, length, refl, rules, arith, ap}
 use Rattle.render_board.specs.declared.step.Step.TheVariants.{Claim}
 use Rattle.render_board.specs.Board.{Log, with_step}
 use Rattle.station.proofs.Resting.{free_most, holds_after, round_over, stepped_along, stepped_itself}
@@ -16,6 +16,9 @@ loop-init g c =
       size = size;
       idle = c.requires.idle;
       free = omega (arith, most, size);
+      closed = c.requires.closed;
+      parts = refl;
+      counted = refl;
       most = omega arith;
       stepped = stepped_itself g.N.Work.files g.S.Scans.world g.S.Scans.faults g.S.Scans.loads c.args.seat.now.scan c.args.seat.now.loads c.args.seat.now.has_failed c.args.seat.now.marks;
       same = g.met.S.Scans.same_refl c.args.seat.now.scan;
@@ -43,6 +46,9 @@ loop-preserved g c =
       size = ap (λ (l : List Bool). length l) (c.finish_as.ensures.start ∙ ap (λ (l : Log). l.start) mid) ∙ inv.size;
       idle = over.idle;
       free = let fewer = over.fewer in let free = inv.free in omega (arith, fewer, free);
+      closed = c.finish_as.ensures.closed c.if-not-finish_as.false;
+      parts = c.finish_as.ensures.parts ∙ inv.parts;
+      counted = let was = inv.counted in let now = c.finish_as.ensures.counted in omega (arith, was, now);
       most = let before = inv.most in let most = c.finish_as.ensures.most in omega (arith, before, most);
       stepped = stepped_along g.N.Work.files g.S.Scans.world g.S.Scans.faults g.S.Scans.loads c.args.seat.now.scan c.loop.seat.scan c.finish_as.new.seat.scan
           c.args.seat.now.loads c.loop.seat.loads c.finish_as.new.seat.loads c.args.seat.now.has_failed c.loop.seat.has_failed c.finish_as.new.seat.has_failed

@@ -1,7 +1,7 @@
 use Rattle.std.proofs.Common.{◌≡◌, true, false, rules, refl, arith, sym, ◌∙◌}
 use Rattle.std.proofs.lemmas.Bool.{true≢false}
 use Rattle.single_run.proofs.Scanning.{scanned_as}
-use Rattle.station.proofs.Working.{round_along, parts_along, sources_along}
+use Rattle.station.proofs.Working.{counted_along, round_along, parts_along, sources_along}
 use Rattle.station.proofs.rounds.worker.Goals as goal
 
 pub returns-in-None-clause-scan : goal.returns-in-None-clause-scan
@@ -16,6 +16,8 @@ loop-preserved g c =
       short = search rules;
       number = c.round.ensures.number ∙ c.loop.invariant.number;
       few = let before = c.loop.invariant.few in let most = c.round.ensures.most in omega (arith, before, most);
+      closed = c.in-Some.ensures.closed;
+      asked = counted_along c.args.seat.now.units c.loop.seat.units c.round.new.seat.units c.loop.seat.loads c.round.new.seat.loads c.loop.invariant.asked c.round.ensures.parts c.round.ensures.counted;
       room = c.in-Some.ensures.room;
       unfailed = goes_on.1;
       scan = round_along g.S.Scans.world g.S.Scans.faults g.S.Scans.loads c.args.seat.now.scan c.loop.seat.scan c.round.new.seat.scan c.loop.seat.loads c.round.new.seat.loads ⊥ c.round.ensures.later c.loop.invariant.scan

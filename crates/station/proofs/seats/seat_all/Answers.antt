@@ -1,9 +1,10 @@
 use Rattle.std.proofs.Common.{◌≡◌, ◌∙◌, ap, arith, false, length, refl, rules, subst, sym}
 use Rattle.std.proofs.lemmas.List.{length_push, map-append}
 use Rattle.std.proofs.lemmas.List.Elements.{All-push}
+use Rattle.frame_share.specs.Units.{fresh as unasked}
 use Rattle.shared_station.specs.Marks.{fresh}
 use Rattle.station.specs.Seats.{HasGiven}
-use Rattle.station.proofs.Seating.{all_came, given_more, has_room, more_came, more_left, next_number, not_all_came}
+use Rattle.station.proofs.Seating.{all_came, given_more, has_room, more_came, more_left, next_number, not_all_came, units_amount, units_closed, units_left}
 use Rattle.station.proofs.seats.seat_all.Goals as goal
 
 pub loop-scan-preserved : goal.loop-scan-preserved
@@ -19,6 +20,10 @@ loop-scan-preserved g c =
       scans = rw (c.push_within.ensures.items, map-append, c.loop-scan.invariant.scans) refl;
       fresh = rw c.push_within.ensures.items (All-push (λ s. (s.marks ≡ fresh) × (s.loads ≡ 0) × (s.has_failed ≡ false)) c.loop-scan.seats.items _ c.loop-scan.invariant.fresh (c.split.ensures.new, refl, refl));
       given = given_more _ _ _ _ _ _ c.loop-scan.invariant.given c.split.ensures.new c.split.ensures.all more;
+      unasked = rw c.push_within.ensures.items (All-push (λ s. s.units ≡ unasked) c.loop-scan.seats.items _ c.loop-scan.invariant.unasked c.split-in-loop-scan.ensures.new);
+      shares = units_left _ _ _ _ _ c.split-in-loop-scan.ensures.new c.split-in-loop-scan.ensures.all c.loop-scan.invariant.shares more;
+      amount = units_amount _ _ _ c.split-in-loop-scan.ensures.new c.split-in-loop-scan.ensures.all ∙ c.loop-scan.invariant.amount;
+      closed = units_closed _ _ _ c.split-in-loop-scan.ensures.all c.loop-scan.invariant.closed;
     }
 
 pub overflow_add-number : goal.overflow_add-number
@@ -51,4 +56,7 @@ returns g c =
       len = inv.len ∙ size;
       fresh = inv.fresh;
       given = subst (λ n. HasGiven c.args.marks.now n c.loop-scan.marks) size inv.given;
+      unasked = inv.unasked;
+      shares = let shares = inv.shares in omega (arith, shares, size);
+      amount = inv.amount;
     }

@@ -1,4 +1,5 @@
-use Rattle.std.proofs.Common.{◌≡◌, ◌++◌, All, length, map, false, vec_len, vec_capacity}
+use Rattle.std.proofs.Common.{◌≡◌, ◌+◌, ◌++◌, All, length, map, false, vec_len, vec_capacity}
+use Rattle.frame_share.specs.Units.{fresh as unasked}
 use Rattle.shared_station.specs.Marks.{fresh}
 use Rattle.station.specs.Seats.{HasGiven}
 use Rattle.station.proofs.seats.seat_all.Given as goal
@@ -14,4 +15,8 @@ invariant-loop-scan g l = record {
   scans : map (λ s. s.scan) l.seats.items ≡ l.yielded;
   fresh : All (λ s. (s.marks ≡ fresh) × (s.loads ≡ 0) × (s.has_failed ≡ false)) l.seats.items;
   given : HasGiven l.initial.marks (length l.yielded) l.marks;
+  unasked : All (λ s. s.units ≡ unasked) l.seats.items;
+  shares : l.units.parts + length l.yielded ≡ l.initial.units.parts;
+  amount : l.units.amount ≡ l.initial.units.amount;
+  closed : l.units.pending ≡ 0;
 }

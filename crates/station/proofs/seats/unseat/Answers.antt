@@ -1,7 +1,8 @@
-use Rattle.std.proofs.Common.{◌+◌, ◌≤◌, ◌∙◌, ap, arith, length, map, refl, subst, sym}
+use Rattle.std.proofs.Common.{◌≡◌, ◌+◌, ◌≤◌, ◌∙◌, ap, arith, length, map, refl, subst, sym}
 use Rattle.std.proofs.lemmas.List.{length_push, map-append}
 use Rattle.std.proofs.lemmas.List.Sums.{sum_by_push}
 use Rattle.std.specs.Prelude.{sum_by}
+use Rattle.frame_share.specs.Units.{Tally}
 use Rattle.shared_station.specs.Marks.{Tallies}
 use Rattle.station.specs.Seats.{HasTaken, IsOnePart}
 use Rattle.station.proofs.Seating.{all_came, few_loads, has_room, item_of, more_came, not_all_came, taken_more}
@@ -16,6 +17,7 @@ loop-seat-preserved g c =
     let more = length_push came seat in
     let lent : seat.loads ≤ 2097152 = item_of (λ s. s.loads ≤ 2097152) _ came _ _ seat whole c.in-Some.ensures.steps.0 c.requires.few in
     let one : IsOnePart seat.marks = item_of (λ s. IsOnePart s.marks) _ came _ _ seat whole c.in-Some.ensures.steps.0 c.requires.one in
+    let counted : (seat.units.parts ≡ 1) × (seat.units.amount ≡ seat.loads) = item_of (λ s. (s.units.parts ≡ 1) × (s.units.amount ≡ s.loads)) _ came _ _ seat whole c.in-Some.ensures.steps.0 c.requires.counted in
     record {
       can = tt;
       ends = tt;
@@ -28,6 +30,8 @@ loop-seat-preserved g c =
       source = let before = inv.source in omega (arith, before, ap (λ (t : Tallies). t.source.amount) c.join.ensures.all, sum_by_push (λ s. s.marks.source.amount) came seat);
       changed = let before = inv.changed in omega (arith, before, ap (λ (t : Tallies). t.changed.amount) c.join.ensures.all, sum_by_push (λ s. s.marks.changed.amount) came seat);
       taken = taken_more _ _ _ seat.marks _ _ inv.taken one c.join.ensures.all more;
+      shares = let was = inv.shares in omega (arith, was, ap (λ (u : Tally). u.parts) c.join-in-loop-seat.ensures.all, counted.0, more);
+      amount = let was = inv.amount in omega (arith, was, ap (λ (u : Tally). u.amount) c.join-in-loop-seat.ensures.all, counted.1);
     }
 
 pub overflow_add-loads : goal.overflow_add-loads
@@ -58,4 +62,6 @@ returns g c =
       source = inv.source ∙ ap (λ l. c.args.marks.now.source.amount + sum_by (λ s. s.marks.source.amount) l) is;
       changed = inv.changed ∙ ap (λ l. c.args.marks.now.changed.amount + sum_by (λ s. s.marks.changed.amount) l) is;
       taken = subst (λ n. HasTaken c.args.marks.now n c.loop-seat.marks) (ap length is ∙ sym c.args.seats.ok.0) inv.taken;
+      shares = inv.shares ∙ ap (λ n. c.args.units.now.parts + n) (ap length is ∙ sym c.args.seats.ok.0);
+      amount = inv.amount;
     }

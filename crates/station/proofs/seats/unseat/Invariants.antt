@@ -16,4 +16,6 @@ invariant-loop-seat g l = record {
   source : l.marks.source.amount ≡ l.initial.marks.source.amount + sum_by (λ s. s.marks.source.amount) l.yielded;
   changed : l.marks.changed.amount ≡ l.initial.marks.changed.amount + sum_by (λ s. s.marks.changed.amount) l.yielded;
   taken : HasTaken l.initial.marks (length l.yielded) l.marks;
+  shares : l.units.parts ≡ l.initial.units.parts + length l.yielded;
+  amount : l.units.amount ≡ l.initial.units.amount + l.loads;
 }

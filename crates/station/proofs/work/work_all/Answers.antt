@@ -1,7 +1,14 @@
-use Rattle.std.proofs.Common.{◌∙◌, arith}
+use Rattle.std.proofs.Common.{sym, ◌∙◌, subst, arith}
 use Rattle.std.proofs.lemmas.List.{get_or-set_other}
-use Rattle.station.proofs.Resting.{few_all, lent_all, worked_all}
+use Rattle.conform_job.specs.Names.{Tells}
+use Rattle.station.proofs.Resting.{counted_all, few_all, lent_all, worked_all}
 use Rattle.station.proofs.work.work_all.Goals as goal
+
+pub finish_rest-requires-clause-files : goal.finish_rest-requires-clause-files
+finish_rest-requires-clause-files g c =
+    let some = c.requires.some in
+    let within = c.requires.within in
+    subst (Tells g.N.Work.files) (sym (c.drive_first.ensures.each 0 c.index-seats-0.result c.requires.some).scanned.told) (c.requires.files 0 c.index-seats-0.result (omega (arith, some, within)))
 
 pub finish_rest-requires-clause-few : goal.finish_rest-requires-clause-few
 finish_rest-requires-clause-few g c = c.drive_first.ensures.few 0 c.index-seats-0.result c.requires.some
@@ -29,3 +36,15 @@ returns-clause-same g c =
     lent_all g.S.Scans.same met.same_refl met.same_trans (λ s. s.scan)
     c.args.seats.now c.drive_first.new.seats c.finish_rest.new.seat c.args.threads c.requires.some c.drive_first.ensures.size c.drive_first.ensures.same c.drive_first.ensures.others
     c.index-seats-0.result c.finish_rest.ensures.same
+
+pub finish_rest-requires-clause-put : goal.finish_rest-requires-clause-put
+finish_rest-requires-clause-put g c is =
+    let some = c.requires.some in
+    let within = c.requires.within in
+    let size = c.drive_first.ensures.size in
+    c.are_put-all_put.ensures.0 is 0 c.index-seats-0.result (omega (arith, some, within, size))
+
+pub returns-clause-units : goal.returns-clause-units
+returns-clause-units g c =
+    counted_all (λ s. s.units) (λ s. s.loads) (λ s. s.has_failed) c.args.seats.now c.drive_first.new.seats c.finish_rest.new.seat c.args.threads c.requires.some c.drive_first.ensures.size c.requires.idle
+    c.drive_first.ensures.units c.drive_first.ensures.others c.index-seats-0.result c.finish_rest.ensures.parts c.finish_rest.ensures.counted
