@@ -1,3 +1,4 @@
+pub mod Colours
 pub mod Front
 mod Lines
 mod Rows
