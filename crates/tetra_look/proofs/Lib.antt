@@ -1,5 +1,5 @@
 pub mod FoundWays
-pub mod GreyLemmas
+pub mod PartLemmas
 pub mod LatticeLemmas
 pub mod Mapped
 pub mod OrderLemmas

@@ -1,6 +1,6 @@
 pub mod Look
 pub mod Grid
-pub mod Greys
+pub mod Parts
 pub mod Lanes
 pub mod Ways
 pub mod Words

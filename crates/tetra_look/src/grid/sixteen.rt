@@ -36,9 +36,22 @@ impl Grid {
         ensures { EachIndex words.new (λ k.
             slice_index words.new k ≡ cube_word self.now (slice_index words.old k)) }
     {
+        let mut starts = Starts {
+            places: [0; 16],
+            reds: [0; 16],
+            greens: [0; 16],
+            blues: [0; 16],
+        };
+        let mut steps = Steps {
+            firsts: [0; 16],
+            seconds: [0; 16],
+            mosts: [0; 16],
+            middles: [0; 16],
+            leasts: [0; 16],
+        };
         let whole = words.len() / 16;
         for n in 0..whole {
-            self.shade_sixteen(&mut words[16 * n..16 * n + 16]);
+            self.shade_sixteen(&mut words[16 * n..16 * n + 16], &mut starts, &mut steps);
         }
         for i in 16 * whole..words.len() {
             words[i] = self.shade_one(words[i]);
@@ -53,52 +66,42 @@ impl Grid {
         word_of(self.cube_colour(rgb_of(word)))
     }
 
-    /// Sixteen words.
-    fn shade_sixteen(&self, words: &mut [u32])
+    /// Sixteen words. The two rooms are written over.
+    fn shade_sixteen(&self, words: &mut [u32], starts: &mut Starts, steps: &mut Steps)
         requires three { self.now.is_3d ≡ true }
         requires count { length words.old ≡ 16 }
         ensures { EachIndex words.new (λ k.
             slice_index words.new k ≡ cube_word self.now (slice_index words.old k)) }
     {
-        let starts = self.starts(words);
-        let steps = Steps::of(self.green_step, self.blue_step, &starts);
+        self.find_starts(words, starts);
+        steps.find(self.green_step, self.blue_step, starts);
         for k in 0..16 {
             words[k] = word_of(self.way_colour(starts.places[k], steps.way(k)));
         }
     }
 
-    /// Where the ways of sixteen words start.
-    fn starts(&self, words: &[u32]) -> Starts
+    /// Finds where the ways of sixteen words start.
+    fn find_starts(&self, words: &[u32], starts: &mut Starts)
         requires { length words.now ≡ 16 }
         ensures each { (k : ℕ) → k < 16
-            → IsStart self.now (word_codes (slice_index words.now k)) (start_of result k) }
-        ensures red { (k : ℕ) → k < 16 → slice_index result.reds k ≤ 65536 }
-        ensures green { (k : ℕ) → k < 16 → slice_index result.greens k ≤ 65536 }
-        ensures blue { (k : ℕ) → k < 16 → slice_index result.blues k ≤ 65536 }
+            → IsStart self.now (word_codes (slice_index words.now k)) (start_of starts.new k) }
+        ensures red { (k : ℕ) → k < 16 → slice_index starts.new.reds k ≤ 65536 }
+        ensures green { (k : ℕ) → k < 16 → slice_index starts.new.greens k ≤ 65536 }
+        ensures blue { (k : ℕ) → k < 16 → slice_index starts.new.blues k ≤ 65536 }
     {
-        let mut places = [0; 16];
-        let mut reds = [0; 16];
-        let mut greens = [0; 16];
-        let mut blues = [0; 16];
         for k in 0..16 {
             let start = self.start(rgb_of(words[k]));
-            places[k] = start.place;
-            reds[k] = start.r;
-            greens[k] = start.g;
-            blues[k] = start.b;
-        }
-        Starts {
-            places,
-            reds,
-            greens,
-            blues,
+            starts.places[k] = start.place;
+            starts.reds[k] = start.r;
+            starts.greens[k] = start.g;
+            starts.blues[k] = start.b;
         }
     }
 }
 
 impl Steps {
-    /// Those of the ways that start there, if the entries of neighbours along green and along blue are so far apart.
-    fn of(green_step: u32, blue_step: u32, starts: &Starts) -> Self
+    /// Finds the ways that start there, if the entries of neighbours along green and along blue are so far apart.
+    fn find(&mut self, green_step: u32, blue_step: u32, starts: &Starts)
         requires green_step { green_step ≤ 65536 }
         requires blue_step { blue_step ≤ 65536 }
         requires red { (k : ℕ) → k < 16 → slice_index starts.now.reds k ≤ 65536 }
@@ -106,13 +109,8 @@ impl Steps {
         requires blue { (k : ℕ) → k < 16 → slice_index starts.now.blues k ≤ 65536 }
         ensures { (k : ℕ) → k < 16
             → IsWay green_step blue_step (slice_index starts.now.reds k)
-            (slice_index starts.now.greens k) (slice_index starts.now.blues k) (way_of result k) }
+            (slice_index starts.now.greens k) (slice_index starts.now.blues k) (way_of self.new k) }
     {
-        let mut firsts = [0; 16];
-        let mut seconds = [0; 16];
-        let mut mosts = [0; 16];
-        let mut middles = [0; 16];
-        let mut leasts = [0; 16];
         for k in 0..16 {
             let way = Way::of(
                 green_step,
@@ -121,18 +119,11 @@ impl Steps {
                 starts.greens[k],
                 starts.blues[k],
             );
-            firsts[k] = way.first;
-            seconds[k] = way.second;
-            mosts[k] = way.most;
-            middles[k] = way.middle;
-            leasts[k] = way.least;
-        }
-        Steps {
-            firsts,
-            seconds,
-            mosts,
-            middles,
-            leasts,
+            self.firsts[k] = way.first;
+            self.seconds[k] = way.second;
+            self.mosts[k] = way.most;
+            self.middles[k] = way.middle;
+            self.leasts[k] = way.least;
         }
     }
 

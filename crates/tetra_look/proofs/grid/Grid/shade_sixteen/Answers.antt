@@ -19,9 +19,9 @@ way_colour-requires c =
     let gs_is : c.self.inside.green_step ≡ green_step l = c.self.invariant.green_is ∙ ap green_step c.self.view_is in
     let bs_is : c.self.inside.blue_step ≡ blue_step l = c.self.invariant.blue_is ∙ ap blue_step c.self.view_is in
     let h : IsLattice l = subst IsLattice c.self.view_is c.self.invariant.lattice in
-    let s = c.starts-starts.ensures.each k c.loop-k-test.true in
-    let start = start_of c.starts-starts.result k in
-    let w = subst (IsWay c.self.inside.green_step c.self.inside.blue_step start.r start.g start.b) (sym c.way.ensures) (c.of-steps.ensures k c.loop-k-test.true) in
+    let s = c.find_starts.ensures.each k c.loop-k-test.true in
+    let start = start_of c.find_starts.new.starts k in
+    let w = subst (IsWay c.self.inside.green_step c.self.inside.blue_step start.r start.g start.b) (sym c.way.ensures) (c.find.ensures k c.loop-k-test.true) in
     let first = first_within l colour c.requires.three _ _ gs_is bs_is _ s _ w h in
     record {
       first = first.0;
@@ -40,9 +40,9 @@ loop-k-preserved c =
     let colour : List ℕ = word_codes (get_or c.args.words.now k 0) in
     let gs_is : c.self.inside.green_step ≡ green_step l = c.self.invariant.green_is ∙ ap green_step c.self.view_is in
     let bs_is : c.self.inside.blue_step ≡ blue_step l = c.self.invariant.blue_is ∙ ap blue_step c.self.view_is in
-    let s = c.starts-starts.ensures.each k c.loop-k-test.true in
-    let start = start_of c.starts-starts.result k in
-    let w = subst (IsWay c.self.inside.green_step c.self.inside.blue_step start.r start.g start.b) (sym c.way.ensures) (c.of-steps.ensures k c.loop-k-test.true) in
+    let s = c.find_starts.ensures.each k c.loop-k-test.true in
+    let start = start_of c.find_starts.new.starts k in
+    let w = subst (IsWay c.self.inside.green_step c.self.inside.blue_step start.r start.g start.b) (sym c.way.ensures) (c.find.ensures k c.loop-k-test.true) in
     let codes : codes_of c.way_colour.result ≡ map (cube_code l colour) channels = c.way_colour.ensures ∙ colour_is l colour c.requires.three _ _ gs_is bs_is _ s _ w in
     let within : k < length c.loop-k.words = omega (arith, c.loop-k.auto.words, c.requires.count, c.loop-k-test.true) in
     mapped_more (cube_word l) k c.word_of.result c.args.words.now c.loop-k.words c.loop-k.invariant within (c.word_of.ensures.word ∙ ap colour_word codes)
