@@ -1,3 +1,5 @@
+pub mod Colours
 pub mod Front
 mod Lines
+pub mod Parts
 mod Rows

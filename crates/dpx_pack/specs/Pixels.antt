@@ -1,5 +1,5 @@
 -- The pixels of a file (SMPTE 268M: 10-bit RGB, filled to 32-bit words by method A).
-use Rattle.std.specs.Prelude.{◌≡◌, ℕ, ◌+◌, ◌-◌, ◌*◌, ◌/◌, ◌%◌, ◌^◌, ◌<◌, Bool, true, false, List, map, drop, slice_index}
+use Rattle.std.specs.Prelude.{◌≡◌, ℕ, ◌+◌, ◌-◌, ◌*◌, ◌/◌, ◌%◌, ◌^◌, ◌<◌, Bool, true, false, List, [], ◌∷◌, map, drop, slice_index}
 use Rattle.std.specs.List.{flat_map, range_with_len}
 use Rattle.byteorder.specs.Endian.{big_number, little_number}
 use Rattle.cf_base.specs.declared.pixel.Rgb.{Rgb}
@@ -15,6 +15,13 @@ pub record IsPixelOf (word : ℕ) (p : Rgb) : Type 0 where
   pub red : p.r ≡ word / 2 ^ 22
   pub green : p.g ≡ word / 2 ^ 12 % 2 ^ 10
   pub blue : p.b ≡ word / 2 ^ 2 % 2 ^ 10
+
+-- a word's codes by channel (red, green, blue), and the word of a colour, which has its codes by channel
+abbrev pub word_codes : ℕ → List ℕ
+word_codes word = (word / 2 ^ 22) ∷ (word / 2 ^ 12 % 2 ^ 10) ∷ (word / 2 ^ 2 % 2 ^ 10) ∷ []
+
+abbrev pub colour_word : List ℕ → ℕ
+colour_word colour = pixel_word (slice_index colour 0) (slice_index colour 1) (slice_index colour 2)
 
 -- a word with its two lowest bits, the filler, 0
 abbrev pub without_filler : ℕ → ℕ

@@ -43,12 +43,9 @@ decoded_is job (Some world) key info bytes words need is front =
     is ∙ decoded_by info bytes (file_of_key job.parts.reels (file_at world) key) need front
 
 -- a header in front, and a picture behind it
-pub file_joined : (count : ℕ) (out old header head pic made : List ℕ)
-    → out ≡ header ++ drop (length header) old → length header ≡ count → header ≡ head → made ≡ pic
+pub file_joined : (count : ℕ) (out head pic made : List ℕ) → take count out ≡ head → made ≡ pic
     → take count out ++ (made ++ post_of count (length out - count) out) ≡ head ++ pic
-file_joined count out old header head pic made out_is long header_is made_is =
-    let front : take count out ≡ header =
-    ap (take count) out_is ∙ take-append-le count header (drop (length header) old) (omega (arith, long)) ∙ take_all count header (omega (arith, long)) in
+file_joined count out head pic made front made_is =
     let less : length (drop count out) ≤ length out - count = rw length-drop (omega arith) in
     let gone : drop (length out - count) (drop count out) ≡ [] = drop_all (length out - count) (drop count out) less in
-    rw (front, gone, append-nil, header_is, made_is) refl
+    rw (gone, append-nil, front, made_is) refl

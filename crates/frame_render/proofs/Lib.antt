@@ -1,3 +1,5 @@
+pub mod Bands
+pub mod Colours
 pub mod Filled
 pub mod HandedIn
 pub mod Lines

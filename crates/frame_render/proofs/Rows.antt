@@ -14,7 +14,7 @@ use Rattle.byteorder.specs.Endian.{big_bytes}
 use Rattle.cf_timecode.specs.Spelling.{bcd_of}
 use Rattle.cf_timecode.proofs.Laws.{reached_by}
 use Rattle.dpx_header.specs.Writing.{header_of, header_fields, laid, all_laid, u16, u32, undefined, text}
-use Rattle.dpx_pack.specs.Pixels.{line, lines}
+use Rattle.dpx_pack.specs.Pixels.{colour_word, line, lines}
 use Rattle.tetra_look.specs.Look.{Lattice}
 use Rattle.scan_source.specs.Answers.{first_bytes}
 use Rattle.source_reels.specs.Reels.{path_text}
@@ -24,7 +24,7 @@ use Rattle.record_timeline.specs.declared.Shot.TheVariants.{Gap, One, Two}
 use Rattle.conform_job.specs.Asks.{shot_of_frame}
 use Rattle.conform_job.specs.Job.{JobData}
 use Rattle.conform_job.specs.Refusals.{Files}
-use Rattle.frame_render.specs.Frame.{colour_word, line_words, new_words, old_words, out_head, timecode_of, words_of_key}
+use Rattle.frame_render.specs.Frame.{line_words, new_words, old_words, out_head, timecode_of, words_of_key}
 use Rattle.record_timeline.proofs.Samples.{desk}
 
 abbrev reel : List ℕ → List ℕ → ℕ → ReelEntry

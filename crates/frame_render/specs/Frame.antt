@@ -5,7 +5,7 @@
 --     shot_colour job shot old new x y      what a shot shows at a pixel, before the look
 --     frame_file job files i      the file of record frame i: its header, then its picture
 -- Colours are lists of codes by channel: red, green, blue.
-use Rattle.std.specs.Prelude.{◌≡◌, ℕ, ◌+◌, ◌*◌, ◌/◌, ◌%◌, ◌^◌, List, take, [], ◌∷◌, ◌++◌, length, map, flat_map, slice_index, Option, Some, None, IfSome, IsSomeAnd, Result, Ok, Err, if◌then◌else◌}
+use Rattle.std.specs.Prelude.{◌≡◌, ℕ, ◌+◌, ◌*◌, List, take, [], ◌++◌, length, map, flat_map, slice_index, Option, Some, None, IfSome, IsSomeAnd, Result, Ok, Err, if◌then◌else◌}
 use Rattle.std.specs.Option.{option_map}
 use Rattle.std.specs.List.{range_with_len}
 use Rattle.byteorder.specs.Endian.{big_bytes}
@@ -20,7 +20,7 @@ use Rattle.dpx_header.specs.Writing.{header_of}
 use Rattle.dpx_header.specs.declared.fault.DpxFault.{DpxFault}
 use Rattle.dpx_header.specs.declared.info.FrameInfo.{FrameInfo}
 use Rattle.dpx_header.specs.declared.writing.OutHead.{OutHead}
-use Rattle.dpx_pack.specs.Pixels.{pixels, pixel_word}
+use Rattle.dpx_pack.specs.Pixels.{colour_word, pixels, word_codes}
 use Rattle.trans_mix.specs.Mix.{mixed_code}
 use Rattle.trans_mix.specs.Wipe.{is_incoming}
 use Rattle.tetra_look.specs.Look.{look_of, channels}
@@ -35,13 +35,6 @@ use Rattle.conform_job.specs.Asks.{shot_of_frame}
 use Rattle.conform_job.specs.Job.{JobData}
 use Rattle.conform_job.specs.Keys.{key_of_ask}
 use Rattle.conform_job.specs.Refusals.{Files, file_of_key}
-
--- a word's codes by channel, and a colour's word
-abbrev pub word_codes : ℕ → List ℕ
-word_codes w = (w / 2 ^ 22) ∷ (w / 2 ^ 12 % 2 ^ 10) ∷ (w / 2 ^ 2 % 2 ^ 10) ∷ []
-
-abbrev pub colour_word : List ℕ → ℕ
-colour_word colour = pixel_word (slice_index colour 0) (slice_index colour 1) (slice_index colour 2)
 
 -- the pixel words of a file, by its own header
 abbrev pub words_by : List ℕ → Result FrameInfo DpxFault → List ℕ

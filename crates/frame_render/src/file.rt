@@ -1,5 +1,5 @@
 //! The file of a frame: its header, and then its picture.
-ghost use Rattle.std.specs.Prelude.{◌≡◌, ◌+◌, ◌++◌, ◌<◌, ◌≤◌, drop, length, IfSome};
+ghost use Rattle.std.specs.Prelude.{◌≡◌, ◌+◌, ◌++◌, ◌<◌, ◌≤◌, length, take, IfSome};
 ghost use Rattle.std.specs.Option.{option_copied};
 ghost use Rattle.cf_base.specs.Timing.{frames_in_day};
 ghost use Rattle.dpx_header.specs.Writing.{IsOutHead, header_of};
@@ -9,16 +9,17 @@ ghost use Rattle.conform_job.specs.Job.{ArePlanned, need_at};
 ghost use Rattle.scan_source.specs.World.{file_at};
 ghost use Rattle.frame_render.specs.Frame.{HasKeyOf, HasWords, IsDecoded, frame_size, out_head, picture, timecode_of, words_kept};
 
-use crate::picture::render_picture;
+use crate::picture::{render_bands, render_parts};
 use crate::{Decoded, FrameBuf, Rendered};
 use cf_base::FrameNo;
 use cf_timecode::{bcd, label_of};
 use conform_job::{Job, Work};
 use dpx_header::{OutHead, write_header};
 use std::marker::PhantomData;
+use std::thread::Threads;
 
-/// The file of record frame `i` of N's job, from 0, from the source frames that it needs. Takes no
-/// memory.
+/// The file of record frame `i` of N's job, from 0, from the source frames that it needs: its bands one after another.
+/// Takes no memory.
 pub fn render<N: Work>(
     job: &Job,
     i: u32,
@@ -37,6 +38,45 @@ pub fn render<N: Work>(
     let _ = job.need(i);
     let FrameBuf { mut bytes } = buf;
     render_file(job, i, words_of(old), words_of(new), &mut bytes);
+    Rendered {
+        index: i,
+        file: job.file_of(i),
+        bytes,
+        of: PhantomData,
+    }
+}
+
+/// The same file, whose lines are made in `threads` threads side by side, this one among them: in at most as many as the job
+/// has bands, and 0 is 1. A thread costs some 40 microseconds, so let it be as many as there are processors without work.
+/// Takes no memory of its own.
+pub fn render_forked<N: Work, R: Threads + Sync>(
+    rt: &R,
+    job: &Job,
+    i: u32,
+    old: Option<&Decoded<N>>,
+    new: Option<&Decoded<N>>,
+    buf: FrameBuf,
+    threads: u32,
+) -> Rendered<N>
+    requires job { job.now ≡ N.job }
+    requires index { i < frame_count N.job.parts.timeline.events }
+    requires old { HasKeyOf (need_at N.job i).old (option_copied old) }
+    requires new { HasKeyOf (need_at N.job i).new (option_copied new) }
+    requires room { length buf ≡ frame_size N.job }
+    ensures index { result.index ≡ i }
+{
+    // As in `render`.
+    let _ = job.need(i);
+    let FrameBuf { mut bytes } = buf;
+    render_file_forked(
+        rt,
+        job,
+        i,
+        words_of(old),
+        words_of(new),
+        threads,
+        &mut bytes,
+    );
     Rendered {
         index: i,
         file: job.file_of(i),
@@ -68,10 +108,42 @@ fn render_file(job: &Job, i: u32, old: Option<&[u32]>, new: Option<&[u32]>, out:
         ++ picture job.now (shot_of_frame job.now.parts.timeline i)
         (option_copied old.entry) (option_copied new.entry) }
 {
+    put_header(job, i, out);
+    render_bands(job, job.shot(i), old, new, &mut out[2048..]);
+}
+
+/// The same, side by side.
+fn render_file_forked<R: Threads + Sync>(
+    rt: &R,
+    job: &Job,
+    i: u32,
+    old: Option<&[u32]>,
+    new: Option<&[u32]>,
+    threads: u32,
+    out: &mut [u8],
+)
+    requires index { i < frame_count job.now.parts.timeline.events }
+    requires old { HasWords job.now (option_copied old) }
+    requires new { HasWords job.now (option_copied new) }
+    requires room { length out.old ≡ frame_size job.now }
+    ensures { out.new ≡ header_of (out_head job.now i)
+        ++ picture job.now (shot_of_frame job.now.parts.timeline i)
+        (option_copied old.entry) (option_copied new.entry) }
+{
+    put_header(job, i, out);
+    render_parts(rt, job, job.shot(i), old, new, threads, &mut out[2048..]);
+}
+
+/// Writes the header of record frame `i`.
+fn put_header(job: &Job, i: u32, out: &mut [u8])
+    requires index { i < frame_count job.now.parts.timeline.events }
+    requires room { 2048 ≤ length out.old }
+    ensures header { take 2048 out.new ≡ header_of (out_head job.now i) }
+    ensures planned { ArePlanned job.now.parts }
+{
     let mut header = [0; 2048];
     write_header(&out_head(job, i), &mut header);
-    put_front(&header, out);
-    render_picture(job, job.shot(i), old, new, &mut out[2048..]);
+    out[..2048].copy_from_slice(&header);
 }
 
 /// The header of record frame `i`.
@@ -101,12 +173,4 @@ fn timecode_of(job: &Job, number: u32) -> u32
     ensures { result ≡ timecode_of job.now number }
 {
     bcd(label_of(job.project().rate, job.timeline().mode(), FrameNo(number)))
-}
-
-/// Writes a front part.
-fn put_front(front: &[u8], out: &mut [u8])
-    requires { length front.now ≤ length out.old }
-    ensures { out.new ≡ front.now ++ drop (length front.now) out.old }
-{
-    out[..front.len()].copy_from_slice(front);
 }

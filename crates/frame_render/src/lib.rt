@@ -5,11 +5,11 @@
 mod buffer;
 mod decoded;
 mod file;
+mod line;
 mod picture;
-mod pixel;
 mod rendered;
 
 pub use buffer::FrameBuf;
 pub use decoded::Decoded;
-pub use file::render;
+pub use file::{render, render_forked};
 pub use rendered::Rendered;

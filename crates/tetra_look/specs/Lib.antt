@@ -1,2 +1,6 @@
 pub mod Look
 pub mod Grid
+pub mod Parts
+pub mod Lanes
+pub mod Ways
+pub mod Words

@@ -2,8 +2,11 @@
 ghost use Rattle.std.specs.Prelude.{◌≡◌, ℕ, ◌+◌, ◌-◌, ◌*◌, ◌≤◌, ◌<◌, true, false, map, length, slice_index, IfOk, ◌≤ℤ◌, pos};
 ghost use Rattle.cf_base.specs.Rgb.{codes_of};
 ghost use Rattle.cube_reader.specs.Table.{units};
-ghost use Rattle.tetra_look.specs.Look.{IsLattice, channels, look_code, line_code, cube_code, cell_at, part_at, value_at, way_code, code_of_sum, lattice_value, lattice_of};
-ghost use Rattle.tetra_look.specs.Grid.{IsSpotOn, AreSpotsOn, entry_numbers, falling_parts, green_step, blue_step};
+ghost use Rattle.tetra_look.specs.Look.{IsLattice, channels, look_code, line_code, cube_code, value_at, way_code, code_of_sum, lattice_value, lattice_of};
+ghost use Rattle.tetra_look.specs.Grid.{IsSpotOn, AreSpotsOn, green_step, blue_step};
+ghost use Rattle.tetra_look.specs.Ways.{IsStart, way_entries, way_parts};
+
+mod sixteen;
 
 use crate::mix::{lattice_value, line_code, way_code};
 use crate::spot::{Spot, spots};
@@ -46,15 +49,18 @@ impl Model for Grid {
     ghost invariant = { λ a. IsGrid (record { is_3d = a.is_3d; size = a.size; low = a.low; high = a.high; entries = a.entries.items }) a.green_step a.blue_step a.reds.items a.greens.items a.blues.items };
 }
 
-/// The four entries on a colour's way through a table of three dimensions, and the parts along it.
+/// Where the way of a colour starts in a table of three dimensions, and its parts by channel, of 65536.
 #[derive(Clone, Copy)]
-struct Course {
-    entries: [u32; 4],
-    falling: [u32; 3],
+struct Start {
+    place: u32,
+    r: u32,
+    g: u32,
+    b: u32,
 }
 
 impl Grid {
-    /// The lattice of a table of colours.
+    /// The lattice of a table of colours. Where each of the 1024 codes of a channel lies in it is found once, so that no
+    /// pixel costs a division.
     pub fn of(alloc: Global, cube: &Cube) -> Result<Self, AllocError>
         ensures { IfOk result (λ grid. grid ≡ lattice_of cube.now) }
     {
@@ -80,6 +86,13 @@ impl Grid {
         })
     }
 
+    /// Whether the table has three dimensions.
+    pub fn is_3d(&self) -> bool
+        ensures { result ≡ self.now.is_3d }
+    {
+        self.is_3d
+    }
+
     /// The colour of a pixel.
     pub fn colour(&self, p: Rgb) -> Rgb
         ensures { codes_of result ≡ map (look_code self.now (codes_of p)) channels }
@@ -92,7 +105,7 @@ impl Grid {
     }
 
     /// The colour of a pixel in a table of one dimension.
-    fn line_colour(&self, p: Rgb) -> Rgb
+    pub fn line_colour(&self, p: Rgb) -> Rgb
         requires { self.now.is_3d ≡ false }
         ensures { codes_of result ≡ map (line_code self.now (codes_of p)) channels }
     {
@@ -122,60 +135,74 @@ impl Grid {
         requires { self.now.is_3d ≡ true }
         ensures { codes_of result ≡ map (cube_code self.now (codes_of p)) channels }
     {
-        let course = self.course(p);
-        Rgb {
-            r: self.code_on(&course, 0),
-            g: self.code_on(&course, 1),
-            b: self.code_on(&course, 2),
+        let start = self.start(p);
+        let way = Way::of(self.green_step, self.blue_step, start.r, start.g, start.b);
+        self.way_colour(start.place, way)
+    }
+
+    /// Where the way of a colour starts.
+    fn start(&self, p: Rgb) -> Start
+        ensures start { IsStart self.now (codes_of p) result }
+        ensures red { result.r ≤ 65536 }
+        ensures green { result.g ≤ 65536 }
+        ensures blue { result.b ≤ 65536 }
+    {
+        let (r, g, b) = (self.red(p.r), self.green(p.g), self.blue(p.b));
+        Start {
+            place: r.place + g.place + b.place,
+            r: r.part,
+            g: g.part,
+            b: b.part,
         }
     }
 
-    /// The code of a channel on a course.
-    fn code_on(&self, course: &Course, channel: usize) -> u16
-        requires start { slice_index course.now.entries 0 < length self.now.entries }
-        requires next { slice_index course.now.entries 1 < length self.now.entries }
-        requires then { slice_index course.now.entries 2 < length self.now.entries }
-        requires last { slice_index course.now.entries 3 < length self.now.entries }
-        requires most { slice_index course.now.falling 0 ≤ 65536 }
-        requires falls { slice_index course.now.falling 1 ≤ slice_index course.now.falling 0 }
-        requires falls_on { slice_index course.now.falling 2 ≤ slice_index course.now.falling 1 }
+    /// The colour on a way from a place.
+    fn way_colour(&self, place: u32, way: Way) -> Rgb
+        requires first { place + way.first < length self.now.entries }
+        requires second { place + way.second < length self.now.entries }
+        requires third { place + (1 + green_step self.now + blue_step self.now) < length self.now.entries }
+        requires count { length self.now.entries ≤ 2146689 }
+        requires small { way.most ≤ 65536 }
+        requires falls { way.middle ≤ way.most }
+        requires falls_on { way.least ≤ way.middle }
+        ensures { codes_of result
+            ≡ map (way_code self.now
+            (way_entries (green_step self.now) (blue_step self.now) place way) (way_parts way)) channels }
+    {
+        let entries = [
+            place,
+            place + way.first,
+            place + way.second,
+            place + (1 + self.green_step + self.blue_step),
+        ];
+        let parts = [way.most, way.middle, way.least];
+        Rgb {
+            r: self.code_on(&entries, &parts, 0),
+            g: self.code_on(&entries, &parts, 1),
+            b: self.code_on(&entries, &parts, 2),
+        }
+    }
+
+    /// The code of a channel on a way over four entries, whose three steps have these falling parts.
+    fn code_on(&self, entries: &[u32; 4], parts: &[u32; 3], channel: usize) -> u16
+        requires start { slice_index entries.now 0 < length self.now.entries }
+        requires next { slice_index entries.now 1 < length self.now.entries }
+        requires then { slice_index entries.now 2 < length self.now.entries }
+        requires last { slice_index entries.now 3 < length self.now.entries }
+        requires most { slice_index parts.now 0 ≤ 65536 }
+        requires falls { slice_index parts.now 1 ≤ slice_index parts.now 0 }
+        requires falls_on { slice_index parts.now 2 ≤ slice_index parts.now 1 }
         requires channel { channel < 3 }
-        ensures code { result ≡ way_code self.now course.now.entries course.now.falling channel }
+        ensures code { result ≡ way_code self.now entries.now parts.now channel }
         ensures most { result ≤ 1023 }
     {
         let values = [
-            self.value(course.entries[0], channel),
-            self.value(course.entries[1], channel),
-            self.value(course.entries[2], channel),
-            self.value(course.entries[3], channel),
+            self.value(entries[0], channel),
+            self.value(entries[1], channel),
+            self.value(entries[2], channel),
+            self.value(entries[3], channel),
         ];
-        way_code(&values, &course.falling)
-    }
-
-    /// The course of a pixel.
-    fn course(&self, p: Rgb) -> Course
-        requires { self.now.is_3d ≡ true }
-        ensures entries { result.entries ≡ entry_numbers self.now (codes_of p) }
-        ensures falling { result.falling ≡ falling_parts self.now (codes_of p) }
-        ensures start { slice_index result.entries 0 < length self.now.entries }
-        ensures next { slice_index result.entries 1 < length self.now.entries }
-        ensures then { slice_index result.entries 2 < length self.now.entries }
-        ensures last { slice_index result.entries 3 < length self.now.entries }
-        ensures most { slice_index result.falling 0 ≤ 65536 }
-        ensures falls { slice_index result.falling 1 ≤ slice_index result.falling 0 }
-        ensures falls_on { slice_index result.falling 2 ≤ slice_index result.falling 1 }
-    {
-        let (r, g, b) = (self.red(p.r), self.green(p.g), self.blue(p.b));
-        let way = Way::of(self.green_step, self.blue_step, r.part, g.part, b.part);
-        let start = r.place + g.place + b.place;
-        let entries = [
-            start,
-            start + way.first,
-            start + way.second,
-            start + (1 + self.green_step + self.blue_step),
-        ];
-        let falling = way.falling;
-        Course { entries, falling }
+        way_code(&values, parts)
     }
 
     /// An entry's lattice value on a channel.

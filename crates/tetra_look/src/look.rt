@@ -1,18 +1,20 @@
 //! A look.
-ghost use Rattle.std.specs.Prelude.{◌≡◌, None, Some, IfOk};
+ghost use Rattle.std.specs.Prelude.{◌≡◌, None, Some, IfOk, slice_index, EachIndex};
 ghost use Rattle.cf_base.specs.Rgb.{codes_of};
 ghost use Rattle.tetra_look.specs.Look.{look_of, lattice_of};
+ghost use Rattle.tetra_look.specs.Words.{look_word};
 
-use crate::grid::Grid;
+use crate::table::Table;
 use cf_base::{Fail, Never, Rgb};
 use cube_reader::Cube;
+use dpx_pack::{rgb_of, word_of};
 use std::alloc::Global;
 use std::marker::Model;
 
 /// What a pixel looks like by a table of colours, or as it is.
 #[derive(Drop)]
 pub struct Look {
-    grid: Option<Grid>,
+    table: Option<Table>,
 }
 
 impl Model for Look {
@@ -21,7 +23,7 @@ impl Model for Look {
 
     ghost Value = { Option Lattice };
 
-    ghost view = { λ a. a.grid };
+    ghost view = { λ a. a.table };
 }
 
 impl Look {
@@ -29,16 +31,16 @@ impl Look {
     pub fn none() -> Self
         ensures { result ≡ None }
     {
-        Look { grid: None }
+        Look { table: None }
     }
 
-    /// The look that a table of colours gives. It finds for each of the 1024 codes of a channel where the code lies in the
-    /// table, so that no pixel costs a division.
+    /// The look that a table of colours gives. What can be found for each code of a channel is found here, so that no pixel
+    /// costs a division.
     pub fn of(alloc: Global, cube: Cube) -> Result<Self, Fail<Never>>
         ensures { IfOk result (λ look. look ≡ Some (lattice_of cube)) }
     {
-        match Grid::of(alloc, &cube) {
-            Ok(grid) => Ok(Look { grid: Some(grid) }),
+        match Table::of(alloc, &cube) {
+            Ok(table) => Ok(Look { table: Some(table) }),
             Err(_) => Err(Fail::NoMemory),
         }
     }
@@ -47,9 +49,37 @@ impl Look {
     pub fn at(&self, p: Rgb) -> Rgb
         ensures { codes_of result ≡ look_of self.now (codes_of p) }
     {
-        match &self.grid {
+        match &self.table {
             None => p,
-            Some(grid) => grid.colour(p),
+            Some(table) => table.colour(p),
         }
     }
+
+    /// Makes words of pixels as they look: each that of `at`, its two lowest bits 0. Takes no memory.
+    pub fn shade(&self, words: &mut [u32])
+        ensures { EachIndex words.new (λ k.
+            slice_index words.new k ≡ look_word self.now (slice_index words.old k)) }
+    {
+        match &self.table {
+            None => shade_none(words),
+            Some(table) => table.shade(words),
+        }
+    }
+}
+
+/// Words of pixels as they are, but for their two lowest bits, which become 0.
+fn shade_none(words: &mut [u32])
+    ensures { EachIndex words.new (λ k.
+        slice_index words.new k ≡ look_word None (slice_index words.old k)) }
+{
+    for i in 0..words.len() {
+        words[i] = plain_word(words[i]);
+    }
+}
+
+/// One word.
+fn plain_word(word: u32) -> u32
+    ensures { result ≡ look_word None word }
+{
+    word_of(rgb_of(word))
 }

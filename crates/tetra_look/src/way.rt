@@ -1,7 +1,5 @@
 //! The way through a cell of a table of three dimensions.
-ghost use Rattle.std.specs.Prelude.{◌≡◌, ◌≤◌, ◌+◌, map, take, [], ◌∷◌, slice_index};
-ghost use Rattle.tetra_look.specs.Look.{path};
-ghost use Rattle.tetra_look.specs.Grid.{steps_along};
+ghost use Rattle.std.specs.Prelude.{◌≡◌, ◌≢◌};
 
 /// The way from the place of a cell's beginning to that of its end: one step along each channel, in the order of falling
 /// parts, among equal ones in the order red, green, blue.
@@ -11,65 +9,67 @@ pub struct Way {
     pub first: u32,
     /// How much farther the entry behind the second step is.
     pub second: u32,
-    /// The parts in the order of the steps.
-    pub falling: [u32; 3],
+    /// The part of the first step, of 65536.
+    pub most: u32,
+    /// That of the second.
+    pub middle: u32,
+    /// That of the third.
+    pub least: u32,
 }
 
 impl Way {
+    ghost use Rattle.std.specs.Prelude.{◌≤◌};
+    ghost use Rattle.tetra_look.specs.Ways.{IsWay};
+
     /// The way for the parts of the three channels, if the entries of neighbours along green and along blue are so far
-    /// apart. Those along red are 1 apart.
+    /// apart. Those along red are 1 apart. There is no branch in it, so that many ways are found at once.
     pub fn of(green_step: u32, blue_step: u32, r: u32, g: u32, b: u32) -> Self
         requires green_step { green_step ≤ 65536 }
         requires blue_step { blue_step ≤ 65536 }
         requires red { r ≤ 65536 }
         requires green { g ≤ 65536 }
         requires blue { b ≤ 65536 }
-        ensures first { result.first ≡ steps_along green_step blue_step (take 1 (path (r ∷ g ∷ b ∷ []))) }
-        ensures second { result.second ≡ steps_along green_step blue_step (take 2 (path (r ∷ g ∷ b ∷ []))) }
-        ensures falling { result.falling ≡ map (λ a. slice_index (r ∷ g ∷ b ∷ []) a) (path (r ∷ g ∷ b ∷ [])) }
-        ensures third { steps_along green_step blue_step (take 3 (path (r ∷ g ∷ b ∷ []))) ≡ 1 + green_step + blue_step }
-        ensures most { slice_index result.falling 0 ≤ 65536 }
-        ensures falls { slice_index result.falling 1 ≤ slice_index result.falling 0 }
-        ensures falls_on { slice_index result.falling 2 ≤ slice_index result.falling 1 }
+        ensures { IsWay green_step blue_step r g b result }
     {
-        if g <= r {
-            if b <= g {
-                Way {
-                    first: 1,
-                    second: 1 + green_step,
-                    falling: [r, g, b],
-                }
-            } else if b <= r {
-                Way {
-                    first: 1,
-                    second: 1 + blue_step,
-                    falling: [r, b, g],
-                }
-            } else {
-                Way {
-                    first: blue_step,
-                    second: 1 + blue_step,
-                    falling: [b, r, g],
-                }
-            }
-        } else if b <= r {
-            Way {
-                first: green_step,
-                second: 1 + green_step,
-                falling: [g, r, b],
-            }
-        } else if b <= g {
-            Way {
-                first: green_step,
-                second: green_step + blue_step,
-                falling: [g, b, r],
-            }
-        } else {
-            Way {
-                first: blue_step,
-                second: green_step + blue_step,
-                falling: [b, g, r],
-            }
+        let most = r.max(g).max(b);
+        let least = r.min(g).min(b);
+        let last = last_step(green_step, blue_step, g, b, least);
+        Way {
+            first: first_step(green_step, blue_step, r, g, most),
+            second: 1 + green_step + blue_step - last,
+            most,
+            middle: r + g + b - most - least,
+            least,
         }
+    }
+}
+
+/// The step along the first channel that has the greatest part.
+fn first_step(green_step: u32, blue_step: u32, r: u32, g: u32, most: u32) -> u32
+    ensures red { r ≡ most → result ≡ 1 }
+    ensures green { r ≢ most → g ≡ most → result ≡ green_step }
+    ensures blue { r ≢ most → g ≢ most → result ≡ blue_step }
+{
+    if r == most {
+        1
+    } else if g == most {
+        green_step
+    } else {
+        blue_step
+    }
+}
+
+/// The step along the last channel that has the least part.
+fn last_step(green_step: u32, blue_step: u32, g: u32, b: u32, least: u32) -> u32
+    ensures blue { b ≡ least → result ≡ blue_step }
+    ensures green { b ≢ least → g ≡ least → result ≡ green_step }
+    ensures red { b ≢ least → g ≢ least → result ≡ 1 }
+{
+    if b == least {
+        blue_step
+    } else if g == least {
+        green_step
+    } else {
+        1
     }
 }

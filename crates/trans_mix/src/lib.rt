@@ -1,4 +1,5 @@
-//! Dissolves and wipes: what a transition makes of one pixel of each side.
+//! Dissolves and wipes: what a transition makes of one pixel of each side, and what is made once for many pixels: the
+//! weights of a dissolve's frame, and the columns of a wipe's line.
 //!
 //! A transition of `d` frames has its frames numbered by `k` from 0. A channel's code is a number from 0 to 1023. Columns
 //! and lines are counted from 0 at the top left corner. The weights and the shapes are this project's own; CMX 3600 has
@@ -9,6 +10,12 @@ ghost use Rattle.std.specs.Prelude.{◌≡◌, ◌^◌, ◌<◌, ◌≤◌, IsTr
 ghost use Rattle.cf_base.specs.Events.{is_known_wipe};
 ghost use Rattle.trans_mix.specs.Mix.{mixed_code};
 ghost use Rattle.trans_mix.specs.Wipe.{has_passed, is_incoming, HaveShapes};
+
+mod columns;
+mod weights;
+
+pub use columns::{Columns, incoming_columns};
+pub use weights::{LONGEST_WEIGHTED, Weights};
 
 /// The longest transition, in frames: a day at 30 frames per second.
 pub const LONGEST: u32 = 2_592_000;

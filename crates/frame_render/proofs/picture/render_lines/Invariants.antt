@@ -1,0 +1,11 @@
+-- The lines so far are written.
+use Rattle.std.proofs.Common.{◌≡◌, ◌*◌, length, take}
+use Rattle.std.specs.Option.{option_copied}
+use Rattle.frame_render.specs.Lines.{lines_from}
+use Rattle.frame_render.proofs.picture.render_lines.Given as goal
+
+abbrev pub invariant-loop-n : goal.invariant-loop-n
+invariant-loop-n l = record {
+  written : take (l.n * l.stride) l.out ≡ lines_from l.job l.shot (option_copied l.old) (option_copied l.new) l.first l.n;
+  line : length l.line ≡ 4096;
+}
