@@ -68,8 +68,8 @@ made_apart : (outcome : Outcome) → IsMade outcome → (outcome ≢ outcomes.So
 made_apart outcome made = (λ same. subst IsMade same made, λ same. subst IsMade same made)
 
 -- the folder of an outcome whose line found no memory
-run_instead : (told : Option World) (path : List ℕ) (disk disk_after : DiskState) (loads loads_after : ℕ) (reached : Outcome) (output : List ℕ)
-    → IsRunReply told path disk disk_after loads loads_after reached output → IsRunReply told path disk disk_after loads loads_after outcomes.NoMemory (line_of outcomes.NoMemory)
+run_instead : {share : ℕ} (told : Option World) (path : List ℕ) (disk disk_after : DiskState) (loads loads_after : ℕ) (reached : Outcome) (output : List ℕ)
+    → IsRunReply told path share disk disk_after loads loads_after reached output → IsRunReply told path share disk disk_after loads loads_after outcomes.NoMemory (line_of outcomes.NoMemory)
 run_instead told path disk disk_after loads loads_after reached output (inl has) = inl (record {
   job = has.job;
   comes = has.comes;
@@ -80,6 +80,7 @@ run_instead told path disk disk_after loads loads_after reached output (inl has)
     report = has.ran.report;
     reply = record { reached_is = inr refl; form = λ same. absurd (cc) };
     frames = has.ran.frames;
+    log = has.ran.log;
     ran = has.ran.ran;
     run = has.ran.run;
     acked = has.ran.acked;

@@ -150,7 +150,7 @@ module _ (laws : OneJob) (world : World) (path : List ℕ) (disk : DiskState) (p
   fit_for job comes = subst (λ parts. IsFit parts.digest (frame_count parts.timeline.events) (view_of disk.history))
       (laws.one (file_at world) path place.job.parts job.parts place.comes (at_world told world (λ files. ComesTo (file_at files) path (Ok job.parts)) is comes)) place.fit
 
-  run_complete : (disk_after : DiskState) (loads loads_after : ℕ) (reached : Outcome) (output : List ℕ) → IsRunReply told path disk disk_after loads loads_after reached output
+  run_complete : {share : ℕ} (disk_after : DiskState) (loads loads_after : ℕ) (reached : Outcome) (output : List ℕ) → IsRunReply told path share disk disk_after loads loads_after reached output
       → reached ≢ outcomes.SourceFault → reached ≢ outcomes.DiskFault → IsComplete reached
   run_complete disk_after loads loads_after reached output (inl has) no_source no_disk = elim has.ran.reply.reached_is [
     | inl reached_is ↦

@@ -32,6 +32,7 @@ module _ {S : Type 0} (world : S → Option World) (faults loads : S → ℕ) (s
       reply = record { reached_is = inr refl; form = λ same. absurd (cc) };
       frames = ran.frames;
       steps = ran.steps;
+      log = ran.log;
       ran = ran.ran;
       run = ran.run;
       acked = ran.acked;

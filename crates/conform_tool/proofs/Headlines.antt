@@ -148,8 +148,8 @@ memory_not_done sink sink_after reached output result put memory ended =
 -- ---- one thread
 
 module _ (laws : OneJob) (job : JobData) (world : World) (path : List ℕ) (comes : ComesTo (file_at world) path (Ok job.parts)) where
-  reply_promise : (told : Option World) (disk disk_after : DiskState) (loads loads_after : ℕ) (reached : Outcome) (output : List ℕ) (Ended : Type 0)
-      → told ≡ Some world → disk.tells ≡ true → (Ended → reached ≡ outcomes.Done) → IsRunReply told path disk disk_after loads loads_after reached output
+  reply_promise : {share : ℕ} (told : Option World) (disk disk_after : DiskState) (loads loads_after : ℕ) (reached : Outcome) (output : List ℕ) (Ended : Type 0)
+      → told ≡ Some world → disk.tells ≡ true → (Ended → reached ≡ outcomes.Done) → IsRunReply told path share disk disk_after loads loads_after reached output
       → KeepsItsPromise job world disk.history disk_after.history Ended
   reply_promise told disk disk_after loads loads_after reached output Ended is tells done (inl has) =
       run_promise job has.job told world disk.history disk_after.history Ended is

@@ -132,7 +132,7 @@ pub record IsReply (command : Command) (before after : ScanState) (reached : Out
 
 -- A run did to the disk what it is to do, and `status` looked at it; no other command made a call on it.
 abbrev pub UsesDisk : Command → ScanState → ScanState → DiskState → DiskState → Outcome → List ℕ → Type 0
-UsesDisk (commands.Run path workers share) before after disk disk_after reached output = IsRunReply before.world path disk disk_after before.loads after.loads reached output
+UsesDisk (commands.Run path workers share) before after disk disk_after reached output = IsRunReply before.world path share disk disk_after before.loads after.loads reached output
 UsesDisk (commands.Status path) before after disk disk_after reached output = IsStatusReply before.world path disk disk_after before.loads after.loads reached output
 UsesDisk other before after disk disk_after reached output = disk_after ≡ disk
 

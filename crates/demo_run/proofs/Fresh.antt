@@ -15,6 +15,7 @@ use Rattle.reel_writer.specs.Reel.{frames_of, IsSoundReel}
 use Rattle.single_run.specs.Asks.{closed_frames}
 use Rattle.single_run.specs.Ends.{IsEnd}
 use Rattle.single_run.specs.Run.{WasOpened, WasRefused, HasRefused, HasWhole, IsWhole}
+use Rattle.frame_share.specs.declared.step.ShareStep.{ShareStep}
 use Rattle.single_run.specs.declared.run_end.Report.{Report}
 use Rattle.single_run.specs.declared.run_end.RunEnd.{RunEnd}
 use Rattle.single_run.specs.declared.run_end.RunEnd.TheVariants.{Done, OtherJob, BadLedger, Changed, SourceFault, DiskFault, NoMemory}
@@ -65,9 +66,9 @@ module _ (old : History) (faults : ℕ) (fresh : IsNewDisk (λ id. None) old fau
         by None shown = tt
         by (Some world) shown = shown (sound job world)
 
-    module _ (report : Report) where
+    module _ (capacity : ℕ) (report : Report) (log : List ShareStep) where
       -- and every frame is among those that were finished
-      pub acked_at_done : WasOpened job told true old new Done report ⊎ WasRefused job true old new Done report → report.kept + report.rendered ≡ frames_of job
+      pub acked_at_done : WasOpened job told capacity true old new Done report log ⊎ WasRefused job true old new Done report log → report.kept + report.rendered ≡ frames_of job
       acked_at_done (inl opened) =
           let shut : (k : ℕ) → get_or opened.gates k false ≡ true → ⊥ = λ k is. unsealed ((opened.opening refl k).0 is).sealed in
           let kept : report.kept ≡ 0 = opened.kept ∙ none_open opened.gates shut in
@@ -86,7 +87,7 @@ module _ (old : History) (faults : ℕ) (fresh : IsNewDisk (λ id. None) old fau
       never_refused NoMemory why disk memory = memory refl
 
       -- so a run over files that are told, of which no load fails, ends otherwise for want of memory alone
-      pub ends_in_memory : (end : RunEnd) → WasOpened job told true old new end report ⊎ WasRefused job true old new end report → IsSome told
+      pub ends_in_memory : (end : RunEnd) → WasOpened job told capacity true old new end report log ⊎ WasRefused job true old new end report log → IsSome told
           → (end ≡ SourceFault → ⊥) → (end ≡ Done → ⊥) → (end ≡ DiskFault → ⊥) → (end ≡ NoMemory → ⊥) → ⊥
       ends_in_memory end (inl opened) tells source done disk memory = by end opened.is_end source done disk memory
         where

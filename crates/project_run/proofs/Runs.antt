@@ -6,6 +6,7 @@ use Rattle.cf_base.specs.declared.key.Key.{Key}
 use Rattle.cf_base.specs.declared.reel.ReelEntry.{ReelEntry}
 use Rattle.scan_source.specs.World.{World, file_at}
 use Rattle.source_reels.specs.Reels.{path_of_key}
+use Rattle.frame_share.specs.declared.step.ShareStep.{ShareStep}
 use Rattle.conform_job.specs.Answers.{count_after}
 use Rattle.conform_job.specs.Job.{JobData}
 use Rattle.conform_job.specs.Names.{Tells}
@@ -57,8 +58,8 @@ refused_end job tells old new ends.SourceFault is = tt
 refused_end job tells old new ends.DiskFault is = tt
 refused_end job tells old new ends.NoMemory is = tt
 
-pub is_known : (job : JobData) (told : Option World) (tells : Bool) (old new : History) (how : RunEnd) (report : Report)
-    → WasOpened job told tells old new how report ⊎ WasRefused job tells old new how report → IsKnown job how
+pub is_known : {capacity : ℕ} {log : List ShareStep} (job : JobData) (told : Option World) (tells : Bool) (old new : History) (how : RunEnd) (report : Report)
+    → WasOpened job told capacity tells old new how report log ⊎ WasRefused job tells old new how report log → IsKnown job how
 is_known job told tells old new how report (inl opened) = opened_end job told how opened.is_end
 is_known job told tells old new how report (inr refused) = refused_end job tells old new how refused.why
 
@@ -75,15 +76,15 @@ of_job outcomes.SourceFault kind = tt
 of_job outcomes.DiskFault kind = absurd kind
 of_job outcomes.NoMemory kind = tt
 
-pub run_in : (job : JobData) (here told : Option World) (path : List ℕ) (disk disk_after : DiskState) (loads between loads_after : ℕ) (reached : Outcome) (output : List ℕ) → here ≡ told
+pub run_in : {share : ℕ} (job : JobData) (here told : Option World) (path : List ℕ) (disk disk_after : DiskState) (loads between loads_after : ℕ) (reached : Outcome) (output : List ℕ) → here ≡ told
     → IfSome told (λ world. HasPlanned (file_at world) path (Ok job)) → between ≡ count_after (2 + cube_count job.parts.project.cube) loads
-    → IsJobRun job here disk disk_after between loads_after reached output → IsRunReply told path disk disk_after loads loads_after reached output
-run_in job here told path disk disk_after loads between loads_after reached output same comes texts ran = inl (record {
+    → IsJobRun job here share disk disk_after between loads_after reached output → IsRunReply told path share disk disk_after loads loads_after reached output
+run_in {share = share} job here told path disk disk_after loads between loads_after reached output same comes texts ran = inl (record {
   job = job;
   comes = comes;
   planned = between;
   texts = texts;
-  ran = subst (λ told. IsJobRun job told disk disk_after between loads_after reached output) same ran;
+  ran = subst (λ told. IsJobRun job told share disk disk_after between loads_after reached output) same ran;
 })
 
 pub status_in : (job : JobData) (told : Option World) (path : List ℕ) (disk disk_after : DiskState) (loads loads_after : ℕ) (reached : Outcome) (output : List ℕ)

@@ -6,6 +6,7 @@
 use Rattle.std.specs.Prelude.{◌≡◌, ◌≢◌, ◌⊎◌, ℕ, ◌+◌, ◌<◌, ◌≤◌, min, true, List, [], ◌∷◌, drop, length, slice_index_or, Option, None, IfSome, MatchOption, Ok, Err}
 use Rattle.cf_base.specs.Count.{HasRisen}
 use Rattle.scan_source.specs.World.{World, file_at}
+use Rattle.frame_share.specs.declared.step.ShareStep.{ShareStep}
 use Rattle.reel_disk.specs.Disk.{moment_of, view_of}
 use Rattle.reel_disk.specs.Runs.{Spares}
 use Rattle.reel_writer.specs.Reel.{frames_of, IsReelRun}
@@ -51,8 +52,9 @@ module _ {S : Type 0} (world : S → Option World) (faults loads : S → ℕ) (s
     pub frames : report.frames ≡ frames_of job
     -- the steps of the workers, how the run ended by them, and what the folder acknowledges now; or why there are none
     pub steps : Option (List Step)
-    pub ran : MatchOption steps (IsUnstepped job disk.tells disk.history disk_after.history how report)
-        (λ all. WasCrewed job told disk.tells disk.history disk_after.history all how report)
+    pub log : List ShareStep
+    pub ran : MatchOption steps (IsUnstepped job disk.tells disk.history disk_after.history how report log)
+        (λ all. WasCrewed job told disk.tells disk.history disk_after.history all how report log)
     -- the crash promise
     pub run : disk.tells ≡ true → IsReelRun job told disk.history disk_after.history
     pub acked : how ≡ ends.Done → disk.tells ≡ true → AreAllAcked job (moment_of disk_after.history)

@@ -6,6 +6,7 @@ use Rattle.std.specs.Prelude.{◌≡◌, ◌⊎◌, ℕ, ◌+◌, ◌≤◌, Boo
 use Rattle.std.specs.Option.{option_map}
 use Rattle.cf_base.specs.declared.reel.ReelEntry.{ReelEntry}
 use Rattle.scan_source.specs.World.{World, file_at}
+use Rattle.frame_share.specs.declared.step.ShareStep.{ShareStep}
 use Rattle.reel_disk.specs.Disk.{History, moment_of, view_of}
 use Rattle.reel_disk.specs.Runs.{Spares}
 use Rattle.reel_writer.specs.Reel.{frames_of, IsReelRun}
@@ -67,13 +68,15 @@ IsKnown job other = Unit {0}
 
 -- The job was run in the folder. At every moment of the run each frame that a crash leaves acknowledged is the definition's,
 -- and no acknowledgement is lost; at Done the folder has the whole reel.
-pub record IsJobRun (job : JobData) (told : Option World) (disk disk_after : DiskState) (loads loads_after : ℕ) (reached : Outcome) (output : List ℕ) : Type 0 where
+pub record IsJobRun (job : JobData) (told : Option World) (share : ℕ) (disk disk_after : DiskState) (loads loads_after : ℕ) (reached : Outcome) (output : List ℕ) : Type 0 where
   pub how : RunEnd
   pub report : Report
   pub reply : IsReplyOf job how report reached output
   pub frames : report.frames ≡ frames_of job
-  -- what the folder acknowledged and does now, what was rendered, and what was loaded; or why the folder was not opened
-  pub ran : WasOpened job told disk.tells disk.history disk_after.history how report ⊎ WasRefused job disk.tells disk.history disk_after.history how report
+  -- what the folder acknowledged and does now, what was rendered, and what was asked for and loaded, with a share of so many
+  -- frames; or why the folder was not opened
+  pub log : List ShareStep
+  pub ran : WasOpened job told share disk.tells disk.history disk_after.history how report log ⊎ WasRefused job disk.tells disk.history disk_after.history how report log
   -- the crash promise
   pub run : disk.tells ≡ true → IsReelRun job told disk.history disk_after.history
   pub acked : how ≡ ends.Done → disk.tells ≡ true → AreAllAcked job (moment_of disk_after.history)
@@ -83,13 +86,13 @@ pub record IsJobRun (job : JobData) (told : Option World) (disk disk_after : Dis
   pub loaded : loads_after ≡ count_after report.loads loads
 
 -- The project came to this job, which was run in the folder.
-pub record HasRun (told : Option World) (path : List ℕ) (disk disk_after : DiskState) (loads loads_after : ℕ) (reached : Outcome) (output : List ℕ) : Type 0 where
+pub record HasRun (told : Option World) (path : List ℕ) (share : ℕ) (disk disk_after : DiskState) (loads loads_after : ℕ) (reached : Outcome) (output : List ℕ) : Type 0 where
   pub job : JobData
   pub comes : IfSome told (λ world. ComesTo (file_at world) path (Ok job.parts))
   -- the loads when it was planned
   pub planned : ℕ
   pub texts : planned ≡ count_after (2 + cube_count job.parts.project.cube) loads
-  pub ran : IsJobRun job told disk disk_after planned loads_after reached output
+  pub ran : IsJobRun job told share disk disk_after planned loads_after reached output
 
 -- The project came to no job, and the folder is as it was.
 pub record IsUnplanned (told : Option World) (path : List ℕ) (disk disk_after : DiskState) (loads loads_after : ℕ) (reached : Outcome) : Type 0 where
@@ -98,9 +101,9 @@ pub record IsUnplanned (told : Option World) (path : List ℕ) (disk disk_after 
   pub untouched : disk_after ≡ disk
   pub texts : AreLoaded 1 3 loads loads_after
 
-abbrev pub IsRunReply : Option World → List ℕ → DiskState → DiskState → ℕ → ℕ → Outcome → List ℕ → Type 0
-IsRunReply told path disk disk_after loads loads_after reached output =
-    HasRun told path disk disk_after loads loads_after reached output ⊎ IsUnplanned told path disk disk_after loads loads_after reached
+abbrev pub IsRunReply : Option World → List ℕ → ℕ → DiskState → DiskState → ℕ → ℕ → Outcome → List ℕ → Type 0
+IsRunReply told path share disk disk_after loads loads_after reached output =
+    HasRun told path share disk disk_after loads loads_after reached output ⊎ IsUnplanned told path disk disk_after loads loads_after reached
 
 -- the outcomes that a run of a job may come to in place of Done
 abbrev pub IsOfRun : Outcome → Type 0

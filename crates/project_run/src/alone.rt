@@ -30,8 +30,8 @@ pub fn run<S: Scans, D: Disk>(
 ) -> Result<Vec<u8>, Outcome>
     requires { IsShareCount share }
     ensures folder { MatchResult result
-        (λ text. IsRunReply (S.world scan.old) path.now (disk_state D.tells D.history D.faults disk.old) (disk_state D.tells D.history D.faults disk.new) (S.loads scan.old) (S.loads scan.new) Outcome.Done text.items)
-        (λ outcome. IsRunReply (S.world scan.old) path.now (disk_state D.tells D.history D.faults disk.old) (disk_state D.tells D.history D.faults disk.new) (S.loads scan.old) (S.loads scan.new) outcome (line_of outcome)) }
+        (λ text. IsRunReply (S.world scan.old) path.now share (disk_state D.tells D.history D.faults disk.old) (disk_state D.tells D.history D.faults disk.new) (S.loads scan.old) (S.loads scan.new) Outcome.Done text.items)
+        (λ outcome. IsRunReply (S.world scan.old) path.now share (disk_state D.tells D.history D.faults disk.old) (disk_state D.tells D.history D.faults disk.new) (S.loads scan.old) (S.loads scan.new) outcome (line_of outcome)) }
     ensures kind { MatchResult result (λ text. Unit {0}) IsOfRun }
 
     ensures failed { result ≡ Err Outcome.SourceFault → HasRisen (S.faults scan.old) (S.faults scan.new) }
@@ -65,8 +65,8 @@ fn run_job<S: Scans, D: Disk>(
     requires share { IsShareCount share }
     requires infos { AreInfosOf job.now.parts (S.world scan.old) job.now.infos }
     ensures ran { MatchResult result
-        (λ text. IsJobRun job.now (S.world scan.old) (disk_state D.tells D.history D.faults disk.old) (disk_state D.tells D.history D.faults disk.new) (S.loads scan.old) (S.loads scan.new) Outcome.Done text.items)
-        (λ outcome. IsJobRun job.now (S.world scan.old) (disk_state D.tells D.history D.faults disk.old) (disk_state D.tells D.history D.faults disk.new) (S.loads scan.old) (S.loads scan.new) outcome (line_of outcome)) }
+        (λ text. IsJobRun job.now (S.world scan.old) share (disk_state D.tells D.history D.faults disk.old) (disk_state D.tells D.history D.faults disk.new) (S.loads scan.old) (S.loads scan.new) Outcome.Done text.items)
+        (λ outcome. IsJobRun job.now (S.world scan.old) share (disk_state D.tells D.history D.faults disk.old) (disk_state D.tells D.history D.faults disk.new) (S.loads scan.old) (S.loads scan.new) outcome (line_of outcome)) }
     ensures kind { MatchResult result (λ text. Unit {0}) IsOfRun }
 
     ensures failed { result ≡ Err Outcome.SourceFault → HasRisen (S.faults scan.old) (S.faults scan.new) }
