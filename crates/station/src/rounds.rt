@@ -24,7 +24,6 @@ use single_run::RunEnd;
 use std::alloc::Global;
 use std::sync::ledger::Ledger;
 use std::sync::{Mutex, Wait};
-use std::thread::Threads;
 
 /// Whether a load failed.
 pub(crate) fn is_source_fault<N: Work>(made: &Result<Rendered<N>, RunEnd>) -> bool
@@ -127,7 +126,7 @@ fn round<
     C: Ledger,
     E: Ledger,
     F: Ledger,
-    R: Threads + Wait + Sync,
+    R: Wait,
 >(
     rt: &R,
     alloc: Global,
@@ -135,7 +134,6 @@ fn round<
     seat: &mut Seat<S, N, A, B, C, E, F>,
     station: &Mutex<Station<D, N, A, B, C, E>>,
     share: &Mutex<Share<N, F>>,
-    threads: u32,
     into: &mut Vec<u8>,
     room: FrameBuf,
 ) -> Option<FrameBuf>
@@ -169,7 +167,6 @@ fn round<
         i,
         into,
         room,
-        threads,
         share,
         &mut seat.units,
         &mut seat.loads,
@@ -193,7 +190,7 @@ fn round<
 /// A worker's part of a run: it claims, makes and finishes frames until none is left, or somebody stops. It loads and
 /// renders outside both locks, holds one of them at a time, and waits for them alone.
 ///
-/// A frame is rendered in so many threads. The worker stops where a load failed, where memory ran out, where the disk failed in a finish, and where a source file isn't
+/// It stops where a load failed, where memory ran out, where the disk failed in a finish, and where a source file isn't
 /// what it was when the job was planned. Each stop is counted in its marks.
 pub fn worker<
     S: Scans,
@@ -204,7 +201,7 @@ pub fn worker<
     C: Ledger,
     E: Ledger,
     F: Ledger,
-    R: Threads + Wait + Sync,
+    R: Wait,
 >(
     rt: &R,
     alloc: Global,
@@ -212,7 +209,6 @@ pub fn worker<
     seat: &mut Seat<S, N, A, B, C, E, F>,
     station: &Mutex<Station<D, N, A, B, C, E>>,
     share: &Mutex<Share<N, F>>,
-    threads: u32,
 )
     requires job { job.now ≡ N.job }
     requires files { Tells N.files (S.world seat.old.scan) }
@@ -236,9 +232,7 @@ pub fn worker<
     };
     let mut into = Vec::new(alloc);
     for _ in 0..job.timeline().count() {
-        match round(
-            rt, alloc, job, seat, station, share, threads, &mut into, room,
-        ) {
+        match round(rt, alloc, job, seat, station, share, &mut into, room) {
             Some(back) => room = back,
             None => return,
         }

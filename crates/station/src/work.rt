@@ -21,17 +21,6 @@ use std::sync::{Mutex, Wait};
 use std::thread;
 use std::thread::Threads;
 
-/// How many processors there are for each of so many workers, as far as the system tells: with as many workers as processors a
-/// frame is rendered on its worker's own thread.
-fn processors_each<R: Threads>(rt: &R, workers: usize) -> u32
-    requires some { 0 < workers }
-{
-    match thread::available_parallelism(rt) {
-        Ok(processors) => (processors.get() / workers).min(64) as u32,
-        Err(_) => 1,
-    }
-}
-
 /// Runs a worker in each seat.
 fn drive<
     S: Scans + Send,
@@ -66,13 +55,12 @@ fn drive<
     ensures few { (k : ℕ) (d : _) → k < length seats.old → (slice_index_or seats.new k d).loads ≤ 524288 }
     ensures same { (k : ℕ) (d : _) → k < length seats.old → S.same (slice_index_or seats.old k d).scan (slice_index_or seats.new k d).scan }
 {
-    let workers = seats.len();
-    let threads = processors_each(rt, workers);
+    let threads = seats.len();
     thread::for_each_mut(
         rt,
         seats,
-        workers,
-        &|_, seat| { worker(rt, alloc, job, seat, station, share, threads) },
+        threads,
+        &|_, seat| { worker(rt, alloc, job, seat, station, share) },
     );
 }
 
