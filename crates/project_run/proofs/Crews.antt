@@ -5,6 +5,7 @@ use Rattle.cf_base.specs.Count.{HasRisen}
 use Rattle.scan_source.specs.World.{World, file_at}
 use Rattle.conform_job.specs.Answers.{count_after}
 use Rattle.conform_job.specs.Job.{JobData}
+use Rattle.frame_share.specs.declared.step.ShareStep.{ShareStep}
 use Rattle.reel_disk.specs.Disk.{moment_of, view_of}
 use Rattle.reel_disk.specs.Runs.{Spares}
 use Rattle.reel_writer.specs.Reel.{frames_of, IsReelRun}
@@ -35,9 +36,9 @@ module _ {S : Type 0} (world : S → Option World) (faults loads : S → ℕ) (s
       let at = worked.failed is in
       (at.0, at.1, λ scan. (worked.each at.0 scan at.1).failed at.2)
 
-  pub crew_job_run : (job : JobData) (told : Option World) (workers count : ℕ) (old new : List S) (disk disk_after : DiskState) (how : RunEnd) (report : Report) (steps : Option (List Step)) → count ≡ length old
+  pub crew_job_run : (log : List ShareStep) (job : JobData) (told : Option World) (workers count : ℕ) (old new : List S) (disk disk_after : DiskState) (how : RunEnd) (report : Report) (steps : Option (List Step)) → count ≡ length old
       → report.frames ≡ frames_of job
-      → MatchOption steps (IsUnstepped job disk.tells disk.history disk_after.history how report) (λ all. WasCrewed job told disk.tells disk.history disk_after.history all how report)
+      → MatchOption steps (IsUnstepped job disk.tells disk.history disk_after.history how report log) (λ all. WasCrewed job told disk.tells disk.history disk_after.history all how report log)
       → (disk.tells ≡ true → IsReelRun job told disk.history disk_after.history)
       → (how ≡ ends.Done → disk.tells ≡ true → AreAllAcked job (moment_of disk_after.history))
       → (how ≡ ends.Done → disk.tells ≡ true → HasWhole job told disk.history disk_after.history)
@@ -46,12 +47,13 @@ module _ {S : Type 0} (world : S → Option World) (faults loads : S → ℕ) (s
       → (IsChange how → 1 ≤ report.loads)
       → (reached : Outcome) (output : List ℕ) → IsReplyOf job how report reached output
       → IsCrewJobRun world faults loads same job told workers old new disk disk_after reached output
-  crew_job_run job told workers count old new disk disk_after how report steps all frames ran run acked whole spares scans changed reached output reply = record {
+  crew_job_run log job told workers count old new disk disk_after how report steps all frames ran run acked whole spares scans changed reached output reply = record {
     how = how;
     report = report;
     reply = reply;
     frames = frames;
     steps = steps;
+    log = log;
     ran = ran;
     run = run;
     acked = acked;
