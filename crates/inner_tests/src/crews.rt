@@ -1,0 +1,96 @@
+//! Crews over the desk job, and scans that see one another.
+ghost use Rattle.std.specs.Prelude.{◌≡◌, ◌≤◌, vec_len};
+
+use crate::desk::{Desk, is_whole, report};
+use crate::together::CountedScans;
+use conform_job::Job;
+use reel_disk::{Disk, MemoryDisk};
+use station::{Crew, RunEnd, run_crew};
+use std::alloc::Global;
+use std::marker::Brand;
+use std::sync::Wait;
+use std::thread::Threads;
+
+/// A run of the job by so many workers over a disk that was never used; its name tells no files.
+fn crew_on<R: Threads + Wait + Sync>(
+    rt: &R,
+    alloc: Global,
+    job: &Job,
+    scans: Vec<CountedScans>,
+    workers: u16,
+    disk: MemoryDisk,
+) -> Crew<CountedScans, MemoryDisk>
+    requires scans { (1 ≤ vec_len scans) × (vec_len scans ≤ 16) }
+    requires workers { (1 ≤ workers) × (workers ≤ 16) }
+    requires moment { (⟦<MemoryDisk as Disk>⟧.history disk).now ≡ 0 }
+    requires faults { ⟦<MemoryDisk as Disk>⟧.faults disk ≡ 0 }
+{
+    let _ = job.count();
+    run_crew::<Brand, CountedScans, MemoryDisk, R>(rt, alloc, job, scans, workers, disk, 8)
+}
+
+/// The same over a fresh disk, by as many workers as there are scans, which are those of `CountedScans::of_desk`. None where
+/// no memory is left.
+fn crew<R: Threads + Wait + Sync>(
+    rt: &R,
+    alloc: Global,
+    job: &Job,
+    workers: u16,
+    failing: u64,
+    together: u64,
+) -> Option<Crew<CountedScans, MemoryDisk>> {
+    if workers < 1 || workers > 16 {
+        return None;
+    }
+    let scans = CountedScans::of_desk(alloc, workers, failing, together)?;
+    let disk = MemoryDisk::new(alloc).ok()?;
+    Some(crew_on(rt, alloc, job, scans, workers, disk))
+}
+
+/// With several workers the first loads of two scans wait for one another, so that a run on one thread would wait in vain.
+#[test]
+fn workers_load_beside_one_another_and_leave_the_reel(rt: HostRuntime) {
+    let alloc = rt.alloc();
+    let desk = Desk::new(alloc, &[]).expect(&rt, "a job");
+    for (workers, together) in [(1, 0), (2, 2), (3, 2), (8, 2), (16, 2)] {
+        let Crew {
+            end,
+            report: done,
+            history,
+            log: _,
+            scans,
+            mut disk,
+        } = crew(&rt, alloc, &desk.job, workers, 0, together).expect(&rt, "a crew");
+        assert!(rt;
+            end == RunEnd::Done && done == report(0, 24, 26),
+            "{workers} workers"
+        );
+        assert!(rt;
+            history.expect(&rt, "steps").steps().len() == 48,
+            "{workers} workers"
+        );
+        assert!(rt; scans.len() == usize::from(workers));
+        assert!(rt; is_whole(&mut disk), "{workers} workers");
+    }
+    drop(desk);
+}
+
+/// Nine loads are good for the first six frames at least: each of three workers holds one frame, and a frame has two at most.
+#[test]
+fn a_crew_acknowledges_as_it_goes(rt: HostRuntime) {
+    let alloc = rt.alloc();
+    let desk = Desk::new(alloc, &[]).expect(&rt, "a job");
+    let Crew {
+        end,
+        report: done,
+        history: _,
+        log: _,
+        scans: _,
+        mut disk,
+    } = crew(&rt, alloc, &desk.job, 3, 10, 0).expect(&rt, "a crew");
+    assert!(rt; end == RunEnd::SourceFault);
+    assert!(rt; done.rendered >= 6);
+    let (_, rest) = desk.run_without_files(&mut disk);
+    assert!(rt; rest.kept == done.rendered);
+    drop(desk);
+}

@@ -1,0 +1,29 @@
+//! Tests of what the built program can't show: scans, sinks and disks in memory that fail at chosen calls, disks that note
+//! their calls, crews whose scans wait for one another, and public calls that no command makes. What the program shows is
+//! tested over real files, by `tests/program`.
+#![tactic(auto)]
+
+#[cfg(test)]
+mod boards;
+#[cfg(test)]
+mod commands;
+#[cfg(test)]
+mod crews;
+#[cfg(test)]
+mod desk;
+#[cfg(test)]
+mod disks;
+#[cfg(test)]
+mod folders;
+#[cfg(test)]
+mod ledgers;
+#[cfg(test)]
+mod noted;
+#[cfg(test)]
+mod runs;
+#[cfg(test)]
+mod scans;
+#[cfg(test)]
+mod together;
+#[cfg(test)]
+mod values;

@@ -1,0 +1,151 @@
+//! Runs of the desk job on one thread: how often files are loaded, the device calls of a frame, and a stop at each of them.
+use crate::desk::{Desk, is_whole, report};
+use crate::noted::{Call, Noted};
+use cf_base::{FileId, Key};
+use dpx_header::FrameInfo;
+use reel_disk::{Disk, Length, MemoryDisk};
+use source_reels::Seen;
+use station::RunEnd;
+
+/// The length of a frame's file of the desk job.
+const FRAME: usize = 2064;
+
+const FIRST: FileId = FileId::Frame {
+    reel: 1,
+    frame: 86_400,
+};
+
+const SECOND: FileId = FileId::Frame {
+    reel: 1,
+    frame: 86_401,
+};
+
+#[test]
+fn a_job_has_the_bands_and_the_reels_of_its_project(rt: HostRuntime) {
+    let desk = Desk::new(rt.alloc(), &[]).expect(&rt, "a job");
+    assert!(rt; desk.job.bands() == 4 && desk.job.reels().entries().len() == 2);
+    drop(desk);
+}
+
+/// After the six calls of the opening each frame has four, those of its file before those of its gate. A second run loads
+/// nothing.
+#[test]
+fn a_frames_file_is_kept_before_its_gate(rt: HostRuntime) {
+    let alloc = rt.alloc();
+    let mut desk = Desk::new(alloc, &[]).expect(&rt, "a job");
+    let mut noted = Noted {
+        disk: MemoryDisk::new(alloc).ok().expect(&rt, "a disk"),
+        calls: Vec::new(alloc),
+    };
+    assert!(rt; desk.run(&mut noted) == (RunEnd::Done, report(0, 24, 26)));
+    assert!(rt;
+        noted.calls.get(6..14)
+            == Some([
+                Call::WriteWhole(FIRST, FRAME),
+                Call::Sync(FIRST),
+                Call::WriteAt(FileId::Body, 64, 1),
+                Call::Sync(FileId::Body),
+                Call::WriteWhole(SECOND, FRAME),
+                Call::Sync(SECOND),
+                Call::WriteAt(FileId::Body, 65, 1),
+                Call::Sync(FileId::Body),
+            ]
+            .as_slice())
+    );
+    assert!(rt; noted.calls.len() == 6 + 4 * 24);
+    assert!(rt; desk.run(&mut noted) == (RunEnd::Done, report(24, 0, 0)));
+    drop(desk);
+}
+
+/// Whether a crash by this pick leaves the first frame's file so, and a run over what it leaves keeps so many frames and ends
+/// with the whole reel.
+fn goes_on(desk: &mut Desk, disk: &MemoryDisk, pick: u8, kept: u32, length: Length) -> bool {
+    match disk.crash(pick) {
+        Ok(crashed) => {
+            let mut crashed = crashed;
+            let found = crashed.length(FIRST);
+            let (end, report) = desk.run(&mut crashed);
+            found == length && end == RunEnd::Done && report.kept == kept && is_whole(&mut crashed)
+        }
+        Err(_) => false,
+    }
+}
+
+/// Calls 7 to 10 are those of the first frame. A stop before the gate's write leaves the frame without an acknowledgement;
+/// one between that and its sync leaves it either way, with the file there in both.
+#[test]
+fn a_stop_leaves_no_frame_half_acknowledged(rt: HostRuntime) {
+    let alloc = rt.alloc();
+    let mut desk = Desk::new(alloc, &[]).expect(&rt, "a job");
+    let whole = Length::There(2064);
+    for (stop, kept, lengths) in [
+        (7, [0, 0, 0], [Length::Absent; 3]),
+        (8, [0, 0, 0], [whole, Length::Absent, Length::There(1032)]),
+        (9, [0, 0, 0], [whole; 3]),
+        (10, [1, 0, 0], [whole; 3]),
+        (11, [1, 1, 1], [whole; 3]),
+    ] {
+        let mut disk = MemoryDisk::stopped_at(alloc, stop)
+            .ok()
+            .expect(&rt, "a disk");
+        assert!(rt;
+            desk.run(&mut disk).0 == RunEnd::DiskFault,
+            "stop at {stop}"
+        );
+        assert!(rt;
+            goes_on(&mut desk, &disk, 0, kept[0], lengths[0]),
+            "stop at {stop}"
+        );
+        assert!(rt;
+            goes_on(&mut desk, &disk, 1, kept[1], lengths[1]),
+            "stop at {stop}"
+        );
+        assert!(rt;
+            goes_on(&mut desk, &disk, 2, kept[2], lengths[2]),
+            "stop at {stop}"
+        );
+    }
+    drop(desk);
+}
+
+/// Frame 3 has the calls 19 to 22: it is acknowledged once its gate is written, or not.
+#[test]
+fn a_run_that_was_stopped_loads_what_is_left(rt: HostRuntime) {
+    let alloc = rt.alloc();
+    let mut desk = Desk::new(alloc, &[]).expect(&rt, "a job");
+    let mut disk = MemoryDisk::stopped_at(alloc, 22).ok().expect(&rt, "a disk");
+    assert!(rt; desk.run(&mut disk) == (RunEnd::DiskFault, report(0, 3, 4)));
+    for (pick, kept, loads) in [(0, 4, 22), (1, 3, 23)] {
+        let mut crashed = disk.crash(pick).ok().expect(&rt, "a disk");
+        let want = (RunEnd::Done, report(kept, 24 - kept, loads));
+        assert!(rt; desk.run(&mut crashed) == want, "crash {pick}");
+        assert!(rt; is_whole(&mut crashed), "crash {pick}");
+    }
+    drop(desk);
+}
+
+/// The plan makes 28 calls on the scans, so the load of the sixth frame's file is call 34.
+#[test]
+fn a_run_ends_where_a_source_frame_fails_or_changed(rt: HostRuntime) {
+    let alloc = rt.alloc();
+    let mut desk = Desk::new(alloc, &[34]).expect(&rt, "a job");
+    let mut disk = MemoryDisk::new(alloc).ok().expect(&rt, "a disk");
+    assert!(rt; desk.run(&mut disk) == (RunEnd::SourceFault, report(0, 5, 6)));
+    let changed = RunEnd::Changed {
+        key: Key {
+            reel: 0,
+            source: 86405,
+        },
+        was: FrameInfo {
+            little: false,
+            width: 2,
+            height: 2,
+            start: 2048,
+            pad: 0,
+        },
+        now: Seen::Absent,
+    };
+    assert!(rt; desk.run_without_files(&mut disk) == (changed, report(5, 0, 1)));
+    assert!(rt; desk.run(&mut disk) == (RunEnd::Done, report(5, 19, 21)));
+    drop(desk);
+}
