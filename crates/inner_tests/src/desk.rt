@@ -1,4 +1,6 @@
 //! The desk job in memory: a project of two reels, its list, and its 96 scans of 2 by 2 pixels.
+ghost use Rattle.std.specs.Prelude.{◌≤◌};
+
 use cf_base::{FileId, PathText, last_digits};
 use conform_job::Job;
 use project_job::planned;
@@ -89,13 +91,18 @@ fn put_reel(
 
 /// The desk job's files. The calls with these numbers fail.
 pub fn desk_scans(alloc: Global, fails: &[u64]) -> Option<MemoryScans> {
+    scans_of(alloc, LIST, fails)
+}
+
+/// The desk job's files with this list.
+fn scans_of(alloc: Global, list: &[u8], fails: &[u64]) -> Option<MemoryScans> {
     let mut files = Vec::new(alloc);
     put_file(
         &mut files,
         b"desk.toml",
         Vec::from_slice(alloc, PROJECT).ok()?,
     )?;
-    put_file(&mut files, b"desk.edl", Vec::from_slice(alloc, LIST).ok()?)?;
+    put_file(&mut files, b"desk.edl", Vec::from_slice(alloc, list).ok()?)?;
     put_reel(alloc, &mut files, b"a001/a001.", 86_400, 100)?;
     put_reel(alloc, &mut files, b"b002/b002.", 172_800, 200)?;
     Some(MemoryScans::new(files, fails.to_vec(alloc).ok()?))
@@ -137,7 +144,12 @@ pub struct Desk {
 impl Desk {
     /// The plan makes 28 calls on the scans: it loads two texts and asks for 26 heads. The calls with these numbers fail.
     pub fn new(alloc: Global, fails: &[u64]) -> Option<Desk> {
-        let mut scans = desk_scans(alloc, fails)?;
+        Desk::with_list(alloc, LIST, fails)
+    }
+
+    /// The same project with this list.
+    pub fn with_list(alloc: Global, list: &[u8], fails: &[u64]) -> Option<Desk> {
+        let mut scans = scans_of(alloc, list, fails)?;
         let path = PathText::of(b"desk.toml")?;
         let job = planned(alloc, &path, &mut scans).ok()?;
         Some(Desk { alloc, scans, job })
@@ -145,13 +157,22 @@ impl Desk {
 
     /// A run of the job.
     pub fn run<D: Disk>(&mut self, disk: &mut D) -> (RunEnd, Report) {
-        run(self.alloc, &self.job, &mut self.scans, disk)
+        run(self.alloc, &self.job, &mut self.scans, disk, 8)
+    }
+
+    /// How many files a run of the job loads over an empty disk, where it shares so many source frames.
+    pub fn loads(&mut self, share_cap: u32) -> Option<u64>
+        requires { (1 ≤ share_cap) × (share_cap ≤ 16) }
+    {
+        let mut disk = MemoryDisk::new(self.alloc).ok()?;
+        let (end, report) = run(self.alloc, &self.job, &mut self.scans, &mut disk, share_cap);
+        (end == RunEnd::Done).then_some(report.loads)
     }
 
     /// A run of the job over no file at all.
     pub fn run_without_files<D: Disk>(&self, disk: &mut D) -> (RunEnd, Report) {
         let mut none = MemoryScans::new(Vec::new(self.alloc), Vec::new(self.alloc));
-        run(self.alloc, &self.job, &mut none, disk)
+        run(self.alloc, &self.job, &mut none, disk, 8)
     }
 }
 
@@ -161,9 +182,12 @@ fn run<D: Disk>(
     job: &Job,
     scans: &mut MemoryScans,
     disk: &mut D,
-) -> (RunEnd, Report) {
+    share_cap: u32,
+) -> (RunEnd, Report)
+    requires { (1 ≤ share_cap) × (share_cap ≤ 16) }
+{
     let _ = job.count();
-    let (end, report, _) = run_alone::<Brand, MemoryScans, D>(alloc, job, scans, disk, 8);
+    let (end, report, _) = run_alone::<Brand, MemoryScans, D>(alloc, job, scans, disk, share_cap);
     (end, report)
 }
 

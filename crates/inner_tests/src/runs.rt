@@ -149,3 +149,29 @@ fn a_run_ends_where_a_source_frame_fails_or_changed(rt: HostRuntime) {
     assert!(rt; desk.run(&mut disk) == (RunEnd::Done, report(5, 19, 21)));
     drop(desk);
 }
+
+/// Ten record frames of one source frame.
+const STILL: &[u8] = b"001 A001 V C 01:00:00:00 01:00:00:10 01:00:00:00 01:00:00:10
+M2 A001 000.0 01:00:00:00
+";
+
+/// One source frame of each reel: each alone, and then a dissolve of two frames from the second into the first.
+const TWO: &[u8] = b"001 A001 V C 01:00:00:00 01:00:00:01 01:00:00:00 01:00:00:01
+M2 A001 000.0 01:00:00:00
+002 B002 V C 02:00:00:00 02:00:00:01 01:00:00:01 01:00:00:02
+M2 B002 000.0 02:00:00:00
+003 A001 V D 002 01:00:00:00 01:00:00:02 01:00:00:02 01:00:00:04
+M2 A001 000.0 01:00:00:00
+";
+
+#[test]
+fn a_source_frame_that_is_shared_is_not_loaded_again(rt: HostRuntime) {
+    let alloc = rt.alloc();
+    let mut still = Desk::with_list(alloc, STILL, &[]).expect(&rt, "a job");
+    assert!(rt; still.loads(8) == Some(1));
+    drop(still);
+    let mut two = Desk::with_list(alloc, TWO, &[]).expect(&rt, "a job");
+    assert!(rt; two.loads(2) == Some(2));
+    assert!(rt; two.loads(1) == Some(5));
+    drop(two);
+}
