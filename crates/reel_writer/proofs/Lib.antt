@@ -1,3 +1,5 @@
+mod Checking
 pub mod Finishing
 pub mod Keeping
 pub mod ReelLaws
+mod Sizes

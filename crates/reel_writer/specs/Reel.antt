@@ -5,16 +5,16 @@
 --     IsReelRun job told old new      what each call on the reel keeps, and so does each run of them
 use Rattle.std.specs.Prelude.{◌≡◌, ◌≢◌, ◌⊎◌, ℕ, ◌<◌, List, Option, IfSome}
 use Rattle.cf_base.specs.declared.file.FileId.{FileId}
-use Rattle.cf_base.specs.declared.file.FileId.TheVariants.{Body}
+use Rattle.cf_base.specs.declared.file.FileId.TheVariants.{Body2}
 use Rattle.scan_source.specs.World.{World, file_at}
 use Rattle.record_timeline.specs.Accepted.{frame_count}
 use Rattle.conform_job.specs.Job.{JobData, file_of}
 use Rattle.conform_job.specs.Refusals as sources
-use Rattle.frame_render.specs.Frame.{frame_file}
-use Rattle.reel_disk.specs.Disk.{Files, History, moment_of}
-use Rattle.reel_disk.specs.Runs.{Extends, LeavesOnly, Surely, NeverForgets}
+use Rattle.frame_render.specs.Frame.{frame_file, frame_size}
+use Rattle.reel_disk.specs.Disk.{Files, History, moment_of, view_of}
+use Rattle.reel_disk.specs.Runs.{Extends, LeavesOnly, Surely, NeverForgets, Spares}
 use Rattle.resume_ledger.specs.Ledger.{Acks}
-use Rattle.resume_ledger.specs.Sound.{Reel, IsSoundAndFit}
+use Rattle.resume_ledger.specs.Sound.{Reel, IsReel, IsSoundAndFit, StaysSound, KeepsAcks, AddsAtMost, HasItsFiles}
 
 abbrev pub frames_of : JobData → ℕ
 frames_of job = frame_count job.parts.timeline.events
@@ -32,12 +32,20 @@ abbrev pub IsSoundReel : JobData → World → Files → Type 0
 IsSoundReel job world files = IsSoundAndFit job.parts.digest (frames_of job)
     (reel_of job (file_at world)) files
 
--- Through a run of calls no acknowledgement is lost. Where the source files are told, and the run
--- was begun on files that are sound and fit, whatever a crash leaves at any moment is sound and
--- fit.
+-- Each frame that version 1 acknowledges has a file of a frame's length. Sound files have.
+abbrev pub HasFrameFiles : JobData → Files → Type 0
+HasFrameFiles job = HasItsFiles job.parts.digest (frames_of job) (file_of job) (frame_size job)
+
+-- No acknowledgement is lost.
+abbrev pub KeepsReel : JobData → History → History → Type 0
+KeepsReel job old new = (k : ℕ) → NeverForgets old new (HasAcked job k)
+
+-- Through a run of calls no acknowledgement is lost, where each frame that version 1 acknowledged at
+-- the start had a file of a frame's length. Where the source files are told, and the run was begun
+-- on files that are sound and fit, whatever a crash leaves at any moment is sound and fit.
 pub record IsReelRun (job : JobData) (told : Option World) (old new : History) : Type 0 where
   pub extends : Extends old new
-  pub keeps : (k : ℕ) → NeverForgets old new (HasAcked job k)
+  pub keeps : HasFrameFiles job (view_of old) → KeepsReel job old new
   pub sound : IfSome told (λ world. Surely (moment_of old) (IsSoundReel job world)
       → LeavesOnly old new (IsSoundReel job world))
 
@@ -52,4 +60,15 @@ pub record HasFrame (count : ℕ) (reel : Reel) (i : ℕ) (file : FileId)
 
 -- what a finish of this file may write
 abbrev pub IsWrittenFile : FileId → FileId → Type 0
-IsWrittenFile file q = (q ≡ file) ⊎ (q ≡ Body)
+IsWrittenFile file q = (q ≡ file) ⊎ (q ≡ Body2)
+
+-- What a part of the finish of frame i keeps at each moment: no acknowledgement is lost, the reel
+-- stays sound and fit, and all other frames and files stay as they were.
+pub record IsFinishing (digest : List ℕ) (count i : ℕ) (file : FileId) (bytes : List ℕ)
+    (old new : History) : Type 0 where
+  pub past : Extends old new
+  pub keeps : KeepsAcks digest count old new
+  pub sound : (reel : Reel) → IsReel count reel → HasFrame count reel i file bytes
+      → StaysSound digest count reel old new
+  pub others : AddsAtMost i digest count old new
+  pub spares : Spares old new (IsWrittenFile file)

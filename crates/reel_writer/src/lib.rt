@@ -1,7 +1,12 @@
-//! The reel of a job being written: a frame's file first, then its gate in the ledger.
+//! The reel of a job being written: a frame's file first, then its SHA-256 and its gate in the ledger.
 #![tactic(auto)]
 
+mod damage;
+mod files;
+mod hashed;
 mod reel;
 mod store;
 
+pub use damage::{CheckFault, check};
+pub use hashed::Hashed;
 pub use reel::Reel;

@@ -1,20 +1,23 @@
 //! The reel of a job.
-ghost use Rattle.std.specs.Prelude.{◌≡◌, ◌≢◌, ◌+◌, ◌<◌, ◌++◌, ◌∷◌, [], true, false, Some, Err, length, slice_index_or, vec_len, vec_capacity, OnOk, OnErr, IfOk, IsErr, IsErrOf};
+ghost use Rattle.std.specs.Prelude.{◌≡◌, ◌≢◌, ℕ, ◌+◌, ◌<◌, ◌++◌, ◌∷◌, [], true, false, Some, Err, length, slice_index_or, vec_len, vec_capacity, OnOk, OnErr, IfOk, IsErr, IsErrOf};
 ghost use Rattle.cf_base.specs.Count.{HasCause};
 ghost use Rattle.conform_job.specs.Job.{file_of};
-ghost use Rattle.reel_disk.specs.Disk.{moment_of, view_of};
+ghost use Rattle.reel_disk.specs.Disk.{Files, moment_of, view_of};
 ghost use Rattle.reel_disk.specs.Runs.{Narrows, Surely, Spares};
-ghost use Rattle.resume_ledger.specs.Ledger.{IsLedgerFile, IsSealed};
-ghost use Rattle.resume_ledger.specs.Sound.{AddsNone, AddsAtMost};
+ghost use Rattle.frame_render.specs.Frame.{frame_size};
+ghost use Rattle.scan_source.specs.World.{World};
+ghost use Rattle.resume_ledger.specs.Ledger.{IsInForce, IsLedgerFile, IsWrittenLedgerFile};
+ghost use Rattle.resume_ledger.specs.Sound.{AddsNone, AddsAtMost, WritesOnly};
 ghost use Rattle.resume_ledger.specs.Attach.{HasAttached, IsAnswerTo};
-ghost use Rattle.reel_writer.specs.Reel.{frames_of, HasAcked, IsReelRun, IsWrittenFile};
+ghost use Rattle.reel_writer.specs.Reel.{frames_of, HasAcked, HasFrameFiles, IsSoundReel, IsReelRun, KeepsReel, IsWrittenFile};
 ghost use Rattle.reel_writer.specs.View.{ReelView, IsReelOf, IsOpening, after_finish, after_fault, ledger_in, disk_in};
 
+use crate::files::{attach_for, frame_len};
+use crate::hashed::Hashed;
 use crate::store::store;
 use conform_job::{Job, Work};
-use frame_render::Rendered;
 use reel_disk::{Disk, DiskFault};
-use resume_ledger::{Ledger, OpenFault};
+use resume_ledger::{Ledger, OpenFault, Version};
 use std::alloc::Global;
 use std::marker::{Model, PhantomData};
 
@@ -80,21 +83,26 @@ impl<D: Disk, N: Work> Reel<D, N> {
 
         // By the view at the start: which answer comes, and what the disk holds then.
         ensures answer { D.tells ≡ true
-            → HasAttached N.job.parts.digest (frames_of N.job) (D.history disk)
-            (D.history (disk_in result)) (ledger_in result) }
+            → HasAttached N.job.parts.digest (frames_of N.job) (file_of N.job) (frame_size N.job)
+            (D.history disk) (D.history (disk_in result)) (ledger_in result) }
 
         // A crash at any moment of the call leaves a folder whose acknowledged frames are the
-        // reel's, no acknowledgement is lost, and none is made.
+        // reel's. No acknowledgement is lost, where each frame that version 1 acknowledges has a
+        // file of a frame's length, as sound files have; and none is made.
         ensures run { D.tells ≡ true
             → IsReelRun N.job N.files (D.history disk) (D.history (disk_in result)) }
+        ensures sound_has { (world : World) (files : Files) → IsSoundReel N.job world files
+            → HasFrameFiles N.job files }
         ensures adds_none { D.tells ≡ true
             → AddsNone N.job.parts.digest (frames_of N.job) (D.history disk)
             (D.history (disk_in result)) }
 
-        // In a sealed folder nothing is written, whatever the answer is, and in no folder another
-        // file.
-        ensures only_reads { D.tells ≡ true → IsSealed (view_of (D.history disk))
+        // In a folder of version 2 nothing is written, whatever the answer is, in any other no file
+        // but those of version 2, and in no folder is a file changed that isn't the ledger's.
+        ensures only_reads { D.tells ≡ true → IsInForce Version.Two (view_of (D.history disk))
             → Narrows (D.history disk) (D.history (disk_in result)) }
+        ensures writes { D.tells ≡ true
+            → WritesOnly (D.history disk) (D.history (disk_in result)) IsWrittenLedgerFile }
         ensures spares { D.tells ≡ true
             → Spares (D.history disk) (D.history (disk_in result)) IsLedgerFile }
 
@@ -108,12 +116,12 @@ impl<D: Disk, N: Work> Reel<D, N> {
         ensures steady { ledger_in result ≢ Err OpenFault.DiskFault
             → D.faults (disk_in result) ≡ D.faults disk }
     {
-        let count = job.timeline().count();
-        let Ok(acks) = Vec::with_capacity(alloc, count as usize) else {
+        let size = frame_len(job);
+        let Ok(acks) = Vec::with_capacity(alloc, job.count() as usize) else {
             return Err((OpenFault::NoMemory, disk));
         };
         let mut disk = disk;
-        match Ledger::attach(alloc, &mut disk, job.digest(), count) {
+        match attach_for(alloc, &mut disk, job, size) {
             Ok(ledger) => {
                 let kept = ledger.acked();
                 Ok(Reel {
@@ -130,18 +138,20 @@ impl<D: Disk, N: Work> Reel<D, N> {
     }
 
     /// Writes the file of a frame and acknowledges it: a write of the whole file, a sync of it, a
-    /// write of the frame's gate and a sync of the ledger's body. Takes no memory. At `Ok` each
-    /// crash from now on finds the frame acknowledged, and its file as it was rendered. `DiskFault`
-    /// comes only where the disk's count of faults rose; the reel is closed then, and a crash may
-    /// find the frame acknowledged or not.
-    pub fn finish(&mut self, frame: &Rendered<N>) -> Result<(), DiskFault>
+    /// write of the frame's record, its SHA-256, a sync of the ledger's body, a write of the frame's
+    /// gate and a sync of the body. Takes no memory. At `Ok` each crash from now on finds the frame
+    /// acknowledged, and its file as it was rendered. `DiskFault` comes only where the disk's count
+    /// of faults rose; the reel is closed then, and a crash may find the frame acknowledged or not.
+    pub fn finish(&mut self, frame: &Hashed<N>) -> Result<(), DiskFault>
         requires is_open { self.old.ledger.closed ≡ false }
         requires fresh { slice_index_or self.old.ledger.gates frame.now.index false ≡ false }
 
         // A crash at any moment of the call leaves a folder whose acknowledged frames are the
-        // reel's, and no acknowledgement is lost.
+        // reel's, and no acknowledgement is lost, whatever the folder was.
         ensures run { D.tells ≡ true
             → IsReelRun N.job N.files (D.history self.old.disk) (D.history self.new.disk) }
+        ensures none_lost { D.tells ≡ true
+            → KeepsReel N.job (D.history self.old.disk) (D.history self.new.disk) }
 
         // All other frames stay as they were, also after a fault, and all other files.
         ensures others { D.tells ≡ true
@@ -164,6 +174,8 @@ impl<D: Disk, N: Work> Reel<D, N> {
         ensures cause { HasCause (D.faults self.old.disk) (D.faults self.new.disk) (IsErr result) }
         ensures steady { OnOk result (D.faults self.new.disk ≡ D.faults self.old.disk) }
     {
+        let hash = frame.hash();
+        let frame = frame.frame();
         let i = frame.index();
         match store(
             &mut self.disk,
@@ -171,6 +183,7 @@ impl<D: Disk, N: Work> Reel<D, N> {
             i,
             frame.file(),
             frame.bytes(),
+            hash,
         ) {
             Ok(()) => {
                 push_within(&mut self.acks, i);

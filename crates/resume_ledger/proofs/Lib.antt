@@ -1,9 +1,15 @@
-pub mod Acking
 pub mod Attaching
+pub mod Beginning
 pub mod Bodies
-pub mod Looking
 pub mod LawProofs
-pub mod Making
-pub mod Peeking
-pub mod RunLaws
+pub mod Looking
+pub mod Noting
+pub mod Parts
+pub mod Pieces
+pub mod Reading
+pub mod Recording
+pub mod Records
 mod Rows
+pub mod Taking
+pub mod Versions
+pub mod Writing

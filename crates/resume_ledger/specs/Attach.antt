@@ -1,15 +1,17 @@
 -- What an attach answers.
 --     HasAttached       over a disk that tells
 --     IsAnswerTo        over any disk
-use Rattle.std.specs.Prelude.{◌≡◌, ◌≢◌, ℕ, ◌+◌, ◌<◌, false, List, length, replicate, Option, Some, None, Result, Ok, Err, Vec}
-use Rattle.std.specs.declared.alloc.Global.{Global}
+use Rattle.std.specs.Prelude.{◌≡◌, ◌≢◌, ◌↔◌, ℕ, true, false, List, length, slice_index_or, Option, Some, None, Result, Ok, Err}
 use Rattle.cf_base.specs.declared.file.FileId.{FileId}
-use Rattle.cf_base.specs.declared.file.FileId.TheVariants.{Body}
-use Rattle.reel_disk.specs.Disk.{History, moment_of, view_of, loose_of, IsFirm}
-use Rattle.reel_disk.specs.Runs.{Extends, LeavesOnly, Narrows, Spares}
-use Rattle.resume_ledger.specs.Body.{IsWellFormed, IsOwn, closed_body, digest_of, gates_of}
-use Rattle.resume_ledger.specs.Ledger.{LedgerState, IsSealed, IsFit, IsLedgerOf, IsLedgerFile, Agrees, Acks}
-use Rattle.resume_ledger.specs.Sound.{Reel, IsReel, IsRun}
+use Rattle.cf_base.specs.declared.file.FileId.TheVariants.{Body2}
+use Rattle.sha2.specs.Sha256.{sha256}
+use Rattle.reel_disk.specs.Disk.{Files, History, moment_of, view_of}
+use Rattle.reel_disk.specs.Runs.{Narrows}
+use Rattle.resume_ledger.specs.declared.layout.Version.{Version}
+use Rattle.resume_ledger.specs.declared.layout.Version.TheVariants.{One, Two}
+use Rattle.resume_ledger.specs.Body.{Layout, layout_of, IsWellFormed, closed_body, digest_of}
+use Rattle.resume_ledger.specs.Ledger.{LedgerState, IsInForce, IsSealed, IsFit, HasRecord, Agrees, Acks}
+use Rattle.resume_ledger.specs.Sound.{HasSize}
 use Rattle.resume_ledger.specs.declared.attach.OpenFault.{OpenFault}
 use Rattle.resume_ledger.specs.declared.attach.OpenFault.TheVariants.{OtherJob, BadLedger, DiskFault, NoMemory}
 
@@ -18,28 +20,43 @@ pub record IsUnwritten (old new : History) : Type 0 where
   pub narrows : Narrows old new
   pub view : view_of new ≡ view_of old
 
--- The folder was unsealed or this job's. It is sealed, the ledger is what it acknowledged, and a crash keeps it so. An
--- unsealed one has the closed body now, and a sealed one is as it was.
-pub record IsOpened (digest : List ℕ) (count : ℕ) (old new : History) (ledger : LedgerState) : Type 0 where
-  pub fit : IsFit digest count (view_of old)
-  pub acks : IsLedgerOf digest count (view_of old) ledger
+-- An open ledger of the job, whatever it acknowledges.
+pub record IsOpenFor (digest : List ℕ) (count : ℕ) (ledger : LedgerState) : Type 0 where
+  pub digest_is : ledger.digest ≡ digest
+  pub size : length ledger.gates ≡ count
+  pub is_open : ledger.closed ≡ false
+
+-- An opening keeps the frame: the files acknowledge it, and where version 1 counts its file has the length of a frame's.
+abbrev pub IsKept : List ℕ → ℕ → (ℕ → FileId) → ℕ → Files → ℕ → Type 0
+IsKept digest count name size view i = Acks digest count i view × (IsInForce One view → HasSize size (view (name i)))
+
+-- The folder was unsealed or this job's. It is sealed by version 2, the ledger has the frames that are kept, and a crash keeps it
+-- so. An unsealed one has the closed body now, one of version 1 the SHA-256 of each kept frame's file as it was read, and
+-- one of version 2 is as it was.
+pub record IsOpened (digest : List ℕ) (count : ℕ) (name : ℕ → FileId) (size : ℕ) (before : Files) (new : History) (ledger : LedgerState) : Type 0 where
+  pub fit : IsFit digest count before
+  pub is : IsOpenFor digest count ledger
+  pub gates : (i : ℕ) → (slice_index_or ledger.gates i false ≡ true) ↔ IsKept digest count name size before i
   pub agrees : Agrees (moment_of new) ledger
-  pub made : (IsSealed (view_of old) → ⊥) → view_of new Body ≡ Some (closed_body digest count)
-  pub found : IsSealed (view_of old) → view_of new ≡ view_of old
+  pub made : (IsSealed before → ⊥) → view_of new Body2 ≡ Some (closed_body digest count)
+  pub taken : IsInForce One before → (i : ℕ) → slice_index_or ledger.gates i false ≡ true
+      → (bytes : List ℕ) → before (name i) ≡ Some bytes → HasRecord i (sha256 bytes) (view_of new)
+  pub found : IsInForce Two before → view_of new ≡ before
 
 -- the body is another job's
-pub record IsOthers (digest kept wanted body : List ℕ) : Type 0 where
-  pub well : IsWellFormed body
+pub record IsOthers (layout : Layout) (digest kept wanted body : List ℕ) : Type 0 where
+  pub well : IsWellFormed layout body
   pub kept_is : kept ≡ digest_of body
   pub wanted_is : wanted ≡ digest
   pub differ : digest_of body ≢ digest
 
--- 20.1: the folder is another job's.
+-- 20.1: the body in force is another job's.
 pub record IsOtherJob (digest kept wanted : List ℕ) (old new : History) : Type 0 where
-  pub sealed : IsSealed (view_of old)
+  pub version : Version
+  pub in_force : IsInForce version (view_of old)
   pub body : List ℕ
-  pub there : view_of old Body ≡ Some body
-  pub others : IsOthers digest kept wanted body
+  pub there : view_of old (layout_of version).body ≡ Some body
+  pub others : IsOthers (layout_of version) digest kept wanted body
   pub unwritten : IsUnwritten old new
 
 -- the length of a file, 0 where it is absent
@@ -48,92 +65,37 @@ size_of None = 0
 size_of (Some bytes) = length bytes
 
 -- no well-formed body, or one of this job with another number of frames
-pub record IsBad (digest : List ℕ) (count len : ℕ) (content : Option (List ℕ)) : Type 0 where
+pub record IsBad (layout : Layout) (digest : List ℕ) (count len : ℕ) (content : Option (List ℕ)) : Type 0 where
   pub size : len ≡ size_of content
-  pub bad : (body : List ℕ) → content ≡ Some body → IsWellFormed body → (digest_of body ≡ digest) × (length body ≢ 64 + count)
+  pub bad : (body : List ℕ) → content ≡ Some body → IsWellFormed layout body → (digest_of body ≡ digest) × (length body ≢ layout.size count)
 
--- 20.2: the folder has a bad ledger.
+-- 20.2: the body in force is bad.
 pub record IsBadLedger (digest : List ℕ) (count len : ℕ) (old new : History) : Type 0 where
-  pub sealed : IsSealed (view_of old)
-  pub bad : IsBad digest count len (view_of old Body)
+  pub version : Version
+  pub in_force : IsInForce version (view_of old)
+  pub bad : IsBad (layout_of version) digest count len (view_of old (layout_of version).body)
   pub unwritten : IsUnwritten old new
 
+-- A refusal, by what the disk held. Nothing is written but where the disk failed.
+abbrev pub IsRefused : List ℕ → ℕ → History → History → OpenFault → Type 0
+IsRefused digest count old new (OtherJob kept wanted) = IsOtherJob digest kept wanted old new
+IsRefused digest count old new (BadLedger len) = IsBadLedger digest count len old new
+IsRefused digest count old new DiskFault = Unit {0}
+IsRefused digest count old new NoMemory = IsUnwritten old new
+
 -- The answer of an attach, by what the disk held and holds. Want of memory comes before the first write.
-abbrev pub HasAttached : List ℕ → ℕ → History → History → Result LedgerState OpenFault → Type 0
-HasAttached digest count old new (Ok ledger) = IsOpened digest count old new ledger
-HasAttached digest count old new (Err (OtherJob kept wanted)) = IsOtherJob digest kept wanted old new
-HasAttached digest count old new (Err (BadLedger len)) = IsBadLedger digest count len old new
-HasAttached digest count old new (Err DiskFault) = Unit {0}
-HasAttached digest count old new (Err NoMemory) = IsUnwritten old new
+abbrev pub HasAttached : List ℕ → ℕ → (ℕ → FileId) → ℕ → History → History → Result LedgerState OpenFault → Type 0
+HasAttached digest count name size old new (Ok ledger) = IsOpened digest count name size (view_of old) new ledger
+HasAttached digest count name size old new (Err fault) = IsRefused digest count old new fault
 
--- An open ledger of the job, whatever it acknowledges.
-pub record IsOpenFor (digest : List ℕ) (count : ℕ) (ledger : LedgerState) : Type 0 where
-  pub digest_is : ledger.digest ≡ digest
-  pub size : length ledger.gates ≡ count
-  pub is_open : ledger.closed ≡ false
+-- What a refusal says of the job, also over a disk that does not tell.
+abbrev pub IsRefusalFor : List ℕ → OpenFault → Type 0
+IsRefusalFor digest (OtherJob kept wanted) = (kept ≢ wanted) × (wanted ≡ digest)
+IsRefusalFor digest (BadLedger len) = Unit {0}
+IsRefusalFor digest DiskFault = Unit {0}
+IsRefusalFor digest NoMemory = Unit {0}
 
--- What an answer says of the job, also over a disk that does not tell.
+-- What an answer says of it.
 abbrev pub IsAnswerTo : List ℕ → ℕ → Result LedgerState OpenFault → Type 0
 IsAnswerTo digest count (Ok ledger) = IsOpenFor digest count ledger
-IsAnswerTo digest count (Err (OtherJob kept wanted)) = (kept ≢ wanted) × (wanted ≡ digest)
-IsAnswerTo digest count (Err (BadLedger len)) = Unit {0}
-IsAnswerTo digest count (Err DiskFault) = Unit {0}
-IsAnswerTo digest count (Err NoMemory) = Unit {0}
-
--- The rest is said of parts of an attach.
-
--- what the bytes of a body say of a job
-abbrev pub IsJudged : List ℕ → ℕ → List ℕ → Result LedgerState OpenFault → Type 0
-IsJudged digest count body (Ok ledger) = IsOwn digest count body × (ledger ≡ record { digest = digest; gates = gates_of body; closed = false })
-IsJudged digest count body (Err (OtherJob kept wanted)) = IsOthers digest kept wanted body
-IsJudged digest count body (Err (BadLedger len)) = IsBad digest count len (Some body)
-IsJudged digest count body (Err DiskFault) = ⊥
-IsJudged digest count body (Err NoMemory) = Unit {0}
-
--- calls that sync the ledger's files and read them
-pub record IsLook (old new : History) : Type 0 where
-  pub narrows : Narrows old new
-  pub spares : Spares old new IsLedgerFile
-
--- a file was read, after a sync of it
-pub record IsReadFirmly (id : FileId) (old new : History) : Type 0 where
-  pub view : view_of new ≡ view_of old
-  pub firm : IsFirm (loose_of new) id
-  pub others : (q : FileId) → IsFirm (loose_of old) q → IsFirm (loose_of new) q
-
--- what a read of the body finds
-abbrev pub HasBody : Option (List ℕ) → Result (Vec ℕ Global) OpenFault → Type 0
-HasBody content (Ok body) = content ≡ Some body.items
-HasBody content (Err (OtherJob kept wanted)) = ⊥
-HasBody content (Err (BadLedger len)) = (len ≡ size_of content) × ((body : List ℕ) → content ≡ Some body → 262208 < length body)
-HasBody content (Err DiskFault) = Unit {0}
-HasBody content (Err NoMemory) = Unit {0}
-
--- A folder without a seal is made ready: at no moment is a frame acknowledged.
-pub record IsMaking (digest : List ℕ) (count : ℕ) (old new : History) : Type 0 where
-  pub extends : Extends old new
-  pub run : (reel : Reel) → IsReel count reel → IsRun digest count reel old new
-  pub none : (k : ℕ) → LeavesOnly old new (λ files. Acks digest count k files → ⊥)
-  pub spares : Spares old new IsLedgerFile
-
--- it is made ready, and the ledger agrees with it
-pub record IsReady (digest : List ℕ) (count : ℕ) (new : History) (ledger : LedgerState) : Type 0 where
-  pub is : ledger ≡ record { digest = digest; gates = replicate count false; closed = false }
-  pub agrees : Agrees (moment_of new) ledger
-  pub body : view_of new Body ≡ Some (closed_body digest count)
-
--- the answer of making a folder ready
-abbrev pub HasMade : List ℕ → ℕ → History → History → Result LedgerState OpenFault → Type 0
-HasMade digest count old new (Ok ledger) = IsReady digest count new ledger
-HasMade digest count old new (Err (OtherJob kept wanted)) = ⊥
-HasMade digest count old new (Err (BadLedger len)) = ⊥
-HasMade digest count old new (Err DiskFault) = Unit {0}
-HasMade digest count old new (Err NoMemory) = IsUnwritten old new
-
--- another job is not spoken of
-abbrev pub NeverOther : {T : Type 0} → Result T OpenFault → Type 0
-NeverOther (Ok value) = Unit {0}
-NeverOther (Err (OtherJob kept wanted)) = ⊥
-NeverOther (Err (BadLedger len)) = Unit {0}
-NeverOther (Err DiskFault) = Unit {0}
-NeverOther (Err NoMemory) = Unit {0}
+IsAnswerTo digest count (Err fault) = IsRefusalFor digest fault

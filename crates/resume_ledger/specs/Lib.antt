@@ -1,6 +1,9 @@
 pub mod Attach
 pub mod Body
+pub mod Hash
 pub mod Laws
 pub mod Ledger
+pub mod Look
 pub mod Peek
 pub mod Sound
+pub mod Steps

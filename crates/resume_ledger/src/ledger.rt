@@ -1,14 +1,20 @@
 //! The ledger of a job: one gate for each frame.
-ghost use Rattle.std.specs.Prelude.{◌≡◌, ◌≢◌, ◌↔◌, ℕ, ◌+◌, ◌<◌, ◌≤◌, [], ◌∷◌, true, false, length, set, slice_index_or, OnOk, OnErr, IsErr, count_by};
+ghost use Rattle.std.specs.Prelude.{◌≡◌, ◌<◌, ◌≤◌, ℕ, [], ◌∷◌, true, false, length, set, slice_index_or, OnOk, OnErr, IsErr, count_by};
 ghost use Rattle.cf_base.specs.Count.{HasCause};
-ghost use Rattle.cf_base.specs.declared.file.FileId.TheVariants.{Body};
-ghost use Rattle.reel_disk.specs.Disk.{moment_of, view_of, with_range};
-ghost use Rattle.reel_disk.specs.Runs.{Extends, NeverForgets, Surely, Spares};
-ghost use Rattle.resume_ledger.specs.Ledger.{Acks, Agrees, IsLedger};
-ghost use Rattle.resume_ledger.specs.Sound.{Reel, IsReel, IsStored, IsRun, AddsAtMost};
+ghost use Rattle.cf_base.specs.declared.file.FileId.{FileId as Id};
+ghost use Rattle.cf_base.specs.declared.file.FileId.TheVariants.{Body2};
+ghost use Rattle.reel_disk.specs.Disk.{moment_of, view_of, loose_of, IsFirm, with_range};
+ghost use Rattle.reel_disk.specs.Runs.{Extends, Surely, Spares};
+ghost use Rattle.resume_ledger.specs.declared.layout.Version.TheVariants.{Two};
+ghost use Rattle.resume_ledger.specs.Body.{layout_of, record_place};
+ghost use Rattle.resume_ledger.specs.Ledger.{Acks, Agrees, IsLedger, HasRecord};
+ghost use Rattle.resume_ledger.specs.Sound.{Reel, IsReel, IsStored, IsRun, KeepsAcks, AddsNothing, AddsAtMost};
 
+use crate::body::OPEN;
+use crate::layout::Version;
+use crate::write::patch_firmly;
 use cf_base::FileId;
-use reel_disk::{Did, Disk, DiskFault};
+use reel_disk::{Disk, DiskFault};
 use std::marker::Model;
 
 /// Which frames of a job are acknowledged: the file of an acknowledged frame is on the disk, and a crash keeps it there.
@@ -69,9 +75,51 @@ impl Ledger {
         self.closed
     }
 
-    /// Acknowledges a frame whose file is stored: writes `A` to its gate, byte `64 + i` of the body, and syncs the body.
-    /// At `Ok` each crash from now on finds the frame acknowledged. `DiskFault` comes only where the disk's count of
-    /// faults rose; the ledger is closed then, and a crash may find the frame acknowledged or not.
+    /// Keeps the SHA-256 of a frame's file as the frame's record: writes it behind the gate, at byte `65 + 33 * i` of the
+    /// body, and syncs the body. `DiskFault` comes only where the disk's count of faults rose; the ledger is closed then.
+    /// Takes no memory.
+    pub fn note<D: Disk>(&mut self, disk: &mut D, i: u32, hash: [u8; 32]) -> Result<(), DiskFault>
+        requires is_open { self.old.closed ≡ false }
+        requires agrees { D.tells ≡ true → Agrees (moment_of (D.history disk.old)) self.old }
+        requires within { i < length self.old.gates }
+        requires fresh { slice_index_or self.old.gates i false ≡ false }
+
+        ensures past { D.tells ≡ true → Extends (D.history disk.old) (D.history disk.new) }
+
+        // A crash at any moment of the call leaves a folder whose acknowledged frames are the reel's, with their records, and
+        // no acknowledgement is lost, whatever the reel is.
+        ensures run { D.tells ≡ true → (reel : Reel) → IsReel (length self.old.gates) reel
+            → IsRun self.old.digest (length self.old.gates) reel (D.history disk.old) (D.history disk.new) }
+        ensures none_lost { D.tells ≡ true → KeepsAcks self.old.digest (length self.old.gates) (D.history disk.old) (D.history disk.new) }
+
+        // No frame is acknowledged, and no file but the second body is written, also after a fault.
+        ensures others { D.tells ≡ true → AddsNothing self.old.digest (length self.old.gates) (D.history disk.old) (D.history disk.new) }
+        ensures spares { D.tells ≡ true → Spares (D.history disk.old) (D.history disk.new) (λ q. q ≡ Body2) }
+
+        ensures noted { OnOk result (D.tells ≡ true → HasRecord i hash (view_of (D.history disk.new))) }
+        ensures firm { OnOk result (D.tells ≡ true → (q : Id) → IsFirm (loose_of (D.history disk.old)) q → IsFirm (loose_of (D.history disk.new)) q) }
+        ensures written { OnOk result (D.tells ≡ true → view_of (D.history disk.new) Body2 ≡ with_range (view_of (D.history disk.old) Body2) (record_place i) hash) }
+        ensures agrees { OnOk result (D.tells ≡ true → Agrees (moment_of (D.history disk.new)) self.new) }
+        ensures ledger { OnOk result (self.new ≡ self.old) }
+        ensures closed { OnErr result (self.new ≡ record self.old { closed = true }) }
+
+        ensures same { D.same disk.old disk.new }
+        ensures cause { HasCause (D.faults disk.old) (D.faults disk.new) (IsErr result) }
+        ensures steady { OnOk result (D.faults disk.new ≡ D.faults disk.old) }
+    {
+        let at = Version::Two.gate(i) as u64 + 1;
+        match patch_firmly(disk, FileId::Body2, at, &hash) {
+            Ok(()) => Ok(()),
+            Err(DiskFault) => {
+                self.closed = true;
+                Err(DiskFault)
+            }
+        }
+    }
+
+    /// Acknowledges a frame whose file and record are stored: writes `A` to its gate, byte `64 + 33 * i` of the body, and
+    /// syncs the body. At `Ok` each crash from now on finds the frame acknowledged. `DiskFault` comes only where the disk's
+    /// count of faults rose; the ledger is closed then, and a crash may find the frame acknowledged or not. Takes no memory.
     pub fn ack<D: Disk>(&mut self, disk: &mut D, i: u32) -> Result<(), DiskFault>
         requires is_open { self.old.closed ≡ false }
         requires agrees { D.tells ≡ true → Agrees (moment_of (D.history disk.old)) self.old }
@@ -80,20 +128,20 @@ impl Ledger {
 
         ensures past { D.tells ≡ true → Extends (D.history disk.old) (D.history disk.new) }
 
-        // A crash at any moment of the call leaves a folder whose acknowledged frames are the reel's.
+        // A crash at any moment of the call leaves a folder whose acknowledged frames are the reel's, with their records.
         ensures run { D.tells ≡ true → (reel : Reel) → IsReel (length self.old.gates) reel
             → IsStored (moment_of (D.history disk.old)) reel i
             → IsRun self.old.digest (length self.old.gates) reel (D.history disk.old) (D.history disk.new) }
 
         // No acknowledgement is lost, whatever the reel is.
-        ensures none_lost { D.tells ≡ true → (k : ℕ) → NeverForgets (D.history disk.old) (D.history disk.new) (Acks self.old.digest (length self.old.gates) k) }
+        ensures none_lost { D.tells ≡ true → KeepsAcks self.old.digest (length self.old.gates) (D.history disk.old) (D.history disk.new) }
 
         // All other frames stay as they were, also after a fault.
         ensures others { D.tells ≡ true → AddsAtMost i self.old.digest (length self.old.gates) (D.history disk.old) (D.history disk.new) }
-        ensures spares { D.tells ≡ true → Spares (D.history disk.old) (D.history disk.new) (λ q. q ≡ Body) }
+        ensures spares { D.tells ≡ true → Spares (D.history disk.old) (D.history disk.new) (λ q. q ≡ Body2) }
 
         ensures acked { OnOk result (D.tells ≡ true → Surely (moment_of (D.history disk.new)) (Acks self.old.digest (length self.old.gates) i)) }
-        ensures written { OnOk result (D.tells ≡ true → view_of (D.history disk.new) Body ≡ with_range (view_of (D.history disk.old) Body) (64 + i) (65 ∷ [])) }
+        ensures written { OnOk result (D.tells ≡ true → view_of (D.history disk.new) Body2 ≡ with_range (view_of (D.history disk.old) Body2) ((layout_of Two).gate i) (65 ∷ [])) }
         ensures agrees { OnOk result (D.tells ≡ true → Agrees (moment_of (D.history disk.new)) self.new) }
         ensures ledger { OnOk result (self.new ≡ record self.old { gates = set self.old.gates i true }) }
         ensures closed { OnErr result (self.new ≡ record self.old { closed = true }) }
@@ -102,16 +150,16 @@ impl Ledger {
         ensures cause { HasCause (D.faults disk.old) (D.faults disk.new) (IsErr result) }
         ensures steady { OnOk result (D.faults disk.new ≡ D.faults disk.old) }
     {
-        let at = 64 + i as u64;
-        let Did::Done = disk.write_at(FileId::Body, at, &[b'A']) else {
-            self.closed = true;
-            return Err(DiskFault);
-        };
-        let Did::Done = disk.sync(FileId::Body) else {
-            self.closed = true;
-            return Err(DiskFault);
-        };
-        self.gates[i as usize] = true;
-        Ok(())
+        let at = Version::Two.gate(i) as u64;
+        match patch_firmly(disk, FileId::Body2, at, &[OPEN]) {
+            Ok(()) => {
+                self.gates[i as usize] = true;
+                Ok(())
+            }
+            Err(DiskFault) => {
+                self.closed = true;
+                Err(DiskFault)
+            }
+        }
     }
 }

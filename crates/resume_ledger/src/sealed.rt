@@ -1,29 +1,31 @@
-//! Reading the two files of a ledger.
+//! Reading the files of a ledger.
 ghost use Rattle.std.specs.Prelude.{◌≡◌, ◌≢◌, ◌↔◌, ◌≤◌, true, length, IfOk, OnOk, IsErr, IsErrOf, Err};
 ghost use Rattle.cf_base.specs.Count.{HasCause};
 ghost use Rattle.reel_disk.specs.Disk.{view_of, loose_of, IsFirm, IsStill};
-ghost use Rattle.resume_ledger.specs.Ledger.{IsSealed};
-ghost use Rattle.resume_ledger.specs.Attach.{HasAttached, IsAnswerTo, IsLook, IsReadFirmly, HasBody, NeverOther};
+ghost use Rattle.resume_ledger.specs.Body.{layout_of};
+ghost use Rattle.resume_ledger.specs.Ledger.{HasSeal, IsInForce};
+ghost use Rattle.resume_ledger.specs.Attach.{IsAnswerTo};
+ghost use Rattle.resume_ledger.specs.Steps.{IsReading, IsReadFirmly, HasBody, HasRead, IsVersionOf};
 
-use crate::body::{MOST, SEAL, judge};
+use crate::body::judge;
+use crate::layout::Version;
 use crate::{Ledger, OpenFault};
-use cf_base::FileId;
 use reel_disk::{Did, Disk, DiskFault, Got, Length};
 use std::alloc::Global;
 
-/// Whether a read finds the folder sealed.
-pub(crate) fn has_seal<D: Disk>(disk: &mut D) -> Result<bool, DiskFault>
+/// Whether a read finds the seal of a version.
+fn has_seal<D: Disk>(disk: &mut D, version: Version) -> Result<bool, DiskFault>
     ensures still { D.tells ≡ true → IsStill (D.history disk.old) (D.history disk.new) }
-    ensures sealed { IfOk result (λ sealed. D.tells ≡ true → (sealed ≡ true ↔ IsSealed (view_of (D.history disk.old)))) }
+    ensures sealed { IfOk result (λ sealed. D.tells ≡ true → (sealed ≡ true ↔ HasSeal version (view_of (D.history disk.old)))) }
     ensures same { D.same disk.old disk.new }
     ensures cause { HasCause (D.faults disk.old) (D.faults disk.new) (IsErr result) }
     ensures steady { OnOk result (D.faults disk.new ≡ D.faults disk.old) }
 {
-    match disk.length(FileId::Seal) {
+    match disk.length(version.seal()) {
         Length::There(15) => {
             let mut seal = [0; 15];
-            match disk.read(FileId::Seal, 0, &mut seal) {
-                Got::Bytes(15) => Ok(seal == SEAL),
+            match disk.read(version.seal(), 0, &mut seal) {
+                Got::Bytes(15) => Ok(seal == version.mark()),
                 Got::Failed => Err(DiskFault),
                 _ => Ok(false),
             }
@@ -33,67 +35,97 @@ pub(crate) fn has_seal<D: Disk>(disk: &mut D) -> Result<bool, DiskFault>
     }
 }
 
-/// Whether the folder is sealed, and a crash keeps that so.
-pub(crate) fn is_sealed<D: Disk>(disk: &mut D) -> Result<bool, DiskFault>
-    ensures look { D.tells ≡ true → IsLook (D.history disk.old) (D.history disk.new) }
-    ensures read { OnOk result (D.tells ≡ true → IsReadFirmly FileId.Seal (D.history disk.old) (D.history disk.new)) }
-    ensures sealed { IfOk result (λ sealed. D.tells ≡ true → (sealed ≡ true ↔ IsSealed (view_of (D.history disk.old)))) }
+/// The version in force, as a read finds it.
+pub(crate) fn in_force<D: Disk>(disk: &mut D) -> Result<Option<Version>, DiskFault>
+    ensures still { D.tells ≡ true → IsStill (D.history disk.old) (D.history disk.new) }
+    ensures version { IfOk result (λ version. D.tells ≡ true → IsVersionOf (view_of (D.history disk.old)) version) }
     ensures same { D.same disk.old disk.new }
     ensures cause { HasCause (D.faults disk.old) (D.faults disk.new) (IsErr result) }
     ensures steady { OnOk result (D.faults disk.new ≡ D.faults disk.old) }
 {
-    let Did::Done = disk.sync(FileId::Seal) else {
-        return Err(DiskFault);
-    };
-    has_seal(disk)
+    match has_seal(disk, Version::Two) {
+        Ok(true) => Ok(Some(Version::Two)),
+        Ok(false) => match has_seal(disk, Version::One) {
+            Ok(true) => Ok(Some(Version::One)),
+            Ok(false) => Ok(None),
+            Err(DiskFault) => Err(DiskFault),
+        },
+        Err(DiskFault) => Err(DiskFault),
+    }
 }
 
-/// The body as a read finds it, where it is not too long for any job.
-pub(crate) fn load_body<D: Disk>(alloc: Global, disk: &mut D) -> Result<Vec<u8>, OpenFault>
+/// Whether the seal of a version is there, and a crash keeps that so.
+pub(crate) fn is_sealed<D: Disk>(disk: &mut D, version: Version) -> Result<bool, DiskFault>
+    ensures reading { D.tells ≡ true → IsReading (D.history disk.old) (D.history disk.new) }
+    ensures read { OnOk result (D.tells ≡ true → IsReadFirmly (layout_of version).seal (D.history disk.old) (D.history disk.new)) }
+    ensures sealed { IfOk result (λ sealed. D.tells ≡ true → (sealed ≡ true ↔ HasSeal version (view_of (D.history disk.old)))) }
+    ensures same { D.same disk.old disk.new }
+    ensures cause { HasCause (D.faults disk.old) (D.faults disk.new) (IsErr result) }
+    ensures steady { OnOk result (D.faults disk.new ≡ D.faults disk.old) }
+{
+    let Did::Done = disk.sync(version.seal()) else {
+        return Err(DiskFault);
+    };
+    has_seal(disk, version)
+}
+
+/// The body of a version as a read finds it, where it is not too long for any job.
+pub(crate) fn load_body<D: Disk>(
+    alloc: Global,
+    disk: &mut D,
+    version: Version,
+) -> Result<Vec<u8>, OpenFault>
     ensures still { D.tells ≡ true → IsStill (D.history disk.old) (D.history disk.new) }
-    ensures body { D.tells ≡ true → HasBody (view_of (D.history disk.old) FileId.Body) result }
-    ensures size { IfOk result (λ body. length body.items ≤ 262208) }
-    ensures never_other { NeverOther result }
+    ensures body { D.tells ≡ true → HasBody (layout_of version) (view_of (D.history disk.old) (layout_of version).body) result }
+    ensures known { HasRead (layout_of version) result }
     ensures same { D.same disk.old disk.new }
     ensures cause { HasCause (D.faults disk.old) (D.faults disk.new) (IsErrOf result OpenFault.DiskFault) }
     ensures steady { result ≢ Err OpenFault.DiskFault → D.faults disk.new ≡ D.faults disk.old }
 {
-    let len = match disk.length(FileId::Body) {
+    let len = match disk.length(version.body()) {
         Length::There(len) => len,
         Length::Absent => return Err(OpenFault::BadLedger { len: 0 }),
         Length::Failed => return Err(OpenFault::DiskFault),
     };
-    if len > MOST {
+    if len > version.most() {
         return Err(OpenFault::BadLedger { len });
     }
     let Ok(mut body) = vec![in alloc; 0u8; len as usize] else {
         return Err(OpenFault::NoMemory);
     };
-    match disk.read(FileId::Body, 0, &mut body) {
+    match disk.read(version.body(), 0, &mut body) {
         Got::Bytes(n) if n == body.len() => Ok(body),
         Got::Failed => Err(OpenFault::DiskFault),
         _ => Err(OpenFault::BadLedger { len }),
     }
 }
 
-/// The body, where it is not too long for any job, and a crash keeps it so.
-fn read_body<D: Disk>(alloc: Global, disk: &mut D) -> Result<Vec<u8>, OpenFault>
-    ensures look { D.tells ≡ true → IsLook (D.history disk.old) (D.history disk.new) }
-    ensures read { result ≢ Err OpenFault.DiskFault → D.tells ≡ true → IsReadFirmly FileId.Body (D.history disk.old) (D.history disk.new) }
-    ensures body { D.tells ≡ true → HasBody (view_of (D.history disk.old) FileId.Body) result }
-    ensures size { IfOk result (λ body. length body.items ≤ 262208) }
-    ensures never_other { NeverOther result }
+/// The body of a version, where it is not too long for any job, and a crash keeps it so.
+pub(crate) fn read_body<D: Disk>(
+    alloc: Global,
+    disk: &mut D,
+    version: Version,
+) -> Result<Vec<u8>, OpenFault>
+    ensures reading { D.tells ≡ true → IsReading (D.history disk.old) (D.history disk.new) }
+    ensures read { result ≢ Err OpenFault.DiskFault → D.tells ≡ true → IsReadFirmly (layout_of version).body (D.history disk.old) (D.history disk.new) }
+    ensures body { D.tells ≡ true → HasBody (layout_of version) (view_of (D.history disk.old) (layout_of version).body) result }
+    ensures known { HasRead (layout_of version) result }
     ensures same { D.same disk.old disk.new }
     ensures cause { HasCause (D.faults disk.old) (D.faults disk.new) (IsErrOf result OpenFault.DiskFault) }
     ensures steady { result ≢ Err OpenFault.DiskFault → D.faults disk.new ≡ D.faults disk.old }
 {
-    let Did::Done = disk.sync(FileId::Body) else {
+    let Did::Done = disk.sync(version.body()) else {
         return Err(OpenFault::DiskFault);
     };
-    load_body(alloc, disk)
+    load_body(alloc, disk, version)
 }
 
-/// Reads the body of a sealed folder.
+ghost use Rattle.std.specs.Prelude.{List, ℕ};
+ghost use Rattle.cf_base.specs.declared.file.FileId.{FileId as Id};
+ghost use Rattle.cf_base.specs.declared.file.FileId.TheVariants.{Seal2};
+ghost use Rattle.resume_ledger.specs.Attach.{HasAttached};
+
+/// Reads the body of a folder that is sealed by version 2.
 pub(crate) fn open_sealed<D: Disk>(
     alloc: Global,
     disk: &mut D,
@@ -102,17 +134,21 @@ pub(crate) fn open_sealed<D: Disk>(
 ) -> Result<Ledger, OpenFault>
     requires some { 1 ≤ count }
     requires most { count ≤ 262144 }
-    requires sealed { D.tells ≡ true → IsSealed (view_of (D.history disk.old)) }
-    requires firm { D.tells ≡ true → IsFirm (loose_of (D.history disk.old)) FileId.Seal }
-    ensures look { D.tells ≡ true → IsLook (D.history disk.old) (D.history disk.new) }
-    ensures answer { D.tells ≡ true → HasAttached digest count (D.history disk.old) (D.history disk.new) result }
+    requires sealed { D.tells ≡ true → IsInForce Version.Two (view_of (D.history disk.old)) }
+    requires firm { D.tells ≡ true → IsFirm (loose_of (D.history disk.old)) Seal2 }
+    ensures reading { D.tells ≡ true → IsReading (D.history disk.old) (D.history disk.new) }
+    ensures answer { D.tells ≡ true → (name : ℕ → Id) (size : ℕ) → HasAttached digest count name size (D.history disk.old) (D.history disk.new) result }
     ensures known { IsAnswerTo digest count result }
     ensures same { D.same disk.old disk.new }
     ensures cause { HasCause (D.faults disk.old) (D.faults disk.new) (IsErrOf result OpenFault.DiskFault) }
     ensures steady { result ≢ Err OpenFault.DiskFault → D.faults disk.new ≡ D.faults disk.old }
 {
-    match read_body(alloc, disk) {
-        Ok(body) => judge(alloc, &body, digest, count),
+    let body = match read_body(alloc, disk, Version::Two) {
+        Ok(body) => body,
+        Err(fault) => return Err(fault),
+    };
+    match judge(alloc, Version::Two, &body, digest, count) {
+        Ok(gates) => Ok(Ledger::of(digest, gates)),
         Err(fault) => Err(fault),
     }
 }

@@ -1,48 +1,42 @@
-use Rattle.reel_writer.proofs.Finishing.{wrote_keeps, wrote_sound, wrote_others, wrote_spares, stored_past, stored_keeps, stored_sound, stored_others, stored_spares, done_keeps, done_sound, done_others}
+use Rattle.std.proofs.Common.{◌∙◌, ℕ, List, length, subst}
+use Rattle.reel_disk.specs.Disk.{moment_of, view_of}
+use Rattle.reel_disk.specs.Runs.{Surely}
+use Rattle.resume_ledger.specs.Ledger.{LedgerState, HasRecord, Acks}
+use Rattle.reel_writer.specs.Reel.{IsFinishing}
+use Rattle.reel_writer.proofs.Finishing.{finishing_along, wrote, agrees_still, noted, acked, shown_still}
 use Rattle.reel_writer.proofs.store.store.Goals as goal
 
--- the write failed
-pub returns-in_default-clause-none_lost : goal.returns-in_default-clause-none_lost
-returns-in_default-clause-none_lost g c told = wrote_keeps _ _ (c.requires.agrees told) _ c.requires.within c.requires.fresh _ c.requires.frame (g.D.Disk.history c.write_whole.new.self) _ _ (c.write_whole.ensures.told told)
+-- the file wasn't stored
+pub returns-in_default-clause-finishing : goal.returns-in_default-clause-finishing
+returns-in_default-clause-finishing g c told = wrote _ _ (c.requires.agrees told) _ c.requires.fresh _ c.requires.frame _ _ (c.write_firmly.ensures.put told) (c.write_firmly.ensures.spares told)
 
-pub returns-in_default-clause-sound : goal.returns-in_default-clause-sound
-returns-in_default-clause-sound g c told reel is_reel has = wrote_sound _ _ (c.requires.agrees told) _ c.requires.within c.requires.fresh _ c.requires.frame (g.D.Disk.history c.write_whole.new.self) _ _ (c.write_whole.ensures.told told) reel has
+-- the record wasn't
+pub note-requires-clause-agrees : goal.note-requires-clause-agrees
+note-requires-clause-agrees g c told = agrees_still _ _ (c.requires.agrees told) _ c.requires.fresh _ c.requires.frame _ c.args.bytes.now (c.write_firmly.ensures.put told) (c.write_firmly.ensures.spares told)
 
-pub returns-in_default-clause-others : goal.returns-in_default-clause-others
-returns-in_default-clause-others g c told = wrote_others _ _ (c.requires.agrees told) _ c.requires.within c.requires.fresh _ c.requires.frame (g.D.Disk.history c.write_whole.new.self) _ _ (c.write_whole.ensures.told told)
-
-pub returns-in_default-clause-spares : goal.returns-in_default-clause-spares
-returns-in_default-clause-spares g c told = wrote_spares _ _ (c.requires.agrees told) _ c.requires.within c.requires.fresh _ c.requires.frame (g.D.Disk.history c.write_whole.new.self) _ _ (c.write_whole.ensures.told told)
-
--- the sync failed
-pub returns-in_default-sync-clause-none_lost : goal.returns-in_default-sync-clause-none_lost
-returns-in_default-sync-clause-none_lost g c told = stored_keeps _ _ (c.requires.agrees told) _ c.requires.within c.requires.fresh _ c.requires.frame _ _ _ (c.write_whole.ensures.told told) _ _ (c.sync.ensures.told told)
-
-pub returns-in_default-sync-clause-sound : goal.returns-in_default-sync-clause-sound
-returns-in_default-sync-clause-sound g c told reel is_reel has = stored_sound _ _ (c.requires.agrees told) _ c.requires.within c.requires.fresh _ c.requires.frame _ _ _ (c.write_whole.ensures.told told) _ _ (c.sync.ensures.told told) reel has
-
-pub returns-in_default-sync-clause-others : goal.returns-in_default-sync-clause-others
-returns-in_default-sync-clause-others g c told = stored_others _ _ (c.requires.agrees told) _ c.requires.within c.requires.fresh _ c.requires.frame _ _ _ (c.write_whole.ensures.told told) _ _ (c.sync.ensures.told told)
-
-pub returns-in_default-sync-clause-spares : goal.returns-in_default-sync-clause-spares
-returns-in_default-sync-clause-spares g c told = stored_spares _ _ (c.requires.agrees told) _ c.requires.within c.requires.fresh _ c.requires.frame _ _ _ (c.write_whole.ensures.told told) _ _ (c.sync.ensures.told told)
+pub returns-in_default-note-clause-finishing : goal.returns-in_default-note-clause-finishing
+returns-in_default-note-clause-finishing g c told = finishing_along _ _ _ _ _ _ _ _ (wrote _ _ (c.requires.agrees told) _ c.requires.fresh _ c.requires.frame _ _ (c.write_firmly.ensures.put told) (c.write_firmly.ensures.spares told)) (noted _ _ _ _ _ c.requires.frame _ _ (c.note.ensures.past told) (c.note.ensures.none_lost told) (c.note.ensures.spares told) (c.note.ensures.run told) (c.note.ensures.others told))
 
 -- the frame was acknowledged
-pub returns-in-Ok-clause-none_lost : goal.returns-in-Ok-clause-none_lost
-returns-in-Ok-clause-none_lost g c told k = done_keeps _ _ (c.requires.agrees told) _ c.requires.within c.requires.fresh _ c.requires.frame _ _ _ (c.write_whole.ensures.told told) _ (c.in-Done.ensures.told told) (c.in-Done-sync.ensures.told told) _ (stored_past _ _ (c.requires.agrees told) _ c.requires.within c.requires.fresh _ c.requires.frame _ _ _ (c.write_whole.ensures.told told) _ _ (c.sync.ensures.told told)) (c.ack.ensures.past told) k (stored_keeps _ _ (c.requires.agrees told) _ c.requires.within c.requires.fresh _ c.requires.frame _ _ _ (c.write_whole.ensures.told told) _ _ (c.sync.ensures.told told) k) (c.ack.ensures.none_lost told k)
+pub returns-in-Ok-ack-clause-finishing : goal.returns-in-Ok-ack-clause-finishing
+returns-in-Ok-ack-clause-finishing g c told =
+    let there = shown_still c.args.ledger.now.digest (length c.args.ledger.now.gates) c.args.i c.args.file c.args.bytes.now c.requires.frame _ _ (c.note.ensures.past told) (c.note.ensures.none_lost told) (c.note.ensures.spares told) ∙ (c.in-Ok.ensures.firmly told).there in
+    let firm = c.in-Ok-note.ensures.firm told c.args.file (c.in-Ok.ensures.firmly told).firm in
+    let recorded = subst (λ (l : List ℕ). HasRecord c.args.i l (view_of (g.D.Disk.history c.note.new.disk))) c.requires.hash (c.in-Ok-note.ensures.noted told) in
+    let last = subst (λ (l : LedgerState). IsFinishing l.digest (length l.gates) c.args.i c.args.file c.args.bytes.now (g.D.Disk.history c.note.new.disk) (g.D.Disk.history c.ack.new.disk)) c.in-Ok-note.ensures.ledger
+    (acked _ _ _ _ _ c.requires.frame _ _ (c.ack.ensures.past told) (c.ack.ensures.none_lost told) (c.ack.ensures.spares told) (c.ack.ensures.run told) (c.ack.ensures.others told) there firm recorded) in
+    finishing_along _ _ _ _ _ _ _ _ (finishing_along _ _ _ _ _ _ _ _ (wrote _ _ (c.requires.agrees told) _ c.requires.fresh _ c.requires.frame _ _ (c.write_firmly.ensures.put told) (c.write_firmly.ensures.spares told)) (noted _ _ _ _ _ c.requires.frame _ _ (c.note.ensures.past told) (c.note.ensures.none_lost told) (c.note.ensures.spares told) (c.note.ensures.run told) (c.note.ensures.others told))) last
 
-pub returns-in-Ok-clause-sound : goal.returns-in-Ok-clause-sound
-returns-in-Ok-clause-sound g c told reel is_reel has = done_sound _ _ (c.requires.agrees told) _ c.requires.within c.requires.fresh _ c.requires.frame _ _ _ (c.write_whole.ensures.told told) _ (c.in-Done.ensures.told told) (c.in-Done-sync.ensures.told told) _ (stored_past _ _ (c.requires.agrees told) _ c.requires.within c.requires.fresh _ c.requires.frame _ _ _ (c.write_whole.ensures.told told) _ _ (c.sync.ensures.told told)) (c.ack.ensures.past told) reel has (c.ack.ensures.run told reel is_reel) (stored_sound _ _ (c.requires.agrees told) _ c.requires.within c.requires.fresh _ c.requires.frame _ _ _ (c.write_whole.ensures.told told) _ _ (c.sync.ensures.told told) reel has)
+pub returns-in-Ok-ack-clause-acked : goal.returns-in-Ok-ack-clause-acked
+returns-in-Ok-ack-clause-acked g c told =
+    subst (λ (l : LedgerState). Surely (moment_of (g.D.Disk.history c.ack.new.disk)) (Acks l.digest (length l.gates) c.args.i)) c.in-Ok-note.ensures.ledger (c.in-Ok-ack.ensures.acked told)
 
-pub returns-in-Ok-clause-others : goal.returns-in-Ok-clause-others
-returns-in-Ok-clause-others g c told = done_others _ _ (c.requires.agrees told) _ c.requires.within c.requires.fresh _ c.requires.frame _ _ _ (c.write_whole.ensures.told told) _ (c.in-Done.ensures.told told) (c.in-Done-sync.ensures.told told) _ (stored_past _ _ (c.requires.agrees told) _ c.requires.within c.requires.fresh _ c.requires.frame _ _ _ (c.write_whole.ensures.told told) _ _ (c.sync.ensures.told told)) (c.ack.ensures.past told) (stored_others _ _ (c.requires.agrees told) _ c.requires.within c.requires.fresh _ c.requires.frame _ _ _ (c.write_whole.ensures.told told) _ _ (c.sync.ensures.told told)) (c.ack.ensures.others told)
-
--- the acknowledgement failed
-pub returns-in-Err-clause-none_lost : goal.returns-in-Err-clause-none_lost
-returns-in-Err-clause-none_lost g c told k = done_keeps _ _ (c.requires.agrees told) _ c.requires.within c.requires.fresh _ c.requires.frame _ _ _ (c.write_whole.ensures.told told) _ (c.in-Done.ensures.told told) (c.in-Done-sync.ensures.told told) _ (stored_past _ _ (c.requires.agrees told) _ c.requires.within c.requires.fresh _ c.requires.frame _ _ _ (c.write_whole.ensures.told told) _ _ (c.sync.ensures.told told)) (c.ack.ensures.past told) k (stored_keeps _ _ (c.requires.agrees told) _ c.requires.within c.requires.fresh _ c.requires.frame _ _ _ (c.write_whole.ensures.told told) _ _ (c.sync.ensures.told told) k) (c.ack.ensures.none_lost told k)
-
-pub returns-in-Err-clause-sound : goal.returns-in-Err-clause-sound
-returns-in-Err-clause-sound g c told reel is_reel has = done_sound _ _ (c.requires.agrees told) _ c.requires.within c.requires.fresh _ c.requires.frame _ _ _ (c.write_whole.ensures.told told) _ (c.in-Done.ensures.told told) (c.in-Done-sync.ensures.told told) _ (stored_past _ _ (c.requires.agrees told) _ c.requires.within c.requires.fresh _ c.requires.frame _ _ _ (c.write_whole.ensures.told told) _ _ (c.sync.ensures.told told)) (c.ack.ensures.past told) reel has (c.ack.ensures.run told reel is_reel) (stored_sound _ _ (c.requires.agrees told) _ c.requires.within c.requires.fresh _ c.requires.frame _ _ _ (c.write_whole.ensures.told told) _ _ (c.sync.ensures.told told) reel has)
-
-pub returns-in-Err-clause-others : goal.returns-in-Err-clause-others
-returns-in-Err-clause-others g c told = done_others _ _ (c.requires.agrees told) _ c.requires.within c.requires.fresh _ c.requires.frame _ _ _ (c.write_whole.ensures.told told) _ (c.in-Done.ensures.told told) (c.in-Done-sync.ensures.told told) _ (stored_past _ _ (c.requires.agrees told) _ c.requires.within c.requires.fresh _ c.requires.frame _ _ _ (c.write_whole.ensures.told told) _ _ (c.sync.ensures.told told)) (c.ack.ensures.past told) (stored_others _ _ (c.requires.agrees told) _ c.requires.within c.requires.fresh _ c.requires.frame _ _ _ (c.write_whole.ensures.told told) _ _ (c.sync.ensures.told told)) (c.ack.ensures.others told)
+-- or a crash may find it so or not
+pub returns-in-Err-clause-finishing : goal.returns-in-Err-clause-finishing
+returns-in-Err-clause-finishing g c told =
+    let there = shown_still c.args.ledger.now.digest (length c.args.ledger.now.gates) c.args.i c.args.file c.args.bytes.now c.requires.frame _ _ (c.note.ensures.past told) (c.note.ensures.none_lost told) (c.note.ensures.spares told) ∙ (c.in-Ok.ensures.firmly told).there in
+    let firm = c.in-Ok-note.ensures.firm told c.args.file (c.in-Ok.ensures.firmly told).firm in
+    let recorded = subst (λ (l : List ℕ). HasRecord c.args.i l (view_of (g.D.Disk.history c.note.new.disk))) c.requires.hash (c.in-Ok-note.ensures.noted told) in
+    let last = subst (λ (l : LedgerState). IsFinishing l.digest (length l.gates) c.args.i c.args.file c.args.bytes.now (g.D.Disk.history c.note.new.disk) (g.D.Disk.history c.ack.new.disk)) c.in-Ok-note.ensures.ledger
+    (acked _ _ _ _ _ c.requires.frame _ _ (c.ack.ensures.past told) (c.ack.ensures.none_lost told) (c.ack.ensures.spares told) (c.ack.ensures.run told) (c.ack.ensures.others told) there firm recorded) in
+    finishing_along _ _ _ _ _ _ _ _ (finishing_along _ _ _ _ _ _ _ _ (wrote _ _ (c.requires.agrees told) _ c.requires.fresh _ c.requires.frame _ _ (c.write_firmly.ensures.put told) (c.write_firmly.ensures.spares told)) (noted _ _ _ _ _ c.requires.frame _ _ (c.note.ensures.past told) (c.note.ensures.none_lost told) (c.note.ensures.spares told) (c.note.ensures.run told) (c.note.ensures.others told))) last

@@ -1,9 +1,8 @@
-use Rattle.std.proofs.Common.{inl, refl}
-use Rattle.resume_ledger.proofs.Looking.{sync_look, synced_look}
+use Rattle.resume_ledger.proofs.Reading.{seal_reading, seal_read}
 use Rattle.resume_ledger.proofs.sealed.is_sealed.Goals as goal
 
-pub returns-in_default-clause-look : goal.returns-in_default-clause-look
-returns-in_default-clause-look g c told = sync_look _ _ _ _ (inl refl) (c.sync.ensures.told told)
+pub returns-in_default-clause-reading : goal.returns-in_default-clause-reading
+returns-in_default-clause-reading g c told = seal_reading c.args.version _ _ _ _ (c.sync.ensures.told told) c.seal.ensures
 
-pub returns-clause-look : goal.returns-clause-look
-returns-clause-look g c told = synced_look _ _ _ _ _ (inl refl) (c.sync.ensures.told told) (c.has_seal.ensures.still told)
+pub returns-clause-reading : goal.returns-clause-reading
+returns-clause-reading g c told = seal_read c.args.version _ _ _ _ (c.sync.ensures.told told) _ (c.has_seal.ensures.still told) c.seal.ensures

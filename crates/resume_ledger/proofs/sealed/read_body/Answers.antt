@@ -1,9 +1,8 @@
-use Rattle.std.proofs.Common.{inr, refl}
-use Rattle.resume_ledger.proofs.Looking.{sync_look, synced_look}
+use Rattle.resume_ledger.proofs.Reading.{body_reading, body_read}
 use Rattle.resume_ledger.proofs.sealed.read_body.Goals as goal
 
-pub returns-in_default-clause-look : goal.returns-in_default-clause-look
-returns-in_default-clause-look g c told = sync_look _ _ _ _ (inr refl) (c.sync.ensures.told told)
+pub returns-in_default-clause-reading : goal.returns-in_default-clause-reading
+returns-in_default-clause-reading g c told = body_reading c.args.version _ _ _ _ (c.sync.ensures.told told) c.body.ensures
 
-pub returns-clause-look : goal.returns-clause-look
-returns-clause-look g c told = synced_look _ _ _ _ _ (inr refl) (c.sync.ensures.told told) (c.load_body.ensures.still told)
+pub returns-clause-reading : goal.returns-clause-reading
+returns-clause-reading g c told = body_read c.args.version _ _ _ _ (c.sync.ensures.told told) _ (c.load_body.ensures.still told) c.body.ensures

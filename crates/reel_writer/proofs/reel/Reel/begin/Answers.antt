@@ -1,30 +1,66 @@
-use Rattle.std.proofs.Common.{◌∙◌, ap}
-use Rattle.record_timeline.specs.Accepted.{RecordReel, frame_count}
-use Rattle.conform_job.specs.Job.{JobData}
-use Rattle.resume_ledger.proofs.Making.{unwritten_itself}
-use Rattle.resume_ledger.proofs.RunLaws.{narrows_adds_none}
+use Rattle.std.proofs.Common.{◌≡◌, ◌≤◌, ◌∙◌, ℕ, length, ap, subst, arith}
+use Rattle.std.specs.Prelude.{vec_capacity}
+use Rattle.reel_disk.specs.Disk.{moment_of}
+use Rattle.resume_ledger.specs.Ledger.{Agrees}
+use Rattle.conform_job.specs.Job.{JobData, file_of}
+use Rattle.conform_job.specs.Refusals as sources
+use Rattle.frame_render.specs.Frame.{frame_file, frame_size}
+use Rattle.resume_ledger.specs.Sound.{IsOpeningRun, AddsNone}
+use Rattle.resume_ledger.proofs.Reading.{reading_itself, reading_part}
 use Rattle.reel_writer.specs.Reel.{frames_of}
-use Rattle.reel_writer.proofs.ReelLaws.{reel_run_itself, opened_run, opened_adds_none}
+use Rattle.reel_writer.proofs.ReelLaws.{reel_run_itself, opened_run, sound_has}
 use Rattle.reel_writer.proofs.reel.Reel.begin.Goals as goal
 
+-- no memory
 pub returns-in_default-clause-run : goal.returns-in_default-clause-run
 returns-in_default-clause-run g c told = reel_run_itself g.N.Work.job g.N.Work.files (g.D.Disk.history c.args.disk)
 
 pub returns-in_default-clause-adds_none : goal.returns-in_default-clause-adds_none
-returns-in_default-clause-adds_none g c told = narrows_adds_none g.N.Work.job.parts.digest (frames_of g.N.Work.job) (g.D.Disk.history c.args.disk) (g.D.Disk.history c.args.disk) (unwritten_itself (g.D.Disk.history c.args.disk)).narrows
+returns-in_default-clause-adds_none g c told = (reading_part g.N.Work.job.parts.digest (frames_of g.N.Work.job) (file_of g.N.Work.job) (frame_size g.N.Work.job) _ _ (reading_itself (g.D.Disk.history c.args.disk))).adds_none
 
-pub returns-in-Ok-attach-clause-run : goal.returns-in-Ok-attach-clause-run
-returns-in-Ok-attach-clause-run g c told =
-    opened_run g.N.Work.job g.N.Work.files (g.D.Disk.history c.args.disk) (g.D.Disk.history c.attach.new.disk) _ _ (c.digest.ensures ∙ ap (λ (j : JobData). j.parts.digest) c.requires.job) (c.count-count.ensures.count ∙ ap (λ (t : RecordReel). frame_count t.events) c.timeline.ensures ∙ ap frames_of c.requires.job) (c.attach.ensures.run told)
+pub returns-in_default-clause-sound_has : goal.returns-in_default-clause-sound_has
+returns-in_default-clause-sound_has g c = sound_has g.N.Work.job (subst (λ (j : JobData). (s : sources.Files) (i : ℕ) → length (frame_file j s i) ≡ frame_size j) c.requires.job c.frame_len-size.ensures.each)
 
-pub returns-in-Ok-attach-clause-adds_none : goal.returns-in-Ok-attach-clause-adds_none
-returns-in-Ok-attach-clause-adds_none g c told =
-    opened_adds_none g.N.Work.job _ _ (c.digest.ensures ∙ ap (λ (j : JobData). j.parts.digest) c.requires.job) (c.count-count.ensures.count ∙ ap (λ (t : RecordReel). frame_count t.events) c.timeline.ensures ∙ ap frames_of c.requires.job) (g.D.Disk.history c.args.disk) (g.D.Disk.history c.attach.new.disk) (c.attach.ensures.adds_none told)
+pub returns-in-Ok-attach_for-clause-sound_has : goal.returns-in-Ok-attach_for-clause-sound_has
+returns-in-Ok-attach_for-clause-sound_has g c = sound_has g.N.Work.job (subst (λ (j : JobData). (s : sources.Files) (i : ℕ) → length (frame_file j s i) ≡ frame_size j) c.requires.job c.frame_len-size.ensures.each)
 
+pub returns-in-Err-clause-sound_has : goal.returns-in-Err-clause-sound_has
+returns-in-Err-clause-sound_has g c = sound_has g.N.Work.job (subst (λ (j : JobData). (s : sources.Files) (i : ℕ) → length (frame_file j s i) ≡ frame_size j) c.requires.job c.frame_len-size.ensures.each)
+
+-- the folder was opened
+pub returns-in-Ok-attach_for-clause-run : goal.returns-in-Ok-attach_for-clause-run
+returns-in-Ok-attach_for-clause-run g c told =
+    opened_run g.N.Work.job g.N.Work.files (g.D.Disk.history c.args.disk) (g.D.Disk.history c.attach_for.new.disk)
+    (subst (λ (j : JobData). IsOpeningRun j.parts.digest (frames_of j) (file_of j) (frame_size j) (g.D.Disk.history c.args.disk) (g.D.Disk.history c.attach_for.new.disk)) c.requires.job
+    (subst (λ n. IsOpeningRun c.args.job.now.parts.digest (frames_of c.args.job.now) (file_of c.args.job.now) n (g.D.Disk.history c.args.disk) (g.D.Disk.history c.attach_for.new.disk)) c.frame_len-size.ensures.size (c.attach_for.ensures.run told)))
+
+pub returns-in-Ok-attach_for-clause-adds_none : goal.returns-in-Ok-attach_for-clause-adds_none
+returns-in-Ok-attach_for-clause-adds_none g c told = subst (λ (j : JobData). AddsNone j.parts.digest (frames_of j) (g.D.Disk.history c.args.disk) (g.D.Disk.history c.attach_for.new.disk)) c.requires.job (c.attach_for.ensures.adds_none told)
+
+-- or not
 pub returns-in-Err-clause-run : goal.returns-in-Err-clause-run
 returns-in-Err-clause-run g c told =
-    opened_run g.N.Work.job g.N.Work.files (g.D.Disk.history c.args.disk) (g.D.Disk.history c.attach.new.disk) _ _ (c.digest.ensures ∙ ap (λ (j : JobData). j.parts.digest) c.requires.job) (c.count-count.ensures.count ∙ ap (λ (t : RecordReel). frame_count t.events) c.timeline.ensures ∙ ap frames_of c.requires.job) (c.attach.ensures.run told)
+    opened_run g.N.Work.job g.N.Work.files (g.D.Disk.history c.args.disk) (g.D.Disk.history c.attach_for.new.disk)
+    (subst (λ (j : JobData). IsOpeningRun j.parts.digest (frames_of j) (file_of j) (frame_size j) (g.D.Disk.history c.args.disk) (g.D.Disk.history c.attach_for.new.disk)) c.requires.job
+    (subst (λ n. IsOpeningRun c.args.job.now.parts.digest (frames_of c.args.job.now) (file_of c.args.job.now) n (g.D.Disk.history c.args.disk) (g.D.Disk.history c.attach_for.new.disk)) c.frame_len-size.ensures.size (c.attach_for.ensures.run told)))
 
 pub returns-in-Err-clause-adds_none : goal.returns-in-Err-clause-adds_none
-returns-in-Err-clause-adds_none g c told =
-    opened_adds_none g.N.Work.job _ _ (c.digest.ensures ∙ ap (λ (j : JobData). j.parts.digest) c.requires.job) (c.count-count.ensures.count ∙ ap (λ (t : RecordReel). frame_count t.events) c.timeline.ensures ∙ ap frames_of c.requires.job) (g.D.Disk.history c.args.disk) (g.D.Disk.history c.attach.new.disk) (c.attach.ensures.adds_none told)
+returns-in-Err-clause-adds_none g c told = subst (λ (j : JobData). AddsNone j.parts.digest (frames_of j) (g.D.Disk.history c.args.disk) (g.D.Disk.history c.attach_for.new.disk)) c.requires.job (c.attach_for.ensures.adds_none told)
+
+pub invariant_of-result : goal.invariant_of-result
+invariant_of-result g c =
+    let known = c.in-Ok-attach_for.ensures.known in
+    let size : length c.in-Ok-attach_for.ledger.gates ≡ frames_of g.N.Work.job = known.size ∙ ap frames_of c.requires.job in
+    let empty : length c.in-Ok.acks.items ≡ 0 = ap length c.in-Ok.ensures.items in
+    let room : length c.in-Ok-attach_for.ledger.gates ≤ vec_capacity c.in-Ok.acks = omega (arith, known.size, c.count.ensures.count, c.in-Ok.ensures.capacity) in (
+      record {
+        digest = known.digest_is ∙ ap (λ (j : JobData). j.parts.digest) c.requires.job;
+        size = size;
+        acked = λ j lt. absurd (omega (arith, lt, empty));
+        once = λ j k lt below. absurd (omega (arith, below, empty));
+        kept = omega (arith, empty, c.acked-kept.ensures.count);
+        agrees = λ _ told. subst (λ b. Agrees (moment_of (g.D.Disk.history c.attach_for.new.disk)) (record { digest = c.in-Ok-attach_for.ledger.digest; gates = c.in-Ok-attach_for.ledger.gates; closed = b })) known.is_open (c.in-Ok-attach_for.ensures.answer told).agrees;
+      },
+      room,
+      λ _. known.is_open,
+    )

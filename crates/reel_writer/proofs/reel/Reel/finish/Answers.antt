@@ -1,40 +1,124 @@
-use Rattle.std.proofs.Common.{ℕ, Bool, false, List, get_or, ◌∙◌, ap, arith}
+use Rattle.std.proofs.Common.{rules, ◌≡◌, ◌≢◌, ◌∙◌, ◌+◌, ◌<◌, ℕ, Bool, true, false, List, [], ◌∷◌, ◌++◌, length, get_or, set, ap, sym, subst, arith}
+use Rattle.std.specs.Prelude.{count_by}
+use Rattle.std.proofs.lemmas.List.{length-set}
+use Rattle.conform_job.specs.Job.{file_of}
+use Rattle.frame_render.specs.Frame.{FrameBytes, IsFileOf}
+use Rattle.reel_disk.specs.Runs.{Spares}
 use Rattle.resume_ledger.specs.Sound.{AddsAtMost}
-use Rattle.reel_writer.specs.Reel.{frames_of, IsReelRun}
-use Rattle.reel_writer.proofs.Keeping.{has_room, disk_along, gates_same}
-use Rattle.reel_writer.proofs.ReelLaws.{finished_run, finished_others, finished_acks}
+use Rattle.reel_disk.specs.Disk.{moment_of}
+use Rattle.resume_ledger.specs.Ledger.{LedgerState, Agrees}
+use Rattle.reel_writer.specs.View.{ReelView}
+use Rattle.reel_writer.specs.Reel.{frames_of, IsReelRun, KeepsReel, IsWrittenFile}
+use Rattle.reel_writer.proofs.Keeping.{acked_more, once_more, kept_more, has_room, disk_along, gates_same}
+use Rattle.reel_writer.proofs.ReelLaws.{finishing_of, finished_run, acked_of}
 use Rattle.reel_writer.proofs.reel.Reel.finish.Goals as goal
+
+-- it was done
+pub returns-in-Ok-clause-run : goal.returns-in-Ok-clause-run
+returns-in-Ok-clause-run g c told =
+    let index : c.index-i.result ≡ c.args.frame.now.index = c.index-i.ensures.index ∙ ap (λ (f : FrameBytes). f.index) c.frame-frame.ensures in
+    let file : c.file.result ≡ file_of g.N.Work.job c.args.frame.now.index = c.file.ensures.own ∙ ap (λ (f : FrameBytes). file_of g.N.Work.job f.index) c.frame-frame.ensures in
+    disk_along _ _ c.self.view_is (λ d. IsReelRun g.N.Work.job g.N.Work.files (g.D.Disk.history d) (g.D.Disk.history c.store.new.disk))
+    (finished_run g.N.Work.job g.N.Work.files (g.D.Disk.history c.self.inside.disk) (g.D.Disk.history c.store.new.disk) c.args.frame.now.index c.bytes.result.now
+    (subst (λ n. IsFileOf g.N.Work.job g.N.Work.files n c.bytes.result.now) (ap (λ (f : FrameBytes). f.index) c.frame-frame.ensures) c.bytes.ensures.defined)
+    (finishing_of g.N.Work.job c.self.inside.ledger.digest (length c.self.inside.ledger.gates) c.index-i.result c.args.frame.now.index c.file.result c.bytes.result.now (g.D.Disk.history c.self.inside.disk) (g.D.Disk.history c.store.new.disk)
+    c.self.invariant.0.digest c.self.invariant.0.size index file (c.store.ensures.finishing told)))
+
+pub returns-in-Ok-clause-none_lost : goal.returns-in-Ok-clause-none_lost
+returns-in-Ok-clause-none_lost g c told =
+    let index : c.index-i.result ≡ c.args.frame.now.index = c.index-i.ensures.index ∙ ap (λ (f : FrameBytes). f.index) c.frame-frame.ensures in
+    let file : c.file.result ≡ file_of g.N.Work.job c.args.frame.now.index = c.file.ensures.own ∙ ap (λ (f : FrameBytes). file_of g.N.Work.job f.index) c.frame-frame.ensures in
+    disk_along _ _ c.self.view_is (λ d. KeepsReel g.N.Work.job (g.D.Disk.history d) (g.D.Disk.history c.store.new.disk)) (finishing_of g.N.Work.job c.self.inside.ledger.digest (length c.self.inside.ledger.gates) c.index-i.result c.args.frame.now.index c.file.result c.bytes.result.now (g.D.Disk.history c.self.inside.disk) (g.D.Disk.history c.store.new.disk)
+    c.self.invariant.0.digest c.self.invariant.0.size index file (c.store.ensures.finishing told)).keeps
+
+pub returns-in-Ok-clause-others : goal.returns-in-Ok-clause-others
+returns-in-Ok-clause-others g c told =
+    let index : c.index-i.result ≡ c.args.frame.now.index = c.index-i.ensures.index ∙ ap (λ (f : FrameBytes). f.index) c.frame-frame.ensures in
+    let file : c.file.result ≡ file_of g.N.Work.job c.args.frame.now.index = c.file.ensures.own ∙ ap (λ (f : FrameBytes). file_of g.N.Work.job f.index) c.frame-frame.ensures in
+    disk_along _ _ c.self.view_is (λ d. AddsAtMost c.args.frame.now.index g.N.Work.job.parts.digest (frames_of g.N.Work.job) (g.D.Disk.history d) (g.D.Disk.history c.store.new.disk)) (finishing_of g.N.Work.job c.self.inside.ledger.digest (length c.self.inside.ledger.gates) c.index-i.result c.args.frame.now.index c.file.result c.bytes.result.now (g.D.Disk.history c.self.inside.disk) (g.D.Disk.history c.store.new.disk)
+    c.self.invariant.0.digest c.self.invariant.0.size index file (c.store.ensures.finishing told)).others
+
+pub returns-in-Ok-clause-spares : goal.returns-in-Ok-clause-spares
+returns-in-Ok-clause-spares g c told =
+    let index : c.index-i.result ≡ c.args.frame.now.index = c.index-i.ensures.index ∙ ap (λ (f : FrameBytes). f.index) c.frame-frame.ensures in
+    let file : c.file.result ≡ file_of g.N.Work.job c.args.frame.now.index = c.file.ensures.own ∙ ap (λ (f : FrameBytes). file_of g.N.Work.job f.index) c.frame-frame.ensures in
+    disk_along _ _ c.self.view_is (λ d. Spares (g.D.Disk.history d) (g.D.Disk.history c.store.new.disk) (IsWrittenFile (file_of g.N.Work.job c.args.frame.now.index))) (finishing_of g.N.Work.job c.self.inside.ledger.digest (length c.self.inside.ledger.gates) c.index-i.result c.args.frame.now.index c.file.result c.bytes.result.now (g.D.Disk.history c.self.inside.disk) (g.D.Disk.history c.store.new.disk)
+    c.self.invariant.0.digest c.self.invariant.0.size index file (c.store.ensures.finishing told)).spares
+
+-- the disk failed
+pub returns-in-Err-clause-run : goal.returns-in-Err-clause-run
+returns-in-Err-clause-run g c told =
+    let index : c.index-i.result ≡ c.args.frame.now.index = c.index-i.ensures.index ∙ ap (λ (f : FrameBytes). f.index) c.frame-frame.ensures in
+    let file : c.file.result ≡ file_of g.N.Work.job c.args.frame.now.index = c.file.ensures.own ∙ ap (λ (f : FrameBytes). file_of g.N.Work.job f.index) c.frame-frame.ensures in
+    disk_along _ _ c.self.view_is (λ d. IsReelRun g.N.Work.job g.N.Work.files (g.D.Disk.history d) (g.D.Disk.history c.store.new.disk))
+    (finished_run g.N.Work.job g.N.Work.files (g.D.Disk.history c.self.inside.disk) (g.D.Disk.history c.store.new.disk) c.args.frame.now.index c.bytes.result.now
+    (subst (λ n. IsFileOf g.N.Work.job g.N.Work.files n c.bytes.result.now) (ap (λ (f : FrameBytes). f.index) c.frame-frame.ensures) c.bytes.ensures.defined)
+    (finishing_of g.N.Work.job c.self.inside.ledger.digest (length c.self.inside.ledger.gates) c.index-i.result c.args.frame.now.index c.file.result c.bytes.result.now (g.D.Disk.history c.self.inside.disk) (g.D.Disk.history c.store.new.disk)
+    c.self.invariant.0.digest c.self.invariant.0.size index file (c.store.ensures.finishing told)))
+
+pub returns-in-Err-clause-none_lost : goal.returns-in-Err-clause-none_lost
+returns-in-Err-clause-none_lost g c told =
+    let index : c.index-i.result ≡ c.args.frame.now.index = c.index-i.ensures.index ∙ ap (λ (f : FrameBytes). f.index) c.frame-frame.ensures in
+    let file : c.file.result ≡ file_of g.N.Work.job c.args.frame.now.index = c.file.ensures.own ∙ ap (λ (f : FrameBytes). file_of g.N.Work.job f.index) c.frame-frame.ensures in
+    disk_along _ _ c.self.view_is (λ d. KeepsReel g.N.Work.job (g.D.Disk.history d) (g.D.Disk.history c.store.new.disk)) (finishing_of g.N.Work.job c.self.inside.ledger.digest (length c.self.inside.ledger.gates) c.index-i.result c.args.frame.now.index c.file.result c.bytes.result.now (g.D.Disk.history c.self.inside.disk) (g.D.Disk.history c.store.new.disk)
+    c.self.invariant.0.digest c.self.invariant.0.size index file (c.store.ensures.finishing told)).keeps
+
+pub returns-in-Err-clause-others : goal.returns-in-Err-clause-others
+returns-in-Err-clause-others g c told =
+    let index : c.index-i.result ≡ c.args.frame.now.index = c.index-i.ensures.index ∙ ap (λ (f : FrameBytes). f.index) c.frame-frame.ensures in
+    let file : c.file.result ≡ file_of g.N.Work.job c.args.frame.now.index = c.file.ensures.own ∙ ap (λ (f : FrameBytes). file_of g.N.Work.job f.index) c.frame-frame.ensures in
+    disk_along _ _ c.self.view_is (λ d. AddsAtMost c.args.frame.now.index g.N.Work.job.parts.digest (frames_of g.N.Work.job) (g.D.Disk.history d) (g.D.Disk.history c.store.new.disk)) (finishing_of g.N.Work.job c.self.inside.ledger.digest (length c.self.inside.ledger.gates) c.index-i.result c.args.frame.now.index c.file.result c.bytes.result.now (g.D.Disk.history c.self.inside.disk) (g.D.Disk.history c.store.new.disk)
+    c.self.invariant.0.digest c.self.invariant.0.size index file (c.store.ensures.finishing told)).others
+
+pub returns-in-Err-clause-spares : goal.returns-in-Err-clause-spares
+returns-in-Err-clause-spares g c told =
+    let index : c.index-i.result ≡ c.args.frame.now.index = c.index-i.ensures.index ∙ ap (λ (f : FrameBytes). f.index) c.frame-frame.ensures in
+    let file : c.file.result ≡ file_of g.N.Work.job c.args.frame.now.index = c.file.ensures.own ∙ ap (λ (f : FrameBytes). file_of g.N.Work.job f.index) c.frame-frame.ensures in
+    disk_along _ _ c.self.view_is (λ d. Spares (g.D.Disk.history d) (g.D.Disk.history c.store.new.disk) (IsWrittenFile (file_of g.N.Work.job c.args.frame.now.index))) (finishing_of g.N.Work.job c.self.inside.ledger.digest (length c.self.inside.ledger.gates) c.index-i.result c.args.frame.now.index c.file.result c.bytes.result.now (g.D.Disk.history c.self.inside.disk) (g.D.Disk.history c.store.new.disk)
+    c.self.invariant.0.digest c.self.invariant.0.size index file (c.store.ensures.finishing told)).spares
+
+pub returns-in-Ok-clause-acked : goal.returns-in-Ok-clause-acked
+returns-in-Ok-clause-acked g c told =
+    let index : c.index-i.result ≡ c.args.frame.now.index = c.index-i.ensures.index ∙ ap (λ (f : FrameBytes). f.index) c.frame-frame.ensures in
+    acked_of g.N.Work.job _ _ c.index-i.result c.args.frame.now.index _ c.self.invariant.0.digest c.self.invariant.0.size index (c.in-Ok.ensures.acked told)
 
 pub push_within-requires : goal.push_within-requires
 push_within-requires g c =
     let of = c.self.invariant.0 in
     let below = c.index-i.ensures.below in
     let size = of.size in
+    let index : c.index-i.result ≡ c.args.frame.now.index = c.index-i.ensures.index ∙ ap (λ (f : FrameBytes). f.index) c.frame-frame.ensures in
     has_room g.N.Work.job g.D.Disk.tells g.D.Disk.history _ of c.index-i.result (omega (arith, below, size))
-    (ap (λ (l : List Bool). get_or l c.index-i.result false) (gates_same _ _ c.self.view_is) ∙ ap (λ (n : ℕ). get_or c.args.self.now.ledger.gates n false) c.index-i.ensures.index ∙ c.requires.fresh)
+    (ap (λ (l : List Bool). get_or l c.index-i.result false) (gates_same _ _ c.self.view_is) ∙ ap (λ n. get_or c.args.self.now.ledger.gates n false) index ∙ c.requires.fresh)
     _ _ c.self.inside.acks.ok.0 c.self.invariant.1
 
-pub returns-in-Ok-clause-run : goal.returns-in-Ok-clause-run
-returns-in-Ok-clause-run g c told =
-    disk_along _ _ c.self.view_is (λ d. IsReelRun g.N.Work.job g.N.Work.files (g.D.Disk.history d) (g.D.Disk.history c.store.new.disk))
-    (finished_run g.N.Work.job g.N.Work.files (g.D.Disk.history c.self.inside.disk) (g.D.Disk.history c.store.new.disk) _ _ _ c.args.frame.now.index _ _ c.self.invariant.0.digest c.self.invariant.0.size c.index-i.ensures.index c.file.ensures.own c.bytes.ensures.defined
-    (c.store.ensures.past told) (c.store.ensures.none_lost told) (c.store.ensures.sound told))
+pub store-requires-clause-agrees : goal.store-requires-clause-agrees
+store-requires-clause-agrees g c told =
+    let shut : c.self.inside.closed ≡ false = ap (λ (r : ReelView _). r.ledger.closed) c.self.view_is ∙ c.requires.is_open in
+    let open_ledger : c.self.inside.ledger.closed ≡ false = c.self.invariant.2 shut in
+    subst (λ b. Agrees (moment_of (g.D.Disk.history c.self.inside.disk)) (record { digest = c.self.inside.ledger.digest; gates = c.self.inside.ledger.gates; closed = b })) (shut ∙ sym open_ledger) (c.self.invariant.0.agrees shut told)
 
-pub returns-in-Ok-clause-others : goal.returns-in-Ok-clause-others
-returns-in-Ok-clause-others g c told =
-    disk_along _ _ c.self.view_is (λ d. AddsAtMost c.args.frame.now.index g.N.Work.job.parts.digest (frames_of g.N.Work.job) (g.D.Disk.history d) (g.D.Disk.history c.store.new.disk))
-    (finished_others g.N.Work.job _ _ c.self.invariant.0.digest c.self.invariant.0.size _ c.args.frame.now.index c.index-i.ensures.index (g.D.Disk.history c.self.inside.disk) (g.D.Disk.history c.store.new.disk) (c.store.ensures.others told))
-
-pub returns-in-Ok-clause-acked : goal.returns-in-Ok-clause-acked
-returns-in-Ok-clause-acked g c told = finished_acks g.N.Work.job _ _ c.self.invariant.0.digest c.self.invariant.0.size _ c.args.frame.now.index c.index-i.ensures.index _ (c.in-Ok.ensures.acked told)
-
-pub returns-in-Err-clause-run : goal.returns-in-Err-clause-run
-returns-in-Err-clause-run g c told =
-    disk_along _ _ c.self.view_is (λ d. IsReelRun g.N.Work.job g.N.Work.files (g.D.Disk.history d) (g.D.Disk.history c.store.new.disk))
-    (finished_run g.N.Work.job g.N.Work.files (g.D.Disk.history c.self.inside.disk) (g.D.Disk.history c.store.new.disk) _ _ _ c.args.frame.now.index _ _ c.self.invariant.0.digest c.self.invariant.0.size c.index-i.ensures.index c.file.ensures.own c.bytes.ensures.defined
-    (c.store.ensures.past told) (c.store.ensures.none_lost told) (c.store.ensures.sound told))
-
-pub returns-in-Err-clause-others : goal.returns-in-Err-clause-others
-returns-in-Err-clause-others g c told =
-    disk_along _ _ c.self.view_is (λ d. AddsAtMost c.args.frame.now.index g.N.Work.job.parts.digest (frames_of g.N.Work.job) (g.D.Disk.history d) (g.D.Disk.history c.store.new.disk))
-    (finished_others g.N.Work.job _ _ c.self.invariant.0.digest c.self.invariant.0.size _ c.args.frame.now.index c.index-i.ensures.index (g.D.Disk.history c.self.inside.disk) (g.D.Disk.history c.store.new.disk) (c.store.ensures.others told))
+pub invariant_of-self : goal.invariant_of-self
+invariant_of-self g c =
+    let of = c.self.invariant.0 in
+    let shut : c.self.inside.closed ≡ false = ap (λ (r : ReelView _). r.ledger.closed) c.self.view_is ∙ c.requires.is_open in
+    let open_ledger : c.self.inside.ledger.closed ≡ false = c.self.invariant.2 shut in
+    let index : c.index-i.result ≡ c.args.frame.now.index = c.index-i.ensures.index ∙ ap (λ (f : FrameBytes). f.index) c.frame-frame.ensures in
+    let below = c.index-i.ensures.below in
+    let size = of.size in
+    let within : c.index-i.result < length c.self.inside.ledger.gates = omega (arith, below, size) in
+    let fresh = ap (λ (l : List Bool). get_or l c.index-i.result false) (gates_same _ _ c.self.view_is) ∙ ap (λ n. get_or c.args.self.now.ledger.gates n false) index ∙ c.requires.fresh in
+    let gates : c.store.new.ledger.gates ≡ set c.self.inside.ledger.gates c.index-i.result true = ap (λ (l : LedgerState). l.gates) c.in-Ok.ensures.ledger in
+    let acks : c.push_within.new.list.items ≡ c.self.inside.acks.items ++ c.index-i.result ∷ [] = c.push_within.ensures.items in (
+      record {
+        digest = ap (λ (l : LedgerState). l.digest) c.in-Ok.ensures.ledger ∙ of.digest;
+        size = ap length gates ∙ length-set c.self.inside.ledger.gates c.index-i.result true ∙ of.size;
+        acked = subst (λ (l : List Bool). (j : ℕ) → j < length c.push_within.new.list.items → get_or l (get_or c.push_within.new.list.items j 0) false ≡ true) (sym gates)
+            (subst (λ (a : List ℕ). (j : ℕ) → j < length a → get_or (set c.self.inside.ledger.gates c.index-i.result true) (get_or a j 0) false ≡ true) (sym acks) (acked_more g.N.Work.job g.D.Disk.tells g.D.Disk.history _ of c.index-i.result within fresh));
+        once = subst (λ (a : List ℕ). (j k : ℕ) → j < k → k < length a → get_or a j 0 ≢ get_or a k 0) (sym acks) (once_more g.N.Work.job g.D.Disk.tells g.D.Disk.history _ of c.index-i.result within fresh);
+        kept = ap (λ (a : List ℕ). c.self.inside.kept + length a) acks ∙ kept_more g.N.Work.job g.D.Disk.tells g.D.Disk.history _ of c.index-i.result within fresh ∙ sym (ap (λ (l : List Bool). count_by (λ gate. gate) l) gates);
+        agrees = λ _ told. subst (λ b. Agrees (moment_of (g.D.Disk.history c.store.new.disk)) (record { digest = c.store.new.ledger.digest; gates = c.store.new.ledger.gates; closed = b })) (ap (λ (l : LedgerState). l.closed) c.in-Ok.ensures.ledger ∙ open_ledger ∙ sym shut) (c.in-Ok.ensures.agrees told);
+      },
+      search rules,
+      λ _. ap (λ (l : LedgerState). l.closed) c.in-Ok.ensures.ledger ∙ open_ledger,
+    )

@@ -1,0 +1,9 @@
+use Rattle.reel_disk.specs.Disk.{view_of}
+use Rattle.reel_writer.proofs.Checking.{sound_intact}
+use Rattle.reel_writer.proofs.damage.check.Goals as goal
+
+pub returns-in_default-clause-intact : goal.returns-in_default-clause-intact
+returns-in_default-clause-intact g c told world = sound_intact c.args.job.now c.args.view.now (view_of (g.D.Disk.history c.args.disk.now)) world
+
+pub returns-clause-intact : goal.returns-clause-intact
+returns-clause-intact g c told world = sound_intact c.args.job.now c.args.view.now (view_of (g.D.Disk.history c.args.disk.now)) world

@@ -1,0 +1,137 @@
+//! A check of a reel's files against the ledger's records.
+ghost use Rattle.std.specs.Prelude.{◌≡◌, ◌≢◌, ◌+◌, ◌<◌, ◌≤◌, true, length, IsErrOf, Err};
+ghost use Rattle.cf_base.specs.Count.{HasCause};
+ghost use Rattle.scan_source.specs.World.{World};
+ghost use Rattle.reel_disk.specs.Disk.{view_of, IsStill};
+ghost use Rattle.resume_ledger.specs.Look.{hash_at, IsViewOf};
+ghost use Rattle.reel_writer.specs.Reel.{frames_of, IsSoundReel};
+ghost use Rattle.reel_writer.specs.Damage.{AreIntact, HasChecked, IsCheckFor, HasCheckedOne, IsCheckOneFor};
+
+use conform_job::Job;
+use reel_disk::{Disk, DiskFault};
+use resume_ledger::{LedgerView, digest_of_file};
+use std::alloc::Global;
+
+/// Why a check found no whole reel.
+#[derive(Clone, Copy, Debug, PartialEq, Eq)]
+pub enum CheckFault {
+    /// The first frame, from 0, whose file has another SHA-256 than the ledger keeps of it: the
+    /// record, and what was found.
+    Damaged {
+        frame: u32,
+        kept: [u8; 32],
+        found: [u8; 32],
+    },
+    /// The disk failed.
+    DiskFault,
+    /// No memory was left.
+    NoMemory,
+}
+
+/// Reads the file of each frame that has a record, in order, and compares its SHA-256 (FIPS 180-4)
+/// with the record. An absent file counts as no bytes. Answers how many frames have a record. It
+/// only reads.
+///
+/// `Damaged` comes exactly at the first frame where the two differ. `DiskFault` comes only where the
+/// disk's count of faults rose.
+pub fn check<D: Disk>(
+    alloc: Global,
+    disk: &mut D,
+    job: &Job,
+    view: &LedgerView,
+) -> Result<u32, CheckFault>
+    requires size { length view.now.gates ≡ frames_of job.now }
+    ensures answer { D.tells ≡ true
+        → HasChecked job.now view.now (view_of (D.history disk.old)) result }
+
+    // Where the folder is sound, and the view is what it acknowledges, no frame is damaged.
+    ensures intact { D.tells ≡ true → (world : World)
+        → IsViewOf job.now.parts.digest (frames_of job.now) (view_of (D.history disk.old)) view.now
+        → IsSoundReel job.now world (view_of (D.history disk.old))
+        → AreIntact job.now view.now (view_of (D.history disk.old)) (frames_of job.now) }
+
+    // What the disk holds stays as it is, at every moment and whatever the answer is.
+    ensures still { D.tells ≡ true → IsStill (D.history disk.old) (D.history disk.new) }
+
+    // The number of records, and which frame is damaged, are known over every disk.
+    ensures known { IsCheckFor job.now view.now result }
+    ensures same { D.same disk.old disk.new }
+    ensures cause { HasCause (D.faults disk.old) (D.faults disk.new)
+        (IsErrOf result CheckFault.DiskFault) }
+    ensures steady { result ≢ Err CheckFault.DiskFault
+        → D.faults disk.new ≡ D.faults disk.old }
+{
+    let Ok(mut piece) = vec![in alloc; 0u8; 65536] else {
+        return Err(CheckFault::NoMemory);
+    };
+    check_all(disk, job, view, &mut piece)
+}
+
+/// Checks all frames.
+fn check_all<D: Disk>(
+    disk: &mut D,
+    job: &Job,
+    view: &LedgerView,
+    piece: &mut [u8],
+) -> Result<u32, CheckFault>
+    requires size { length view.now.gates ≡ frames_of job.now }
+    requires piece { length piece.old ≡ 65536 }
+    ensures answer { D.tells ≡ true
+        → HasChecked job.now view.now (view_of (D.history disk.old)) result }
+    ensures still { D.tells ≡ true → IsStill (D.history disk.old) (D.history disk.new) }
+    ensures known { IsCheckFor job.now view.now result }
+    ensures same { D.same disk.old disk.new }
+    ensures cause { HasCause (D.faults disk.old) (D.faults disk.new)
+        (IsErrOf result CheckFault.DiskFault) }
+    ensures steady { result ≢ Err CheckFault.DiskFault
+        → D.faults disk.new ≡ D.faults disk.old }
+{
+    let mut records = 0;
+    for i in 0..job.count() {
+        match check_one(disk, job, view, i, piece) {
+            Ok(more) => records += more,
+            Err(fault) => return Err(fault),
+        }
+    }
+    Ok(records)
+}
+
+/// Checks a frame: whether it has a record, 1 or 0.
+fn check_one<D: Disk>(
+    disk: &mut D,
+    job: &Job,
+    view: &LedgerView,
+    i: u32,
+    piece: &mut [u8],
+) -> Result<u32, CheckFault>
+    requires size { length view.now.gates ≡ frames_of job.now }
+    requires within { i < frames_of job.now }
+    requires piece { length piece.old ≡ 65536 }
+    ensures answer { D.tells ≡ true
+        → HasCheckedOne job.now view.now (view_of (D.history disk.old)) i result }
+    ensures still { D.tells ≡ true → IsStill (D.history disk.old) (D.history disk.new) }
+    ensures known { IsCheckOneFor view.now i result }
+    ensures piece { length piece.new ≡ 65536 }
+    ensures same { D.same disk.old disk.new }
+    ensures cause { HasCause (D.faults disk.old) (D.faults disk.new)
+        (IsErrOf result CheckFault.DiskFault) }
+    ensures steady { result ≢ Err CheckFault.DiskFault
+        → D.faults disk.new ≡ D.faults disk.old }
+{
+    let Some(kept) = view.hash_of(i) else {
+        return Ok(0);
+    };
+    let found = match digest_of_file(disk, job.file_of(i), piece) {
+        Ok(found) => found,
+        Err(DiskFault) => return Err(CheckFault::DiskFault),
+    };
+    if kept == found {
+        Ok(1)
+    } else {
+        Err(CheckFault::Damaged {
+            frame: i,
+            kept,
+            found,
+        })
+    }
+}

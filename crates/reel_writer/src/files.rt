@@ -1,0 +1,79 @@
+//! The files of a job's frames.
+ghost use Rattle.std.specs.Prelude.{◌≡◌, ◌≢◌, ◌<◌, ◌≤◌, ℕ, true, length, IfOk, IsErrOf, Err};
+ghost use Rattle.cf_base.specs.Count.{HasCause};
+ghost use Rattle.conform_job.specs.Job.{file_of};
+ghost use Rattle.conform_job.specs.Refusals.{Files as Sources};
+ghost use Rattle.frame_render.specs.Frame.{frame_file, frame_size};
+ghost use Rattle.reel_disk.specs.Disk.{view_of};
+ghost use Rattle.reel_disk.specs.Runs.{Narrows, Spares};
+ghost use Rattle.resume_ledger.specs.Ledger.{IsInForce, IsLedgerFile, IsWrittenLedgerFile};
+ghost use Rattle.resume_ledger.specs.Sound.{file_at, IsOpeningRun, AddsNone, WritesOnly};
+ghost use Rattle.resume_ledger.specs.Attach.{HasAttached, IsAnswerTo};
+ghost use Rattle.reel_writer.specs.Reel.{frames_of};
+
+use cf_base::FileId;
+use conform_job::Job;
+use reel_disk::Disk;
+use resume_ledger::{Ledger, OpenFault, Version};
+use std::alloc::{AllocError, Global};
+
+/// The files of a job's frames, in order.
+pub(crate) fn files_of(alloc: Global, job: &Job) -> Result<Vec<FileId>, AllocError>
+    ensures size { IfOk result (λ files. length files.items ≡ frames_of job.now) }
+    ensures each { IfOk result (λ files. (i : ℕ) → i < frames_of job.now
+        → file_at files.items i ≡ file_of job.now i) }
+    ensures some { IfOk result (λ files. 1 ≤ length files.items) }
+    ensures most { IfOk result (λ files. length files.items ≤ 262144) }
+{
+    let mut files = Vec::new(alloc);
+    for i in 0..job.timeline().count() {
+        files.push(job.file_of(i))?;
+    }
+    Ok(files)
+}
+
+/// Opens a folder for a job whose frame files have that length.
+pub(crate) fn attach_for<D: Disk>(
+    alloc: Global,
+    disk: &mut D,
+    job: &Job,
+    size: u64,
+) -> Result<Ledger, OpenFault>
+    ensures answer { D.tells ≡ true
+        → HasAttached job.now.parts.digest (frames_of job.now) (file_of job.now) size
+        (D.history disk.old) (D.history disk.new) result }
+    ensures run { D.tells ≡ true
+        → IsOpeningRun job.now.parts.digest (frames_of job.now) (file_of job.now) size
+        (D.history disk.old) (D.history disk.new) }
+    ensures adds_none { D.tells ≡ true
+        → AddsNone job.now.parts.digest (frames_of job.now) (D.history disk.old)
+        (D.history disk.new) }
+    ensures only_reads { D.tells ≡ true → IsInForce Version.Two (view_of (D.history disk.old))
+        → Narrows (D.history disk.old) (D.history disk.new) }
+    ensures writes { D.tells ≡ true
+        → WritesOnly (D.history disk.old) (D.history disk.new) IsWrittenLedgerFile }
+    ensures spares { D.tells ≡ true
+        → Spares (D.history disk.old) (D.history disk.new) IsLedgerFile }
+    ensures known { IsAnswerTo job.now.parts.digest (frames_of job.now) result }
+    ensures same { D.same disk.old disk.new }
+    ensures cause { HasCause (D.faults disk.old) (D.faults disk.new)
+        (IsErrOf result OpenFault.DiskFault) }
+    ensures steady { result ≢ Err OpenFault.DiskFault → D.faults disk.new ≡ D.faults disk.old }
+{
+    let Ok(files) = files_of(alloc, job) else {
+        return Err(OpenFault::NoMemory);
+    };
+    Ledger::attach(alloc, disk, job.digest(), &files, size)
+}
+
+/// The length of the file of a frame, in bytes: 2048 of header and four for each pixel.
+pub(crate) fn frame_len(job: &Job) -> u64
+    ensures size { result ≡ frame_size job.now }
+    ensures each { (sources : Sources) (i : ℕ) → length (frame_file job.now sources i) ≡ frame_size job.now }
+{
+    // What holds of every job, with the bounds of its size, is said of its count, and how long its
+    // title may be, of the title's bytes.
+    let _ = job.count();
+    let _ = job.project().title.bytes();
+    2048 + 4 * (job.width() as u64 * job.height() as u64)
+}

@@ -1,0 +1,30 @@
+use Rattle.std.proofs.Common.{rules, ◌∙◌, ℕ, false, get_or, sym, subst, arith, inl, inr}
+use Rattle.std.proofs.lemmas.Bool.{cases_eq}
+use Rattle.reel_disk.specs.Disk.{Moment, view_of}
+use Rattle.resume_ledger.specs.Sound.{file_at}
+use Rattle.resume_ledger.specs.Steps.{IsRecorded}
+use Rattle.resume_ledger.proofs.Reading.{still_along}
+use Rattle.resume_ledger.proofs.Recording.{recorded_on}
+use Rattle.resume_ledger.proofs.older.record_all.Goals as goal
+
+pub loop-i-preserved : goal.loop-i-preserved
+loop-i-preserved g c =
+    let kept = c.loop-i.invariant in
+    let others = c.in-Ok.ensures.others in
+    record {
+      still = λ told. still_along _ _ _ (kept.still told) (c.in-Ok.ensures.still told);
+      size = others.size ∙ kept.size;
+      head = others.head ∙ kept.head;
+      done = λ told k lt.
+          let Recorded : ℕ → Type 0 = λ n. IsRecorded (get_or c.args.gates.now n false) (view_of (g.D.Disk.history c.args.disk.now) (file_at c.args.files.now n)) c.args.size c.record_one.new.body n in
+          elim (cases_eq k c.loop-i.i) [
+            | inl is ↦
+                let here : Recorded c.loop-i.i = subst (λ (m : Moment). IsRecorded (get_or c.args.gates.now c.loop-i.i false) (m.view (file_at c.args.files.now c.loop-i.i)) c.args.size c.record_one.new.body c.loop-i.i) (kept.still told).same (c.in-Ok.ensures.recorded told) in
+                subst Recorded (sym is) here
+            | inr other ↦ recorded_on _ _ _ c.loop-i.body c.record_one.new.body c.loop-i.i k others other (kept.done told k (let le = lt in omega (arith, le, other)))
+          ];
+      closed = λ k le lt is. kept.closed k (omega (arith, le)) lt (sym (others.gates k (λ e. omega (arith, le, e))) ∙ is);
+      piece = search rules;
+      same = search rules;
+      faults = search rules;
+    }
