@@ -46,7 +46,7 @@ module _ {S : Type 0} (world_of : S → Option World) (faults loads heads : S �
         (subst (λ told. RunsJob words told disk.tells world job) one.tells runs)
 
     pub alone_complete : OneJob → (command : Command) (world : World) → Spells words command → told_by world_of scans ≡ Some world → IsAccepted command world disk
-        → (HasFailed world_of faults loads same scans scans_after → ⊥) → HasNotRisen disk.faults disk_after.faults → HasNotRisen sink.faults sink_after.faults → IsComplete result
+        → (HasFailed world_of faults loads same scans scans_after → ⊥) → HasNotRisen disk.faults disk_after.faults → HasNotRisen sink.faults sink_after.faults → IsComplete command result
     alone_complete laws command world spells is accepted scans_steady =
         answered_complete laws words (scan_state world_of faults loads heads one.first) (scan_state world_of faults loads heads one.last) disk disk_after sink sink_after result one.answered
         command world spells (sym one.tells ∙ is) accepted (λ risen. scans_steady (one.failed risen))

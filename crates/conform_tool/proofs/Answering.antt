@@ -1,12 +1,16 @@
 -- From a reply to the answer.
-use Rattle.std.proofs.Common.{◌≡◌, ◌≢◌, ℕ, List, Option, Some, None, MatchOption, refl, subst, inl, inr}
+use Rattle.std.proofs.Common.{◌≡◌, ◌≢◌, ℕ, List, Option, Some, None, MatchOption, MatchResult, Result, Ok, Err, refl, subst, inl, inr}
+use Rattle.std.specs.Prelude.{◌⊎◌}
 use Rattle.scan_source.specs.World.{World}
 use Rattle.conform_tool.specs.Answer.{SinkState, IsPut, IsLinePut, IsUnread, Answered}
 use Rattle.command_words.specs.Commands.{Spells, IsNoCommand}
 use Rattle.outcome_line.specs.Output.{line_of, IsMade}
 use Rattle.conform_tool.specs.Reply.{ScanState, IsKindOf, UsesDisk, IsWholeReply}
 use Rattle.project_run.specs.Run.{DiskState, IsRunReply}
-use Rattle.project_run.specs.Status.{IsStatusReply}
+use Rattle.project_run.specs.Status.{IsStatusReply, outcome_of_fault}
+use Rattle.project_run.specs.Verify.{IsChecked, IsVerifyReply}
+use Rattle.resume_ledger.specs.Look.{ViewState}
+use Rattle.resume_ledger.specs.declared.attach.OpenFault.{OpenFault}
 use Rattle.command_words.specs.declared.command.Command.{Command}
 use Rattle.command_words.specs.declared.command.Command.TheVariants as commands
 use Rattle.outcome_line.specs.declared.outcome.Outcome.{Outcome}
@@ -108,6 +112,34 @@ status_instead told path disk disk_after loads loads_after reached output (inl h
 })
 status_instead told path disk disk_after loads loads_after reached output (inr none) = inr (record { why = told_any told (λ world. tt); kind = tt; untouched = none.untouched; texts = none.texts })
 
+verify_instead : (told : Option World) (path : List ℕ) (disk disk_after : DiskState) (loads loads_after : ℕ) (reached : Outcome) (output : List ℕ)
+    → IsVerifyReply told path disk disk_after loads loads_after reached output → IsVerifyReply told path disk disk_after loads loads_after outcomes.NoMemory (line_of outcomes.NoMemory)
+verify_instead told path disk disk_after loads loads_after reached output (inl has) = inl (record {
+  job = has.job;
+  comes = has.comes;
+  texts = has.texts;
+  verified = record {
+    ledger = has.verified.ledger;
+    looked = has.verified.looked;
+    known = has.verified.known;
+    checked = by has.verified.ledger has.verified.checked;
+    still = has.verified.still;
+  };
+})
+  where
+    by : (ledger : Result ViewState OpenFault) → MatchResult ledger (λ view. IsChecked has.job view disk reached output) (λ fault. (reached ≡ outcome_of_fault fault) ⊎ (reached ≡ outcomes.NoMemory))
+        → MatchResult ledger (λ view. IsChecked has.job view disk outcomes.NoMemory (line_of outcomes.NoMemory)) (λ fault. (outcomes.NoMemory ≡ outcome_of_fault fault) ⊎ (outcomes.NoMemory ≡ outcomes.NoMemory))
+    by (Ok view) checked = record {
+      answer = checked.answer;
+      checked = checked.checked;
+      known = checked.known;
+      reached_is = inr refl;
+      form = λ same. absurd (cc);
+      intact = λ tells world sound frame kept found same. absurd (cc);
+    }
+    by (Err fault) refused = inr refl
+verify_instead told path disk disk_after loads loads_after reached output (inr none) = inr (record { why = told_any told (λ world. tt); kind = tt; untouched = none.untouched; texts = none.texts })
+
 folder_instead : (command : Command) (before after : ScanState) (disk disk_after : DiskState) (reached : Outcome) (output : List ℕ)
     → UsesDisk command before after disk disk_after reached output → UsesDisk command before after disk disk_after outcomes.NoMemory (line_of outcomes.NoMemory)
 folder_instead (commands.Frame path) before after disk disk_after reached output uses = uses
@@ -115,6 +147,7 @@ folder_instead (commands.List path rate) before after disk disk_after reached ou
 folder_instead (commands.Plan path) before after disk disk_after reached output uses = uses
 folder_instead (commands.Run path workers share) before after disk disk_after reached output uses = run_instead before.world path disk disk_after before.loads after.loads reached output uses
 folder_instead (commands.Status path) before after disk disk_after reached output uses = status_instead before.world path disk disk_after before.loads after.loads reached output uses
+folder_instead (commands.Verify path) before after disk disk_after reached output uses = verify_instead before.world path disk disk_after before.loads after.loads reached output uses
 folder_instead (commands.Demo count) before after disk disk_after reached output uses = uses
 
 -- an outcome whose line found no memory

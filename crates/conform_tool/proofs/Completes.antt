@@ -1,5 +1,5 @@
 -- Completeness: where nothing stands in the way of a command and no count rose, all causes but want of memory are shut out.
-use Rattle.std.proofs.Common.{◌≡◌, ◌≢◌, ℕ, Bool, true, List, Option, Some, None, IfSome, MatchOption, Result, Ok, Err, refl, sym, ap, subst, ◌∙◌, inl, inr}
+use Rattle.std.proofs.Common.{◌≡◌, ◌≢◌, ℕ, Bool, true, List, Option, Some, None, IfSome, MatchOption, MatchResult, Result, Ok, Err, refl, sym, ap, subst, ◌∙◌, inl, inr}
 use Rattle.std.specs.Prelude.{◌⊎◌, IsOk, IsSomeAnd}
 use Rattle.std.proofs.lemmas.Option.{same_Some}
 use Rattle.cf_base.specs.declared.reel.ReelEntry.{ReelEntry}
@@ -13,13 +13,16 @@ use Rattle.record_timeline.specs.Accepted.{frame_count}
 use Rattle.frame_share.specs.declared.step.ShareStep.{ShareStep}
 use Rattle.reel_disk.specs.Disk.{History, view_of}
 use Rattle.render_board.specs.declared.step.Step.{Step}
-use Rattle.resume_ledger.specs.Attach.{IsOtherJob, IsBadLedger}
+use Rattle.resume_ledger.specs.Attach.{IsOtherJob, IsBadLedger, IsRefused}
 use Rattle.resume_ledger.specs.Body.{digest_of}
 use Rattle.resume_ledger.specs.Ledger.{IsFit}
+use Rattle.resume_ledger.specs.Look.{ViewState, HasLooked}
 use Rattle.resume_ledger.specs.Peek.{HasPeeked}
 use Rattle.resume_ledger.specs.declared.attach.OpenFault.{OpenFault}
 use Rattle.resume_ledger.specs.declared.attach.OpenFault.TheVariants as faults
 use Rattle.reel_writer.specs.Reel.{frames_of}
+use Rattle.reel_writer.specs.declared.damage.CheckFault.{CheckFault}
+use Rattle.reel_writer.specs.declared.damage.CheckFault.TheVariants as checks
 use Rattle.station.specs.Crews.{WasCrewed, IsUnstepped}
 use Rattle.single_run.specs.Ends.{IsEnd}
 use Rattle.single_run.specs.Run.{HasRefused}
@@ -30,7 +33,8 @@ use Rattle.project_job.specs.Jobs.{ComesTo, HasPlanned, IsOfJob}
 use Rattle.project_job.specs.Laws.{OneJob}
 use Rattle.project_run.specs.Crew.{HasFailed, IsCrewReply, told_by}
 use Rattle.project_run.specs.Run.{DiskState, IsOfRun, IsRunReply, outcome_of_end}
-use Rattle.project_run.specs.Status.{IsStatusReply, outcome_of_peek}
+use Rattle.project_run.specs.Status.{IsStatusReply, outcome_of_fault, outcome_of_peek}
+use Rattle.project_run.specs.Verify.{IsChecked, IsVerifyReply, outcome_of_check}
 use Rattle.demo_job.specs.Files.{project_path}
 use Rattle.demo_run.specs.Demo.{demo_world}
 use Rattle.command_words.specs.Commands.{Spells}
@@ -47,6 +51,16 @@ use Rattle.conform_tool.specs.Answer.{SinkState, IsPut, Answered}
 use Rattle.conform_tool.specs.Conform.{CrewAnswered}
 use Rattle.conform_tool.specs.Complete.{HasFitFolder, HasJob, IsAccepted, HasNotRisen, IsComplete, IsUnfailed}
 use Rattle.conform_tool.proofs.Headlines.{at_world}
+use Rattle.conform_tool.proofs.Replies.{replied_run}
+
+-- what was done, or found no memory
+IsThrough : Outcome → Type 0
+IsThrough reached = (reached ≡ outcomes.Done) ⊎ (reached ≡ outcomes.NoMemory)
+
+through : (command : Command) (reached : Outcome) → IsThrough reached → IsComplete command reached
+through (commands.Verify path) (outcomes.Damaged frame kept found) is = tt
+through (commands.Verify path) other is = is
+through command reached is = is
 
 -- ---- one file
 
@@ -54,7 +68,7 @@ frame_well : (file : Option (List ℕ)) (fault : DpxFault) → IsFrameCase file 
 frame_well None fault well bad = well
 frame_well (Some bytes) fault well bad = absurd (let no = subst IsOk bad well in cc)
 
-frame_complete : (file : Option (List ℕ)) (reached : Outcome) → IsFrameCase file outcomes.Done → IsFrameCase file reached → reached ≢ outcomes.SourceFault → IsComplete reached
+frame_complete : (file : Option (List ℕ)) (reached : Outcome) → IsFrameCase file outcomes.Done → IsFrameCase file reached → reached ≢ outcomes.SourceFault → IsThrough reached
 frame_complete file outcomes.Done well case no_source = inl refl
 frame_complete file (outcomes.Refused (refused.NoFile which.Frame)) well case no_source = absurd (subst (λ f. IsFrameCase f outcomes.Done) case well)
 frame_complete file (outcomes.Refused (refused.Frame fault)) well case no_source = absurd (frame_well file fault well case)
@@ -67,7 +81,7 @@ list_well : (rate : Rate) (file : Option (List ℕ)) (refusal : ListRefusal) →
 list_well rate None refusal well bad = well
 list_well rate (Some text) refusal well bad = absurd (let no = subst IsOk bad well in cc)
 
-list_complete : (rate : Rate) (file : Option (List ℕ)) (reached : Outcome) → IsListCase rate file outcomes.Done → IsListCase rate file reached → reached ≢ outcomes.SourceFault → IsComplete reached
+list_complete : (rate : Rate) (file : Option (List ℕ)) (reached : Outcome) → IsListCase rate file outcomes.Done → IsListCase rate file reached → reached ≢ outcomes.SourceFault → IsThrough reached
 list_complete rate file outcomes.Done well case no_source = inl refl
 list_complete rate file (outcomes.Refused (refused.NoFile which.List)) well case no_source = absurd (subst (λ f. IsListCase rate f outcomes.Done) case well)
 list_complete rate file (outcomes.Refused (refused.List refusal)) well case no_source = absurd (list_well rate file refusal well case)
@@ -80,13 +94,13 @@ list_complete rate file other well case no_source = absurd case
 
 other_apart : (digest kept wanted : List ℕ) (count : ℕ) (old new : History) → IsFit digest count (view_of old) → IsOtherJob digest kept wanted old new → ⊥
 other_apart digest kept wanted count old new fit other =
-    let own = fit other.sealed in
-    other.others.differ (subst (λ body. digest_of body ≡ digest) (same_Some own.0 other.body (sym own.1 ∙ other.there)) own.2.job)
+    let own = fit other.version other.in_force in
+    other.others.differ (subst (λ body. digest_of body ≡ digest) (same_Some own.body other.body (sym own.there ∙ other.there)) own.own.job)
 
 bad_apart : (digest : List ℕ) (count len : ℕ) (old new : History) → IsFit digest count (view_of old) → IsBadLedger digest count len old new → ⊥
 bad_apart digest count len old new fit bad =
-    let own = fit bad.sealed in
-    (bad.bad.bad own.0 own.1 own.2.well).1 own.2.size
+    let own = fit bad.version bad.in_force in
+    (bad.bad.bad own.body own.there own.own.well).1 own.own.size
 
 -- a run whose folder was opened
 opened_complete : (job : JobData) (told : Option World) (world : World) (how : RunEnd) → told ≡ Some world → IsEnd job told how → how ≢ ends.SourceFault → how ≢ ends.DiskFault → (how ≡ ends.Done) ⊎ (how ≡ ends.NoMemory)
@@ -108,40 +122,51 @@ refused_complete job tells old new ends.SourceFault told fit why no_disk = absur
 refused_complete job tells old new ends.DiskFault told fit why no_disk = absurd (no_disk refl)
 refused_complete job tells old new ends.NoMemory told fit why no_disk = inr refl
 
+-- a ledger that can't be had
+fault_complete : (digest : List ℕ) (count : ℕ) (old new : History) (fault : OpenFault) → IsFit digest count (view_of old) → IsRefused digest count old new fault → outcome_of_fault fault ≢ outcomes.DiskFault → IsThrough (outcome_of_fault fault)
+fault_complete digest count old new (faults.OtherJob kept wanted) fit refused no_disk = absurd (other_apart digest kept wanted count old new fit refused)
+fault_complete digest count old new (faults.BadLedger len) fit refused no_disk = absurd (bad_apart digest count len old new fit refused)
+fault_complete digest count old new faults.DiskFault fit refused no_disk = absurd (no_disk refl)
+fault_complete digest count old new faults.NoMemory fit refused no_disk = inr refl
+
 -- a look at it
-peek_complete : (digest : List ℕ) (count : ℕ) (old new : History) (answer : Result ℕ OpenFault) → IsFit digest count (view_of old) → HasPeeked digest count old new answer → outcome_of_peek answer ≢ outcomes.DiskFault → IsComplete (outcome_of_peek answer)
+peek_complete : (digest : List ℕ) (count : ℕ) (old new : History) (answer : Result ℕ OpenFault) → IsFit digest count (view_of old) → HasPeeked digest count old new answer → outcome_of_peek answer ≢ outcomes.DiskFault → IsThrough (outcome_of_peek answer)
 peek_complete digest count old new (Ok acked) fit peeked no_disk = inl refl
-peek_complete digest count old new (Err (faults.OtherJob kept wanted)) fit peeked no_disk = absurd (other_apart digest kept wanted count old new fit peeked)
-peek_complete digest count old new (Err (faults.BadLedger len)) fit peeked no_disk = absurd (bad_apart digest count len old new fit peeked)
-peek_complete digest count old new (Err faults.DiskFault) fit peeked no_disk = absurd (no_disk refl)
-peek_complete digest count old new (Err faults.NoMemory) fit peeked no_disk = inr refl
+peek_complete digest count old new (Err fault) fit peeked no_disk = fault_complete digest count old new fault fit peeked no_disk
+
+-- a check of the files
+check_complete : (path : List ℕ) (answer : Result ℕ CheckFault) → outcome_of_check answer ≢ outcomes.DiskFault → IsComplete (commands.Verify path) (outcome_of_check answer)
+check_complete path (Ok records) no_disk = inl refl
+check_complete path (Err (checks.Damaged frame kept found)) no_disk = tt
+check_complete path (Err checks.DiskFault) no_disk = absurd (no_disk refl)
+check_complete path (Err checks.NoMemory) no_disk = inr refl
 
 -- ---- a project
 
 -- what came in place of a job
 planned_complete : OneJob → (told : Option World) (world : World) (path : List ℕ) (reached : Outcome) → told ≡ Some world → HasJob world path
-    → IfSome told (λ files. HasPlanned (file_at files) path (Err reached)) → IsOfJob reached → reached ≢ outcomes.SourceFault → IsComplete reached
+    → IfSome told (λ files. HasPlanned (file_at files) path (Err reached)) → IsOfJob reached → reached ≢ outcomes.SourceFault → IsThrough reached
 planned_complete laws told world path (outcomes.Refused refusal) is has why kind no_source =
     absurd (laws.apart (file_at world) path has.0.parts refusal has.1 (at_world told world (λ files. ComesTo (file_at files) path (Err refusal)) is why))
 planned_complete laws told world path outcomes.SourceFault is has why kind no_source = absurd (no_source refl)
 planned_complete laws told world path outcomes.NoMemory is has why kind no_source = inr refl
 planned_complete laws told world path other is has why kind no_source = absurd kind
 
-plan_complete : OneJob → (world : World) (path output : List ℕ) (before after : ScanState) (reached : Outcome) → HasJob world path → IsPlanReply (file_at world) path reached output before after → reached ≢ outcomes.SourceFault → IsComplete reached
+plan_complete : OneJob → (world : World) (path output : List ℕ) (before after : ScanState) (reached : Outcome) → HasJob world path → IsPlanReply (file_at world) path reached output before after → reached ≢ outcomes.SourceFault → IsThrough reached
 plan_complete laws world path output before after outcomes.Done has reply no_source = inl refl
 plan_complete laws world path output before after (outcomes.Refused refusal) has reply no_source = absurd (laws.apart (file_at world) path has.0.parts refusal has.1 reply)
 plan_complete laws world path output before after outcomes.SourceFault has reply no_source = absurd (no_source refl)
 plan_complete laws world path output before after outcomes.NoMemory has reply no_source = inr refl
 plan_complete laws world path output before after other has reply no_source = absurd reply
 
-demo_complete : OneJob → (count : ℕ) (output : List ℕ) (reached : Outcome) → HasJob (demo_world count) project_path → IsDemoReply count reached output → IsComplete reached
+demo_complete : OneJob → (count : ℕ) (output : List ℕ) (reached : Outcome) → HasJob (demo_world count) project_path → IsDemoReply count reached output → IsThrough reached
 demo_complete laws count output outcomes.Done has reply = inl refl
 demo_complete laws count output (outcomes.Refused refusal) has reply = absurd (laws.apart (file_at (demo_world count)) project_path has.0.parts refusal has.1 reply)
 demo_complete laws count output outcomes.NoMemory has reply = inr refl
 demo_complete laws count output other has reply = absurd reply
 
 -- the outcome of an end
-by_end : (reels : List ReelEntry) (how : RunEnd) (reached : Outcome) → reached ≡ outcome_of_end reels how → (how ≡ ends.Done) ⊎ (how ≡ ends.NoMemory) → IsComplete reached
+by_end : (reels : List ReelEntry) (how : RunEnd) (reached : Outcome) → reached ≡ outcome_of_end reels how → (how ≡ ends.Done) ⊎ (how ≡ ends.NoMemory) → IsThrough reached
 by_end reels how reached is (inl done) = inl (is ∙ ap (outcome_of_end reels) done)
 by_end reels how reached is (inr memory) = inr (is ∙ ap (outcome_of_end reels) memory)
 
@@ -152,7 +177,7 @@ module _ (laws : OneJob) (world : World) (path : List ℕ) (disk : DiskState) (p
       (laws.one (file_at world) path place.job.parts job.parts place.comes (at_world told world (λ files. ComesTo (file_at files) path (Ok job.parts)) is comes)) place.fit
 
   run_complete : {share : ℕ} (disk_after : DiskState) (loads loads_after : ℕ) (reached : Outcome) (output : List ℕ) → IsRunReply told path share disk disk_after loads loads_after reached output
-      → reached ≢ outcomes.SourceFault → reached ≢ outcomes.DiskFault → IsComplete reached
+      → reached ≢ outcomes.SourceFault → reached ≢ outcomes.DiskFault → IsThrough reached
   run_complete disk_after loads loads_after reached output (inl has) no_source no_disk = elim has.ran.reply.reached_is [
     | inl reached_is ↦
         let reels = has.job.parts.reels in
@@ -167,13 +192,30 @@ module _ (laws : OneJob) (world : World) (path : List ℕ) (disk : DiskState) (p
   run_complete disk_after loads loads_after reached output (inr none) no_source no_disk = planned_complete laws told world path reached is (place.job, place.comes) none.why none.kind no_source
 
   status_complete : (disk_after : DiskState) (loads loads_after : ℕ) (reached : Outcome) (output : List ℕ) → IsStatusReply told path disk disk_after loads loads_after reached output
-      → reached ≢ outcomes.SourceFault → reached ≢ outcomes.DiskFault → IsComplete reached
+      → reached ≢ outcomes.SourceFault → reached ≢ outcomes.DiskFault → IsThrough reached
   status_complete disk_after loads loads_after reached output (inl has) no_source no_disk = elim has.status.reached_is [
-    | inl reached_is ↦ subst IsComplete (sym reached_is)
+    | inl reached_is ↦ subst IsThrough (sym reached_is)
         (peek_complete has.job.parts.digest (frames_of has.job) disk.history disk_after.history has.status.answer (fit_for has.job has.comes) (has.status.peeked place.tells) (λ failed. no_disk (reached_is ∙ failed)))
     | inr memory ↦ inr memory
   ]
   status_complete disk_after loads loads_after reached output (inr none) no_source no_disk = planned_complete laws told world path reached is (place.job, place.comes) none.why none.kind no_source
+
+  verify_complete : (disk_after : DiskState) (loads loads_after : ℕ) (reached : Outcome) (output : List ℕ) → IsVerifyReply told path disk disk_after loads loads_after reached output
+      → reached ≢ outcomes.SourceFault → reached ≢ outcomes.DiskFault → IsComplete (commands.Verify path) reached
+  verify_complete disk_after loads loads_after reached output (inl has) no_source no_disk = by has.verified.ledger (has.verified.looked place.tells) has.verified.checked
+    where
+      by : (ledger : Result ViewState OpenFault) → HasLooked has.job.parts.digest (frames_of has.job) disk.history disk_after.history ledger
+          → MatchResult ledger (λ view. IsChecked has.job view disk reached output) (λ fault. (reached ≡ outcome_of_fault fault) ⊎ (reached ≡ outcomes.NoMemory))
+          → IsComplete (commands.Verify path) reached
+      by (Ok view) looked checked = elim checked.reached_is [
+        | inl reached_is ↦ subst (IsComplete (commands.Verify path)) (sym reached_is) (check_complete path checked.answer (λ failed. no_disk (reached_is ∙ failed)))
+        | inr memory ↦ through (commands.Verify path) reached (inr memory)
+      ]
+      by (Err fault) looked (inl reached_is) = subst (IsComplete (commands.Verify path)) (sym reached_is) (through (commands.Verify path) (outcome_of_fault fault)
+          (fault_complete has.job.parts.digest (frames_of has.job) disk.history disk_after.history fault (fit_for has.job has.comes) looked (λ failed. no_disk (reached_is ∙ failed))))
+      by (Err fault) looked (inr memory) = through (commands.Verify path) reached (inr memory)
+  verify_complete disk_after loads loads_after reached output (inr none) no_source no_disk =
+      through (commands.Verify path) reached (planned_complete laws told world path reached is (place.job, place.comes) none.why none.kind no_source)
 
   -- the same of a crew's run
   steps_complete : (log : List ShareStep) (job : JobData) (old new : History) (how : RunEnd) (report : Report) (tells : Bool) (steps : Option (List Step)) → tells ≡ true → IsFit job.parts.digest (frames_of job) (view_of old)
@@ -186,7 +228,7 @@ module _ (laws : OneJob) (world : World) (path : List ℕ) (disk : DiskState) (p
 -- ---- one thread
 
 reply_complete : OneJob → (command : Command) (world : World) (scan scan_after : ScanState) (disk disk_after : DiskState) (reached : Outcome) (output : List ℕ) → scan.world ≡ Some world → IsAccepted command world disk
-    → IsWholeReply command scan scan_after disk disk_after reached output → reached ≢ outcomes.SourceFault → reached ≢ outcomes.DiskFault → IsComplete reached
+    → IsWholeReply command scan scan_after disk disk_after reached output → reached ≢ outcomes.SourceFault → reached ≢ outcomes.DiskFault → IsComplete command reached
 reply_complete laws (commands.Frame path) world scan scan_after disk disk_after reached output is accepted whole no_source no_disk =
     let right = whole.reply.right in
     let file = at_world scan.world world (λ files. right.0 ≡ file_at files path) is right.1 in
@@ -202,29 +244,31 @@ reply_complete laws (commands.Run path workers share) world scan scan_after disk
     run_complete laws world path disk accepted scan.world is disk_after scan.loads scan_after.loads reached output whole.folder no_source no_disk
 reply_complete laws (commands.Status path) world scan scan_after disk disk_after reached output is accepted whole no_source no_disk =
     status_complete laws world path disk accepted scan.world is disk_after scan.loads scan_after.loads reached output whole.folder no_source no_disk
+reply_complete laws (commands.Verify path) world scan scan_after disk disk_after reached output is accepted whole no_source no_disk =
+    verify_complete laws world path disk accepted scan.world is disk_after scan.loads scan_after.loads reached output whole.folder no_source no_disk
 reply_complete laws (commands.Demo count) world scan scan_after disk disk_after reached output is accepted whole no_source no_disk =
     demo_complete laws count output reached accepted whole.reply.right
 
-put_complete : (sink sink_after : SinkState) (reached : Outcome) (output : List ℕ) (result : Outcome) → IsPut sink sink_after reached output result → HasNotRisen sink.faults sink_after.faults → IsComplete reached → IsComplete result
-put_complete sink sink_after reached output result (inl put) steady complete = subst IsComplete (sym put.0) complete
-put_complete sink sink_after reached output result (inr put) steady complete = absurd (steady put.2)
+put_complete : (command : Command) (sink sink_after : SinkState) (reached : Outcome) (output : List ℕ) (result : Outcome) → IsPut sink sink_after reached output result → HasNotRisen sink.faults sink_after.faults → IsComplete command reached → IsComplete command result
+put_complete command sink sink_after reached output result (inl put) steady complete = subst (IsComplete command) (sym put.0) complete
+put_complete command sink sink_after reached output result (inr put) steady complete = absurd (steady put.2)
 
 pub answered_complete : OneJob → (words : List (List ℕ)) (scan scan_after : ScanState) (disk disk_after : DiskState) (sink sink_after : SinkState) (result : Outcome)
     → Answered words scan scan_after disk disk_after sink sink_after result
     → (command : Command) (world : World) → Spells words command → scan.world ≡ Some world → IsAccepted command world disk
-    → HasNotRisen scan.faults scan_after.faults → HasNotRisen disk.faults disk_after.faults → HasNotRisen sink.faults sink_after.faults → IsComplete result
+    → HasNotRisen scan.faults scan_after.faults → HasNotRisen disk.faults disk_after.faults → HasNotRisen sink.faults sink_after.faults → IsComplete command result
 answered_complete laws words scan scan_after disk disk_after sink sink_after result answered command world spells is accepted scans_steady disk_steady sink_steady =
-    put_complete sink sink_after answered.reached answered.output result answered.put sink_steady (elim (answered.reply command spells) [
+    put_complete command sink sink_after answered.reached answered.output result answered.put sink_steady (elim (answered.reply command spells) [
       | inl whole ↦ reply_complete laws command world scan scan_after disk disk_after answered.reached answered.output is accepted whole
           (λ source. scans_steady (whole.reply.source_fault source)) (λ failed. disk_steady (whole.disk_fault failed))
-      | inr unread ↦ inr unread.reached_is
+      | inr unread ↦ through command answered.reached (inr unread.reached_is)
     ])
 
 -- ---- a crew
 
 module _ (laws : OneJob) {S : Type 0} (world_of : S → Option World) (faults loads : S → ℕ) (same : S → S → Type 0) (path : List ℕ) (workers : ℕ) (scans scans_after : List S) (disk disk_after : DiskState) (world : World) (is : told_by world_of scans ≡ Some world) (place : HasFitFolder world path disk) where
   crew_complete : (reached : Outcome) (output : List ℕ) → IsCrewReply world_of faults loads same path workers scans scans_after disk disk_after reached output
-      → reached ≢ outcomes.SourceFault → reached ≢ outcomes.DiskFault → IsComplete reached
+      → reached ≢ outcomes.SourceFault → reached ≢ outcomes.DiskFault → IsThrough reached
   crew_complete reached output (inl has) no_source no_disk = elim has.ran.reply.reached_is [
     | inl reached_is ↦
         let reels = has.job.parts.reels in
@@ -236,10 +280,10 @@ module _ (laws : OneJob) {S : Type 0} (world_of : S → Option World) (faults lo
   ]
   crew_complete reached output (inr none) no_source no_disk = planned_complete laws (told_by world_of scans) world path reached is (place.job, place.comes) none.why none.kind no_source
 
-  pub crew_answered_complete : (sink sink_after : SinkState) (result : Outcome) → CrewAnswered world_of faults loads same path workers scans scans_after disk disk_after sink sink_after result
-      → (HasFailed world_of faults loads same scans scans_after → ⊥) → HasNotRisen disk.faults disk_after.faults → HasNotRisen sink.faults sink_after.faults → IsComplete result
-  crew_answered_complete sink sink_after result answered scans_steady disk_steady sink_steady =
-      put_complete sink sink_after answered.reached answered.output result answered.put sink_steady (elim answered.crewed [
+  pub crew_answered_complete : (share : ℕ) (sink sink_after : SinkState) (result : Outcome) → CrewAnswered world_of faults loads same path workers scans scans_after disk disk_after sink sink_after result
+      → (HasFailed world_of faults loads same scans scans_after → ⊥) → HasNotRisen disk.faults disk_after.faults → HasNotRisen sink.faults sink_after.faults → IsComplete (commands.Run path workers share) result
+  crew_answered_complete share sink sink_after result answered scans_steady disk_steady sink_steady =
+      put_complete (commands.Run path workers share) sink sink_after answered.reached answered.output result answered.put sink_steady (elim answered.crewed [
         | inl crewed ↦ crew_complete answered.reached answered.output crewed.reply (λ source. scans_steady (crewed.source_fault source)) (λ failed. disk_steady (crewed.disk_fault failed))
         | inr unread ↦ inr unread.reached_is
       ])
@@ -254,6 +298,7 @@ unfailed command outcomes.Usage kind no_source no_disk = kind
 unfailed command (outcomes.Refused refusal) kind no_source no_disk = kind
 unfailed command (outcomes.OtherJob kept wanted) kind no_source no_disk = kind
 unfailed command (outcomes.BadLedger len) kind no_source no_disk = kind
+unfailed command (outcomes.Damaged frame kept found) kind no_source no_disk = kind
 unfailed command (outcomes.Changed reel key was now) kind no_source no_disk = kind
 unfailed command (outcomes.SinkFault instead) kind no_source no_disk = kind
 unfailed command outcomes.NoMemory kind no_source no_disk = kind
@@ -261,13 +306,7 @@ unfailed command outcomes.NoMemory kind no_source no_disk = kind
 -- the outcomes of a run are those of its command
 run_kind : (path : List ℕ) (workers share : ℕ) (reached : Outcome) → (reached ≡ outcomes.Done) ⊎ IsOfRun reached → IsKindOf (commands.Run path workers share) reached
 run_kind path workers share reached (inl done) = subst (IsKindOf (commands.Run path workers share)) (sym done) tt
-run_kind path workers share reached (inr kind) = run_own path workers share reached kind
-  where
-    run_own : (path : List ℕ) (workers share : ℕ) (reached : Outcome) → IsOfRun reached → IsKindOf (commands.Run path workers share) reached
-    run_own path workers share outcomes.Done kind = absurd kind
-    run_own path workers share outcomes.Usage kind = absurd kind
-    run_own path workers share (outcomes.SinkFault instead) kind = absurd kind
-    run_own path workers share other kind = tt
+run_kind path workers share reached (inr kind) = replied_run path workers share reached kind
 
 put_unfailed : (command : Command) (sink sink_after : SinkState) (reached : Outcome) (output : List ℕ) (result : Outcome) → IsPut sink sink_after reached output result → HasNotRisen sink.faults sink_after.faults → IsUnfailed command reached → IsUnfailed command result
 put_unfailed command sink sink_after reached output result (inl put) steady is = subst (IsUnfailed command) (sym put.0) is

@@ -35,6 +35,7 @@ instead_replied count outcomes.Usage output is = absurd is
 instead_replied count (outcomes.Refused refusal) output is = (tt, is, λ same. cc, λ same. cc)
 instead_replied count (outcomes.OtherJob kept wanted) output is = absurd is
 instead_replied count (outcomes.BadLedger len) output is = absurd is
+instead_replied count (outcomes.Damaged frame kept found) output is = absurd is
 instead_replied count (outcomes.Changed reel key was now) output is = absurd is
 instead_replied count outcomes.SourceFault output is = absurd is
 instead_replied count outcomes.DiskFault output is = absurd is

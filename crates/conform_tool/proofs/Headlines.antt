@@ -2,17 +2,19 @@
 use Rattle.std.proofs.Common.{◌≡◌, ◌≢◌, ℕ, ◌<◌, true, List, Option, Some, None, IfSome, Ok, refl, sym, ap, subst, ◌∙◌, arith, inl, inr}
 use Rattle.std.specs.Prelude.{◌⊎◌}
 use Rattle.cf_base.specs.declared.file.FileId.{FileId}
-use Rattle.cf_base.specs.declared.file.FileId.TheVariants.{Seal}
+use Rattle.cf_base.specs.declared.file.FileId.TheVariants.{Seal, Seal2}
 use Rattle.cf_base.specs.declared.reel.ReelEntry.{ReelEntry}
 use Rattle.scan_source.specs.World.{World, file_at}
 use Rattle.conform_job.specs.Job.{JobData}
 use Rattle.frame_render.specs.Frame.{frame_file, some_lines, words_of_key}
 use Rattle.record_timeline.specs.Accepted.{frame_count}
-use Rattle.reel_disk.specs.Disk.{Files, Moment, History, IsImage, IsFirm, moment_of}
-use Rattle.reel_disk.proofs.Images.{firm_image}
+use Rattle.reel_disk.specs.Disk.{Files, Moment, History, IsImage, IsFirm, moment_of, view_of}
+use Rattle.reel_disk.proofs.Images.{firm_image, view_is_image}
 use Rattle.reel_disk.specs.Runs.{LeavesOnly, Surely, NeverForgets}
-use Rattle.resume_ledger.specs.Ledger.{Acks, IsSealed}
-use Rattle.reel_writer.specs.Reel.{frames_of, HasAcked, IsSoundReel, IsReelRun}
+use Rattle.resume_ledger.specs.Ledger.{Acks, IsInForce}
+use Rattle.resume_ledger.specs.declared.layout.Version.{Version}
+use Rattle.resume_ledger.specs.declared.layout.Version.TheVariants.{One, Two}
+use Rattle.reel_writer.specs.Reel.{frames_of, HasAcked, IsSoundReel, IsReelRun, KeepsReel, LosesNone}
 use Rattle.single_run.specs.Run.{AreAllAcked}
 use Rattle.single_run.specs.declared.run_end.RunEnd.{RunEnd}
 use Rattle.single_run.specs.declared.run_end.RunEnd.TheVariants as ends
@@ -38,14 +40,21 @@ sound_by : (a b : JobData) (world : World) → a.parts ≡ b.parts → ◌≡◌
 unfolding frame_file some_lines words_of_key
 sound_by a b world same = ap (λ parts. IsSoundReel (record { parts = parts; infos = b.infos }) world) same
 
+loses_by : (a b : JobData) (old new : History) → a.parts ≡ b.parts → (LosesNone a (view_of old) → KeepsReel a old new) → LosesNone b (view_of old) → KeepsReel b old new
+unfolding frame_file some_lines words_of_key
+loses_by a b old new same = subst (λ parts. LosesNone (record { parts = parts; infos = b.infos }) (view_of old) → KeepsReel (record { parts = parts; infos = b.infos }) old new) same
+
 -- ---- where a run may begin
 
 empty_sound : (job : JobData) (world : World) (moment : Moment) → IsEmptyFolder moment → Surely moment (IsSoundReel job world)
-empty_sound job world moment empty files image = record { sound = λ i acks. absurd (unsealed acks.sealed); fit = λ sealed. absurd (unsealed sealed) }
+empty_sound job world moment empty files image = record { sound = λ i acks. absurd (unsealed acks.version acks.in_force); fit = λ version in_force. absurd (unsealed version in_force) }
   where
-    unsealed : IsSealed files → ⊥
-    unsealed sealed =
-        let gone : files Seal ≡ None = firm_image moment files Seal (subst (λ places. IsFirm places Seal) (sym empty.firm) (λ place loose. absurd loose)) image ∙ empty.none Seal in cc
+    gone : (id : FileId) → files id ≡ None
+    gone id = firm_image moment files id (subst (λ places. IsFirm places id) (sym empty.firm) (λ place loose. absurd loose)) image ∙ empty.none id
+
+    unsealed : (version : Version) → IsInForce version files → ⊥
+    unsealed Two in_force = let none = sym (gone Seal2) ∙ in_force in cc
+    unsealed One in_force = let none = sym (gone Seal) ∙ in_force.1 in cc
 
 begun_sound : (job : JobData) (world : World) (moment : Moment) → IsBeginning job world moment → Surely moment (IsSoundReel job world)
 begun_sound job world moment (inl empty) = empty_sound job world moment empty
@@ -68,10 +77,14 @@ still_promise : (job : JobData) (world : World) (now : History) (Ended : Type 0)
 still_promise job world now Ended none = record {
   sound = sound;
   again = λ begun m from to files image. begins_again job world files (sound begun m from to files image);
-  kept = λ i m later from mid to had. subst (λ k. Surely (now.past k) (HasAcked job i)) (omega (arith, from, mid, to)) had;
+  kept = λ begun i. still i;
+  kept_of_any = λ had i. still i;
   whole = λ ended. absurd (none ended);
 }
   where
+    still : (i : ℕ) → NeverForgets now now (HasAcked job i)
+    still i m later from mid to had = subst (λ k. Surely (now.past k) (HasAcked job i)) (omega (arith, from, mid, to)) had
+
     sound : IsBeginning job world (moment_of now) → LeavesOnly now now (IsSoundReel job world)
     sound begun m from to = subst (λ k. Surely (now.past k) (IsSoundReel job world)) (omega (arith, from, to)) (begun_sound job world (moment_of now) begun)
 
@@ -81,13 +94,17 @@ run_promise : (job ran : JobData) (told : Option World) (world : World) (opening
 run_promise job ran told world opening now Ended is same run acked = record {
   sound = sound;
   again = λ begun m from to files image. begins_again job world files (sound begun m from to files image);
-  kept = subst (λ parts. (i : ℕ) → NeverForgets opening now (Acks parts.digest (frame_count parts.timeline.events) i)) same run.keeps;
+  kept = λ begun. kept (inr (world, begun_sound job world (moment_of opening) begun (view_of opening) (view_is_image (moment_of opening))));
+  kept_of_any = kept;
   whole = λ ended begun files image. record {
-    there = λ i within. (sound begun now.now run.extends.later (omega arith) files image).sound i (all ended i within files image);
+    there = λ i within. ((sound begun now.now run.extends.later (omega arith) files image).sound i (all ended i within files image)).file;
     acked = λ i within. all ended i within files image;
   };
 }
   where
+    kept : LosesNone job (view_of opening) → KeepsReel job opening now
+    kept = loses_by ran job opening now same run.keeps
+
     sound : IsBeginning job world (moment_of opening) → LeavesOnly opening now (IsSoundReel job world)
     sound begun = subst (λ P. Surely (moment_of opening) P → LeavesOnly opening now P) (sound_by ran job world same)
         (at_world told world (λ w. Surely (moment_of opening) (IsSoundReel ran w) → LeavesOnly opening now (IsSoundReel ran w)) is run.sound)
@@ -104,6 +121,7 @@ done_status outcomes.Usage is = absurd (omega (arith, is))
 done_status (outcomes.Refused refusal) is = absurd (omega (arith, is))
 done_status (outcomes.OtherJob kept wanted) is = absurd (omega (arith, is))
 done_status (outcomes.BadLedger len) is = absurd (omega (arith, is))
+done_status (outcomes.Damaged frame kept found) is = absurd (omega (arith, is))
 done_status (outcomes.Changed reel key was now) is = absurd (omega (arith, is))
 done_status outcomes.SourceFault is = absurd (omega (arith, is))
 done_status outcomes.DiskFault is = absurd (omega (arith, is))

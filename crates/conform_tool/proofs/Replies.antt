@@ -19,7 +19,9 @@ use Rattle.outcome_line.specs.declared.outcome.Which.TheVariants as which
 use Rattle.conform_tool.specs.Faults.{IfFault}
 use Rattle.outcome_line.specs.Output.{line_of}
 use Rattle.project_run.specs.Run.{IsOfRun}
-use Rattle.conform_tool.specs.Reply.{ScanState, ByFile, IsRight, IsRightBy, HasLoaded, LooksAtHeads, CallsDisk, IsKindOf, IsReply}
+use Rattle.project_run.specs.Status.{IsOfLook}
+use Rattle.project_run.specs.Verify.{IsOfVerify}
+use Rattle.conform_tool.specs.Reply.{ScanState, ByFile, IsRight, IsRightBy, HasLoaded, LooksAtHeads, IsKindOf, IsReply}
 use Rattle.command_words.specs.declared.command.Command.{Command}
 use Rattle.command_words.specs.declared.command.Command.TheVariants as commands
 use Rattle.outcome_line.specs.declared.outcome.Outcome.{Outcome}
@@ -73,6 +75,7 @@ by_missing world path absent Done P told kind gone fault memory = absurd kind
 by_missing world path absent Usage P told kind gone fault memory = absurd kind
 by_missing world path absent (outcomes.OtherJob kept wanted) P told kind gone fault memory = absurd kind
 by_missing world path absent (outcomes.BadLedger len) P told kind gone fault memory = absurd kind
+by_missing world path absent (outcomes.Damaged frame kept found) P told kind gone fault memory = absurd kind
 by_missing world path absent (outcomes.Changed reel key was now) P told kind gone fault memory = absurd kind
 by_missing world path absent outcomes.DiskFault P told kind gone fault memory = absurd kind
 by_missing world path absent (SinkFault instead) P told kind gone fault memory = absurd kind
@@ -139,6 +142,7 @@ memory_right (commands.List path rate) output before after = list_memory rate be
 memory_right (commands.Plan path) output before after = told_any before.world (λ world. tt)
 memory_right (commands.Run path workers share) output before after = tt
 memory_right (commands.Status path) output before after = tt
+memory_right (commands.Verify path) output before after = tt
 memory_right (commands.Demo count) output before after = tt
 
 -- an error is its outcome
@@ -154,6 +158,7 @@ replied_load command absent Done kind = absurd kind
 replied_load command absent Usage kind = absurd kind
 replied_load command absent (outcomes.OtherJob kept wanted) kind = absurd kind
 replied_load command absent (outcomes.BadLedger len) kind = absurd kind
+replied_load command absent (outcomes.Damaged frame kept found) kind = absurd kind
 replied_load command absent (outcomes.Changed reel key was now) kind = absurd kind
 replied_load command absent outcomes.DiskFault kind = absurd kind
 replied_load command absent (Refused refusal) kind = tt
@@ -164,15 +169,25 @@ replied_load command absent NoMemory kind = tt
 pub load_isnt_done : (absent : Which) (outcome : Outcome) → IsOfLoad absent outcome → outcome ≢ Done
 load_isnt_done absent outcome kind same = subst (IsOfLoad absent) same kind
 
--- the outcomes of a run are those of a command that makes calls on the disk
-pub replied_run : (command : Command) (outcome : Outcome) → CallsDisk command → IsOfRun outcome → IsKindOf command outcome
-replied_run command outcomes.Done calls kind = absurd kind
-replied_run command outcomes.Usage calls kind = absurd kind
-replied_run command (outcomes.SinkFault instead) calls kind = absurd kind
-replied_run command (outcomes.Refused refusal) calls kind = tt
-replied_run command (outcomes.OtherJob kept wanted) calls kind = calls
-replied_run command (outcomes.BadLedger len) calls kind = calls
-replied_run command (outcomes.Changed reel key was now) calls kind = calls
-replied_run command outcomes.SourceFault calls kind = tt
-replied_run command outcomes.DiskFault calls kind = calls
-replied_run command outcomes.NoMemory calls kind = tt
+-- the outcomes of a run, of a look at the folder and of a check of its files are those of their commands
+pub replied_run : (path : List ℕ) (workers share : ℕ) (outcome : Outcome) → IsOfRun outcome → IsKindOf (commands.Run path workers share) outcome
+replied_run path workers share Done kind = absurd kind
+replied_run path workers share Usage kind = absurd kind
+replied_run path workers share (SinkFault instead) kind = absurd kind
+replied_run path workers share (outcomes.Damaged frame kept found) kind = absurd kind
+replied_run path workers share other kind = tt
+
+pub replied_status : (path : List ℕ) (outcome : Outcome) → IsOfLook outcome → IsKindOf (commands.Status path) outcome
+replied_status path Done kind = absurd kind
+replied_status path Usage kind = absurd kind
+replied_status path (SinkFault instead) kind = absurd kind
+replied_status path (outcomes.Damaged frame kept found) kind = absurd kind
+replied_status path (outcomes.Changed reel key was now) kind = absurd kind
+replied_status path other kind = tt
+
+pub replied_verify : (path : List ℕ) (outcome : Outcome) → IsOfVerify outcome → IsKindOf (commands.Verify path) outcome
+replied_verify path Done kind = absurd kind
+replied_verify path Usage kind = absurd kind
+replied_verify path (SinkFault instead) kind = absurd kind
+replied_verify path (outcomes.Changed reel key was now) kind = absurd kind
+replied_verify path other kind = tt

@@ -2,7 +2,7 @@
 -- ran out.
 --     IsAccepted command world disk      nothing stands in its way
 --     HasNotRisen before after      no call failed, by this count
---     IsComplete outcome      it was done, or memory ran out
+--     IsComplete command outcome      it was done, or memory ran out
 --     IsUnfailed command outcome      what is left of it where scan or disk don't tell
 use Rattle.std.specs.Prelude.{◌≡◌, ◌⊎◌, ℕ, true, List, Ok}
 use Rattle.cf_base.specs.Count.{HasRisen}
@@ -18,7 +18,7 @@ use Rattle.demo_run.specs.Demo.{demo_world}
 use Rattle.command_words.specs.declared.command.Command.{Command}
 use Rattle.command_words.specs.declared.command.Command.TheVariants as commands
 use Rattle.outcome_line.specs.declared.outcome.Outcome.{Outcome}
-use Rattle.outcome_line.specs.declared.outcome.Outcome.TheVariants.{Done, SourceFault, DiskFault, NoMemory}
+use Rattle.outcome_line.specs.declared.outcome.Outcome.TheVariants.{Done, Damaged, SourceFault, DiskFault, NoMemory}
 use Rattle.conform_tool.specs.Frame.{IsFrameCase}
 use Rattle.conform_tool.specs.List.{IsListCase}
 use Rattle.conform_tool.specs.Reply.{IsKindOf}
@@ -42,17 +42,20 @@ IsAccepted (commands.List path rate) world disk = IsListCase rate (file_at world
 IsAccepted (commands.Plan path) world disk = HasJob world path
 IsAccepted (commands.Run path workers share) world disk = HasFitFolder world path disk
 IsAccepted (commands.Status path) world disk = HasFitFolder world path disk
+IsAccepted (commands.Verify path) world disk = HasFitFolder world path disk
 IsAccepted (commands.Demo count) world disk = HasJob (demo_world count) project_path
 
 -- no fault was counted
 abbrev pub HasNotRisen : ℕ → ℕ → Type 0
 HasNotRisen before after = HasRisen before after → ⊥
 
-abbrev pub IsComplete : Outcome → Type 0
-IsComplete result = (result ≡ Done) ⊎ (result ≡ NoMemory)
+-- A check may find a frame that is damaged besides.
+abbrev pub IsComplete : Command → Outcome → Type 0
+IsComplete (commands.Verify path) (Damaged frame kept found) = Unit {0}
+IsComplete command result = (result ≡ Done) ⊎ (result ≡ NoMemory)
 
 -- The outcomes of a command of which no call failed, also where scan or disk don't tell. Besides these two there are refusals,
--- and for `run` and `status` the folder's state and a source file that changed.
+-- and for `run`, `status` and `verify` the folder's state, for `run` a source file that changed, and for `verify` a damaged frame.
 abbrev pub IsUnfailed : Command → Outcome → Type 0
 IsUnfailed command SourceFault = ⊥
 IsUnfailed command DiskFault = ⊥

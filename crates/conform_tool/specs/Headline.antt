@@ -10,9 +10,9 @@ use Rattle.cf_base.specs.declared.file.FileId.{FileId}
 use Rattle.scan_source.specs.World.{World, file_at}
 use Rattle.conform_job.specs.Job.{JobData, file_of}
 use Rattle.frame_render.specs.Frame.{frame_file}
-use Rattle.reel_disk.specs.Disk.{Files, Moment, History, moment_of}
+use Rattle.reel_disk.specs.Disk.{Files, Moment, History, moment_of, view_of}
 use Rattle.reel_disk.specs.Runs.{LeavesOnly, Surely, NeverForgets}
-use Rattle.reel_writer.specs.Reel.{frames_of, HasAcked, IsSoundReel}
+use Rattle.reel_writer.specs.Reel.{frames_of, HasAcked, IsSoundReel, LosesNone}
 use Rattle.project_job.specs.Jobs.{ComesTo}
 use Rattle.command_words.specs.Commands.{Spells}
 use Rattle.command_words.specs.declared.command.Command.TheVariants as commands
@@ -55,7 +55,9 @@ pub record KeepsItsPromise (job : JobData) (world : World) (opening now : Histor
   -- What a crash leaves is such a beginning again.
   pub again : IsBeginning job world (moment_of opening) → LeavesOnly opening now (λ files. IsBeginning job world (left_with files))
   -- No acknowledgement is ever lost.
-  pub kept : (i : ℕ) → NeverForgets opening now (HasAcked job i)
+  pub kept : IsBeginning job world (moment_of opening) → (i : ℕ) → NeverForgets opening now (HasAcked job i)
+  -- Nor is one of any other folder, but of a frame of version 1 whose file is lost or isn't as long as a frame.
+  pub kept_of_any : LosesNone job (view_of opening) → (i : ℕ) → NeverForgets opening now (HasAcked job i)
   -- A run that was done leaves the whole reel, and so does each crash behind it.
   pub whole : Ended → IsBeginning job world (moment_of opening) → Surely (moment_of now) (IsWholeReel job world)
 

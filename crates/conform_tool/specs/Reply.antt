@@ -19,12 +19,13 @@ use Rattle.outcome_line.specs.Output.{line_of}
 use Rattle.demo_run.specs.Demo.{demo_world, IsShown, IsInstead}
 use Rattle.project_run.specs.Run.{DiskState, IsRunReply}
 use Rattle.project_run.specs.Status.{IsStatusReply}
+use Rattle.project_run.specs.Verify.{IsVerifyReply}
 use Rattle.conform_tool.specs.Frame.{IsFrameForm, IsFrameCase}
 use Rattle.conform_tool.specs.List.{IsListForm, IsListCase}
 use Rattle.command_words.specs.declared.command.Command.{Command}
 use Rattle.command_words.specs.declared.command.Command.TheVariants as commands
 use Rattle.outcome_line.specs.declared.outcome.Outcome.{Outcome}
-use Rattle.outcome_line.specs.declared.outcome.Outcome.TheVariants.{Done, Usage, Refused as IsRefused, SourceFault, DiskFault, SinkFault, NoMemory}
+use Rattle.outcome_line.specs.declared.outcome.Outcome.TheVariants.{Done, Usage, Refused as IsRefused, Damaged, Changed, SourceFault, DiskFault, SinkFault, NoMemory}
 
 pub record ScanState : Type 0 where
   pub world : Option World
@@ -71,24 +72,26 @@ abbrev pub IsDemoReply : ℕ → Outcome → List ℕ → Type 0
 IsDemoReply count Done output = IsShown (file_at (demo_world count)) output
 IsDemoReply count other output = IsInstead (file_at (demo_world count)) other
 
--- By the file at the path, or by all files that the scan tells: they may be others at each load where it tells none. `run` and
--- `status` are right by the folder, which is said with the disk, and `demo` by its count alone.
+-- By the file at the path, or by all files that the scan tells: they may be others at each load where it tells none. `run`,
+-- `status` and `verify` are right by the folder, which is said with the disk, and `demo` by its count alone.
 abbrev pub IsRight : Command → Outcome → List ℕ → ScanState → ScanState → Type 0
 IsRight (commands.Frame path) reached output before after = ByFile before.world path (λ file. IsRightBy (IsFrameCase file) (IsFrameForm file) reached output)
 IsRight (commands.List path rate) reached output before after = ByFile before.world path (λ file. IsRightBy (IsListCase rate file) (IsListForm rate file) reached output)
 IsRight (commands.Plan path) reached output before after = IfSome before.world (λ world. IsPlanReply (file_at world) path reached output before after)
 IsRight (commands.Run path workers share) reached output before after = Unit {0}
 IsRight (commands.Status path) reached output before after = Unit {0}
+IsRight (commands.Verify path) reached output before after = Unit {0}
 IsRight (commands.Demo count) reached output before after = IsDemoReply count reached output
 
--- What a command loads: the one file, or a project, its list and its cube, or nothing. What `run` and `status` load is said
--- with the disk.
+-- What a command loads: the one file, or a project, its list and its cube, or nothing. What `run`, `status` and `verify` load
+-- is said with the disk.
 abbrev pub HasLoaded : Command → ℕ → ℕ → Type 0
 HasLoaded (commands.Frame path) before after = after ≡ one_more before
 HasLoaded (commands.List path rate) before after = after ≡ one_more before
 HasLoaded (commands.Plan path) before after = AreLoaded 1 3 before after
 HasLoaded (commands.Run path workers share) before after = Unit {0}
 HasLoaded (commands.Status path) before after = Unit {0}
+HasLoaded (commands.Verify path) before after = Unit {0}
 HasLoaded (commands.Demo count) before after = after ≡ before
 
 -- The one file's head isn't looked at by itself, and `demo` looks at none.
@@ -98,16 +101,28 @@ LooksAtHeads (commands.List path rate) before after = after ≡ before
 LooksAtHeads (commands.Plan path) before after = Unit {0}
 LooksAtHeads (commands.Run path workers share) before after = Unit {0}
 LooksAtHeads (commands.Status path) before after = Unit {0}
+LooksAtHeads (commands.Verify path) before after = Unit {0}
 LooksAtHeads (commands.Demo count) before after = after ≡ before
 
 -- the command makes calls on the disk
 abbrev pub CallsDisk : Command → Type 0
 CallsDisk (commands.Run path workers share) = Unit {0}
 CallsDisk (commands.Status path) = Unit {0}
+CallsDisk (commands.Verify path) = Unit {0}
 CallsDisk other = ⊥
 
--- The outcomes that a command may come to, whatever the scan and the disk tell. A folder's state, a fault of the disk and a
--- source file that changed are outcomes of those commands alone that make calls on the disk.
+-- it loads source frames, which may have changed since they were planned
+abbrev pub LoadsFrames : Command → Type 0
+LoadsFrames (commands.Run path workers share) = Unit {0}
+LoadsFrames other = ⊥
+
+-- it reads the reel's frames, which may be damaged
+abbrev pub ChecksFrames : Command → Type 0
+ChecksFrames (commands.Verify path) = Unit {0}
+ChecksFrames other = ⊥
+
+-- The outcomes that a command may come to, whatever the scan and the disk tell. A folder's state and a fault of the disk are
+-- outcomes of those commands alone that make calls on the disk.
 abbrev pub IsKindOf : Command → Outcome → Type 0
 IsKindOf command Done = Unit {0}
 IsKindOf command (IsRefused refusal) = Unit {0}
@@ -115,6 +130,8 @@ IsKindOf command SourceFault = Unit {0}
 IsKindOf command NoMemory = Unit {0}
 IsKindOf command Usage = ⊥
 IsKindOf command (SinkFault instead) = ⊥
+IsKindOf command (Changed reel key was now) = LoadsFrames command
+IsKindOf command (Damaged frame kept found) = ChecksFrames command
 IsKindOf command other = CallsDisk command
 
 pub record IsReply (command : Command) (before after : ScanState) (reached : Outcome) (output : List ℕ) : Type 0 where
@@ -130,10 +147,11 @@ pub record IsReply (command : Command) (before after : ScanState) (reached : Out
   pub heads : LooksAtHeads command before.heads after.heads
   pub world : after.world ≡ before.world
 
--- A run did to the disk what it is to do, and `status` looked at it; no other command made a call on it.
+-- A run did to the disk what it is to do, and `status` and `verify` looked at it; no other command made a call on it.
 abbrev pub UsesDisk : Command → ScanState → ScanState → DiskState → DiskState → Outcome → List ℕ → Type 0
 UsesDisk (commands.Run path workers share) before after disk disk_after reached output = IsRunReply before.world path share disk disk_after before.loads after.loads reached output
 UsesDisk (commands.Status path) before after disk disk_after reached output = IsStatusReply before.world path disk disk_after before.loads after.loads reached output
+UsesDisk (commands.Verify path) before after disk disk_after reached output = IsVerifyReply before.world path disk disk_after before.loads after.loads reached output
 UsesDisk other before after disk disk_after reached output = disk_after ≡ disk
 
 -- The reply of a command, with what it did to the disk, whose fault has its cause.

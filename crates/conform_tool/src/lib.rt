@@ -3,8 +3,8 @@
 //! `conform` does all that the program does, and `answer` does it on one thread. `frame PATH` reads one DPX file and puts the
 //! same pixels under the station's own header; `list FILE RATE` reads an edit list and puts its event table; `plan PROJECT`
 //! reads a project and puts what each record frame shows; `run PROJECT` renders its reel; `status PROJECT` puts how much of it
-//! is rendered; `demo N` renders a job of N events that is made in memory. The words become a `Command`, the command a reply,
-//! and the reply is put on the output in one piece.
+//! is rendered, and `verify PROJECT` whether that is still whole; `demo N` renders a job of N events that is made in memory.
+//! The words become a `Command`, the command a reply, and the reply is put on the output in one piece.
 #![tactic(auto)]
 
 mod frame;
@@ -14,6 +14,7 @@ mod plan;
 mod run;
 mod status;
 mod top;
+mod verify;
 
 pub use one_thread::answer;
 pub use top::{Ended, conform};

@@ -15,6 +15,7 @@ use crate::list::list;
 use crate::plan::plan;
 use crate::run::run;
 use crate::status::status;
+use crate::verify::verify;
 use cf_base::{Put, Sink};
 use command_words::{Command, command_of};
 use demo_run::demo;
@@ -25,7 +26,7 @@ use scan_source::Scans;
 use std::alloc::Global;
 
 /// Does the command that the words spell, on one thread, and puts its output or its line. `run` renders into the disk and
-/// `status` looks at it; no other command makes a call on it. Words of no command come to `Usage`, and words for which no
+/// `status` and `verify` look at it; no other command makes a call on it. Words of no command come to `Usage`, and words for which no
 /// memory is left to `NoMemory`, before anything is read. A run keeps the headline's promise, wherever it is stopped and
 /// whatever it answers.
 pub fn answer<S: Scans, D: Disk, K: Sink>(
@@ -50,7 +51,7 @@ pub fn answer<S: Scans, D: Disk, K: Sink>(
     ensures complete { (command : Command) (world : World) → Spells (map (λ w. w.now) words.now) command → S.world scan.old ≡ Some world
         → IsAccepted command world (disk_state D.tells D.history D.faults disk.old)
         → HasNotRisen (S.faults scan.old) (S.faults scan.new) → HasNotRisen (D.faults disk.old) (D.faults disk.new) → HasNotRisen (K.faults out.old) (K.faults out.new)
-        → IsComplete result }
+        → IsComplete command result }
     ensures unfailed { (command : Command) → Spells (map (λ w. w.now) words.now) command
         → HasNotRisen (S.faults scan.old) (S.faults scan.new) → HasNotRisen (D.faults disk.old) (D.faults disk.new) → HasNotRisen (K.faults out.old) (K.faults out.new)
         → IsUnfailed command result }
@@ -110,6 +111,7 @@ fn carried_out<S: Scans, D: Disk>(
             share,
         } => run(alloc, project, *workers, *share, scan, disk),
         Command::Status(project) => status(alloc, project, scan, disk),
+        Command::Verify(project) => verify(alloc, project, scan, disk),
         Command::Demo(count) => demo(alloc, *count),
     }
 }

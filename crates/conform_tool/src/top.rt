@@ -77,7 +77,7 @@ pub fn conform<S: Scans + Send, D: Disk + Send, K: Sink, R: Threads + Wait + Syn
     ensures complete { (command : Command) (world : World) → Spells (map (λ w. w.now) words.now) command → told_by S.world scans.items ≡ Some world
         → IsAccepted command world (disk_state D.tells D.history D.faults disk)
         → (HasFailed S.world S.faults S.loads S.same scans.items result.scans.items → ⊥) → HasNotRisen (D.faults disk) (D.faults result.disk) → HasNotRisen (K.faults out.old) (K.faults out.new)
-        → IsComplete result.outcome }
+        → IsComplete command result.outcome }
     ensures unfailed { (command : Command) → Spells (map (λ w. w.now) words.now) command
         → (HasFailed S.world S.faults S.loads S.same scans.items result.scans.items → ⊥) → HasNotRisen (D.faults disk) (D.faults result.disk) → HasNotRisen (K.faults out.old) (K.faults out.new)
         → IsUnfailed command result.outcome }

@@ -63,7 +63,7 @@ fn a_fault_of_the_scan_ends_a_command_where_it_stands(rt: HostRuntime) {
         let out = put(alloc, line, fail, &mut disk).expect(&rt, "an answer");
         assert!(rt; says(&out, "source fault\n"), "{line}, call {fail}");
         assert!(rt;
-            disk.length(FileId::Seal) == Length::Absent,
+            disk.length(FileId::Seal2) == Length::Absent,
             "{line}, call {fail}"
         );
     }
@@ -77,32 +77,32 @@ fn a_fault_of_the_scan_ends_a_command_where_it_stands(rt: HostRuntime) {
     }
 }
 
-/// Frame 0 has the calls 7 to 10: the write of its file and its sync, the write of its gate and its sync. Frame 5 begins with
-/// call 27.
+/// Frame 0 has the calls 9 to 14: the write of its file and its sync, that of its record and its sync, the write of its gate and
+/// its sync. Frame 5 begins with call 39.
 #[test]
 fn a_command_that_was_stopped_goes_on(rt: HostRuntime) {
     let alloc = rt.alloc();
     for (stop, pick, acknowledged, rest) in [
         (
-            10,
+            14,
             0,
             "frames 24\nacknowledged 1\n",
             "frames 24\nkept 1\nrendered 23\n",
         ),
         (
-            10,
+            14,
             1,
             "frames 24\nacknowledged 0\n",
             "frames 24\nkept 0\nrendered 24\n",
         ),
         (
-            10,
+            14,
             2,
             "frames 24\nacknowledged 0\n",
             "frames 24\nkept 0\nrendered 24\n",
         ),
         (
-            27,
+            39,
             1,
             "frames 24\nacknowledged 5\n",
             "frames 24\nkept 5\nrendered 19\n",

@@ -94,3 +94,43 @@ fn a_crew_acknowledges_as_it_goes(rt: HostRuntime) {
     assert!(rt; rest.kept == done.rendered);
     drop(desk);
 }
+
+/// An undisturbed crew makes 152 calls: eight of the opening, and six of each frame. Stopped at each of them, it leaves as many
+/// frames acknowledged as were whole by then, or one more, and a run on one thread renders the rest.
+#[test]
+fn a_crew_that_was_stopped_at_a_call_loses_no_frame(rt: HostRuntime) {
+    let alloc = rt.alloc();
+    let mut desk = Desk::new(alloc, &[]).expect(&rt, "a job");
+    for stop in 1..154 {
+        let disk = MemoryDisk::stopped_at(alloc, stop)
+            .ok()
+            .expect(&rt, "a disk");
+        let scans = CountedScans::of_desk(alloc, 3, 0, 0).expect(&rt, "scans");
+        let Crew {
+            end,
+            report: _,
+            history: _,
+            log: _,
+            scans: _,
+            disk,
+        } = crew_on(&rt, alloc, &desk.job, scans, 3, disk);
+        assert!(rt;
+            (end == RunEnd::Done) == (stop == 153),
+            "stop at {stop}"
+        );
+        let least = if stop < 9 { 0 } else { (stop as u32 - 9) / 6 };
+        for pick in 0..3 {
+            let mut crashed = disk.crash(pick).ok().expect(&rt, "a disk");
+            let (end, report) = desk.run(&mut crashed);
+            assert!(rt;
+                end == RunEnd::Done && least <= report.kept && report.kept <= least + 1,
+                "stop at {stop}, crash {pick}"
+            );
+            assert!(rt;
+                is_whole(&mut crashed),
+                "stop at {stop}, crash {pick}"
+            );
+        }
+    }
+    drop(desk);
+}

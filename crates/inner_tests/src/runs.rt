@@ -3,7 +3,7 @@ use crate::desk::{Desk, is_whole, report};
 use crate::noted::{Call, Noted};
 use cf_base::{FileId, Key};
 use dpx_header::FrameInfo;
-use reel_disk::{Disk, Length, MemoryDisk};
+use reel_disk::{Did, Disk, Got, Length, MemoryDisk};
 use source_reels::Seen;
 use station::RunEnd;
 
@@ -27,8 +27,8 @@ fn a_job_has_the_bands_and_the_reels_of_its_project(rt: HostRuntime) {
     drop(desk);
 }
 
-/// After the six calls of the opening each frame has four, those of its file before those of its gate. A second run loads
-/// nothing.
+/// After the eight calls of the opening each frame has six: those of its file come before those of its record, and these before
+/// those of its gate. A second run loads nothing.
 #[test]
 fn a_frames_file_is_kept_before_its_gate(rt: HostRuntime) {
     let alloc = rt.alloc();
@@ -39,20 +39,24 @@ fn a_frames_file_is_kept_before_its_gate(rt: HostRuntime) {
     };
     assert!(rt; desk.run(&mut noted) == (RunEnd::Done, report(0, 24, 26)));
     assert!(rt;
-        noted.calls.get(6..14)
+        noted.calls.get(8..20)
             == Some([
                 Call::WriteWhole(FIRST, FRAME),
                 Call::Sync(FIRST),
-                Call::WriteAt(FileId::Body, 64, 1),
-                Call::Sync(FileId::Body),
+                Call::WriteAt(FileId::Body2, 65, 32),
+                Call::Sync(FileId::Body2),
+                Call::WriteAt(FileId::Body2, 64, 1),
+                Call::Sync(FileId::Body2),
                 Call::WriteWhole(SECOND, FRAME),
                 Call::Sync(SECOND),
-                Call::WriteAt(FileId::Body, 65, 1),
-                Call::Sync(FileId::Body),
+                Call::WriteAt(FileId::Body2, 98, 32),
+                Call::Sync(FileId::Body2),
+                Call::WriteAt(FileId::Body2, 97, 1),
+                Call::Sync(FileId::Body2),
             ]
             .as_slice())
     );
-    assert!(rt; noted.calls.len() == 6 + 4 * 24);
+    assert!(rt; noted.calls.len() == 152);
     assert!(rt; desk.run(&mut noted) == (RunEnd::Done, report(24, 0, 0)));
     drop(desk);
 }
@@ -71,7 +75,7 @@ fn goes_on(desk: &mut Desk, disk: &MemoryDisk, pick: u8, kept: u32, length: Leng
     }
 }
 
-/// Calls 7 to 10 are those of the first frame. A stop before the gate's write leaves the frame without an acknowledgement;
+/// Calls 9 to 14 are those of the first frame. A stop before the gate's write leaves the frame without an acknowledgement;
 /// one between that and its sync leaves it either way, with the file there in both.
 #[test]
 fn a_stop_leaves_no_frame_half_acknowledged(rt: HostRuntime) {
@@ -79,11 +83,13 @@ fn a_stop_leaves_no_frame_half_acknowledged(rt: HostRuntime) {
     let mut desk = Desk::new(alloc, &[]).expect(&rt, "a job");
     let whole = Length::There(2064);
     for (stop, kept, lengths) in [
-        (7, [0, 0, 0], [Length::Absent; 3]),
-        (8, [0, 0, 0], [whole, Length::Absent, Length::There(1032)]),
-        (9, [0, 0, 0], [whole; 3]),
-        (10, [1, 0, 0], [whole; 3]),
-        (11, [1, 1, 1], [whole; 3]),
+        (9, [0, 0, 0], [Length::Absent; 3]),
+        (10, [0, 0, 0], [whole, Length::Absent, Length::There(1032)]),
+        (11, [0, 0, 0], [whole; 3]),
+        (12, [0, 0, 0], [whole; 3]),
+        (13, [0, 0, 0], [whole; 3]),
+        (14, [1, 0, 0], [whole; 3]),
+        (15, [1, 1, 1], [whole; 3]),
     ] {
         let mut disk = MemoryDisk::stopped_at(alloc, stop)
             .ok()
@@ -108,18 +114,87 @@ fn a_stop_leaves_no_frame_half_acknowledged(rt: HostRuntime) {
     drop(desk);
 }
 
-/// Frame 3 has the calls 19 to 22: it is acknowledged once its gate is written, or not.
+/// Frame 3 has the calls 27 to 32: it is acknowledged once its gate is written, or not.
 #[test]
 fn a_run_that_was_stopped_loads_what_is_left(rt: HostRuntime) {
     let alloc = rt.alloc();
     let mut desk = Desk::new(alloc, &[]).expect(&rt, "a job");
-    let mut disk = MemoryDisk::stopped_at(alloc, 22).ok().expect(&rt, "a disk");
+    let mut disk = MemoryDisk::stopped_at(alloc, 32).ok().expect(&rt, "a disk");
     assert!(rt; desk.run(&mut disk) == (RunEnd::DiskFault, report(0, 3, 4)));
     for (pick, kept, loads) in [(0, 4, 22), (1, 3, 23)] {
         let mut crashed = disk.crash(pick).ok().expect(&rt, "a disk");
         let want = (RunEnd::Done, report(kept, 24 - kept, loads));
         assert!(rt; desk.run(&mut crashed) == want, "crash {pick}");
         assert!(rt; is_whole(&mut crashed), "crash {pick}");
+    }
+    drop(desk);
+}
+
+/// The first frames of a reel that was rendered by version 1.
+const DONE: u32 = 5;
+
+/// Copies so many bytes of a file from one disk to another, and makes sure of them.
+fn copy(from: &mut MemoryDisk, to: &mut MemoryDisk, id: FileId) -> Option<()> {
+    let mut bytes = [0; FRAME];
+    if from.read(id, 0, &mut bytes) != Got::Bytes(FRAME) {
+        return None;
+    }
+    keep(to, id, &bytes)
+}
+
+fn keep(disk: &mut MemoryDisk, id: FileId, bytes: &[u8]) -> Option<()> {
+    (disk.write_whole(id, bytes) == Did::Done && disk.sync(id) == Did::Done).then_some(())
+}
+
+/// Lays out by 14 calls what a run of version 1 left that was stopped behind its first frames: its seal, its body with their
+/// gates, and their files as a whole reel has them.
+fn leave_version_1(whole: &mut MemoryDisk, disk: &mut MemoryDisk) -> Option<()> {
+    let mut body = [0; 88];
+    if whole.read(FileId::Body2, 0, &mut body) != Got::Bytes(88) {
+        return None;
+    }
+    body[7] = b'1';
+    for (at, gate) in body.iter_mut().enumerate().skip(64) {
+        *gate = if at < 69 { b'A' } else { 0 };
+    }
+    keep(disk, FileId::Body, &body)?;
+    keep(disk, FileId::Seal, b"CONFORM SEAL 1\n")?;
+    for frame in 86_400..86_400 + DONE {
+        copy(whole, disk, FileId::Frame { reel: 1, frame })?;
+    }
+    Some(())
+}
+
+/// The taking over makes 22 calls. A stop at each of them loses no acknowledgement, whatever a crash leaves.
+#[test]
+fn a_folder_of_version_1_is_taken_over(rt: HostRuntime) {
+    let alloc = rt.alloc();
+    let mut desk = Desk::new(alloc, &[]).expect(&rt, "a job");
+    let mut whole = MemoryDisk::new(alloc).ok().expect(&rt, "a disk");
+    assert!(rt; desk.run(&mut whole) == (RunEnd::Done, report(0, 24, 26)));
+    for call in 1..24 {
+        let mut disk = MemoryDisk::stopped_at(alloc, 14 + call)
+            .ok()
+            .expect(&rt, "a disk");
+        assert!(rt; leave_version_1(&mut whole, &mut disk).is_some());
+        let (end, stopped) = desk.run(&mut disk);
+        assert!(rt; end == RunEnd::DiskFault, "stop at {call}");
+        assert!(rt;
+            stopped.kept == (if call < 23 { 0 } else { DONE }),
+            "stop at {call}"
+        );
+        for pick in 0..3 {
+            let mut crashed = disk.crash(pick).ok().expect(&rt, "a disk");
+            let (end, report) = desk.run(&mut crashed);
+            assert!(rt;
+                end == RunEnd::Done && report.kept == DONE && report.rendered == 19,
+                "stop at {call}, crash {pick}"
+            );
+            assert!(rt;
+                is_whole(&mut crashed),
+                "stop at {call}, crash {pick}"
+            );
+        }
     }
     drop(desk);
 }

@@ -1,7 +1,7 @@
 //! The lines that are put for outcomes.
 ghost use Rattle.std.specs.Prelude.{◌≡◌, ◌++◌, IfOk, OnOk, MatchOption};
 ghost use Rattle.std.specs.Option.{option_copied};
-ghost use Rattle.outcome_line.specs.Output.{plain_line, refused_line, absent_line, numbered_line, timeline_line, reels_line, project_line, job_line, source_line, fault_text, line_of, other_job_line, bad_ledger_line, changed_line, IsMade};
+ghost use Rattle.outcome_line.specs.Output.{plain_line, refused_line, absent_line, numbered_line, timeline_line, reels_line, project_line, job_line, source_line, fault_text, line_of, other_job_line, bad_ledger_line, damaged_line, changed_line, IsMade};
 
 use crate::outcome::{
     Outcome, Refused, Which, cube_number, header_number, list_number, project_number, reels_number,
@@ -27,6 +27,7 @@ pub fn plain_line(outcome: &Outcome) -> &'static str
         | Outcome::Refused(_)
         | Outcome::OtherJob { .. }
         | Outcome::BadLedger { .. }
+        | Outcome::Damaged { .. }
         | Outcome::Changed { .. }
         | Outcome::SinkFault { .. } => "",
     }
@@ -40,6 +41,7 @@ pub fn made_line(alloc: Global, outcome: &Outcome) -> Option<Result<Vec<u8>, All
         Outcome::Refused(refused) => Some(refused_line(alloc, refused)),
         Outcome::OtherJob { kept, wanted } => Some(other_job_line(alloc, kept, wanted)),
         Outcome::BadLedger { len } => Some(bad_ledger_line(alloc, *len)),
+        Outcome::Damaged { frame, kept, found } => Some(damaged_line(alloc, *frame, kept, found)),
         Outcome::Changed { reel, key, .. } => Some(changed_line(alloc, reel, key.source)),
         _ => None,
     }
@@ -65,6 +67,26 @@ fn bad_ledger_line(alloc: Global, len: u64) -> Result<Vec<u8>, AllocError>
     let mut text = Vec::new(alloc);
     put_bytes(&mut text, b"bad ledger ")?;
     put_number(&mut text, len)?;
+    put_bytes(&mut text, b"\n")?;
+    Ok(text)
+}
+
+/// The line of a damaged frame.
+fn damaged_line(
+    alloc: Global,
+    frame: u32,
+    kept: &[u8; 32],
+    found: &[u8; 32],
+) -> Result<Vec<u8>, AllocError>
+    ensures { IfOk result (λ text. text.items ≡ damaged_line frame kept.now found.now) }
+{
+    let mut text = Vec::new(alloc);
+    put_bytes(&mut text, b"damaged frame ")?;
+    put_number(&mut text, frame)?;
+    put_bytes(&mut text, b" ")?;
+    put_digest(&mut text, kept)?;
+    put_bytes(&mut text, b" ")?;
+    put_digest(&mut text, found)?;
     put_bytes(&mut text, b"\n")?;
     Ok(text)
 }

@@ -31,6 +31,13 @@ pub enum Outcome {
     BadLedger {
         len: u64,
     },
+    /// A frame's file has another SHA-256 than the ledger keeps of it: the first such frame, from 0, the record, and what was
+    /// found.
+    Damaged {
+        frame: u32,
+        kept: [u8; 32],
+        found: [u8; 32],
+    },
     /// A source file isn't what the plan found: its reel's name, its key, what the plan found, and what is there now.
     Changed {
         reel: Name,
@@ -82,7 +89,7 @@ pub enum Which {
 
 impl Outcome {
     /// The status that the program ends with: 0 Done, 1 Usage, 2 Refused, 3 OtherJob, 4 BadLedger,
-    /// 6 Changed, 7 SourceFault, 8 DiskFault, 9 SinkFault, 10 NoMemory.
+    /// 5 Damaged, 6 Changed, 7 SourceFault, 8 DiskFault, 9 SinkFault, 10 NoMemory.
     pub fn status(&self) -> u8
         ensures { result ≡ status_of self.now }
     {
@@ -92,6 +99,7 @@ impl Outcome {
             Outcome::Refused(_) => 2,
             Outcome::OtherJob { .. } => 3,
             Outcome::BadLedger { .. } => 4,
+            Outcome::Damaged { .. } => 5,
             Outcome::Changed { .. } => 6,
             Outcome::SourceFault => 7,
             Outcome::DiskFault => 8,

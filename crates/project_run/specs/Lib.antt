@@ -1,3 +1,4 @@
 pub mod Crew
 pub mod Run
 pub mod Status
+pub mod Verify

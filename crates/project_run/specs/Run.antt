@@ -109,5 +109,6 @@ IsRunReply told path share disk disk_after loads loads_after reached output =
 abbrev pub IsOfRun : Outcome → Type 0
 IsOfRun outcome.Done = ⊥
 IsOfRun outcome.Usage = ⊥
+IsOfRun (outcome.Damaged frame kept found) = ⊥
 IsOfRun (outcome.SinkFault instead) = ⊥
 IsOfRun other = Unit {0}

@@ -13,7 +13,7 @@ use Rattle.project_job.specs.Jobs.{ComesTo, cube_count}
 use Rattle.printed_text.specs.Text.{spaced_line}
 use Rattle.outcome_line.specs.declared.outcome.Outcome.{Outcome}
 use Rattle.outcome_line.specs.declared.outcome.Outcome.TheVariants as outcome
-use Rattle.project_run.specs.Run.{DiskState, IsUnplanned}
+use Rattle.project_run.specs.Run.{DiskState, IsOfRun, IsUnplanned}
 
 -- the frames of the reel, and those that the folder acknowledges
 abbrev pub status_text : (frames acked : ℕ) → List ℕ
@@ -21,13 +21,17 @@ status_text frames acked =
     spaced_line (codes "frames" ∷ decimal frames ∷ [])
     ++ spaced_line (codes "acknowledged" ∷ decimal acked ∷ [])
 
+-- the outcome of a ledger that can't be had
+abbrev pub outcome_of_fault : OpenFault → Outcome
+outcome_of_fault (faults.OtherJob kept wanted) = outcome.OtherJob kept wanted
+outcome_of_fault (faults.BadLedger len) = outcome.BadLedger len
+outcome_of_fault faults.DiskFault = outcome.DiskFault
+outcome_of_fault faults.NoMemory = outcome.NoMemory
+
 -- the outcome of a look at the folder
 abbrev pub outcome_of_peek : Result ℕ OpenFault → Outcome
 outcome_of_peek (Ok acked) = outcome.Done
-outcome_of_peek (Err (faults.OtherJob kept wanted)) = outcome.OtherJob kept wanted
-outcome_of_peek (Err (faults.BadLedger len)) = outcome.BadLedger len
-outcome_of_peek (Err faults.DiskFault) = outcome.DiskFault
-outcome_of_peek (Err faults.NoMemory) = outcome.NoMemory
+outcome_of_peek (Err fault) = outcome_of_fault fault
 
 -- The folder was looked at, at no moment was it changed, and its number was put: that of the frames that it acknowledges.
 pub record IsStatus (job : JobData) (disk disk_after : DiskState) (reached : Outcome) (output : List ℕ) : Type 0 where
@@ -48,3 +52,8 @@ pub record HasStatus (told : Option World) (path : List ℕ) (disk disk_after : 
 abbrev pub IsStatusReply : Option World → List ℕ → DiskState → DiskState → ℕ → ℕ → Outcome → List ℕ → Type 0
 IsStatusReply told path disk disk_after loads loads_after reached output =
     HasStatus told path disk disk_after loads loads_after reached output ⊎ IsUnplanned told path disk disk_after loads loads_after reached
+
+-- the outcomes that a look at the folder may come to in place of Done: no source file is loaded, and none changes
+abbrev pub IsOfLook : Outcome → Type 0
+IsOfLook (outcome.Changed reel key was now) = ⊥
+IsOfLook other = IsOfRun other

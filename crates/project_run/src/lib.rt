@@ -1,12 +1,15 @@
-//! The reel of a project's job in the reel folder: a run on one thread (`run`) or by a crew (`run_crewed`), and how far it is
-//! (`status`), as the text that the command puts, or the outcome that it comes to.
+//! The reel of a project's job in the reel folder: a run on one thread (`run`) or by a crew (`run_crewed`), how far it is
+//! (`status`), and whether what is done is still whole (`verify`), as the text that the command puts, or the outcome that it
+//! comes to.
 #![tactic(auto)]
 
 mod alone;
 mod crew;
 mod progress;
 mod report;
+mod verify;
 
 pub use alone::run;
 pub use crew::{CrewEnded, run_crewed};
 pub use progress::status;
+pub use verify::verify;

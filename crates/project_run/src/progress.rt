@@ -2,8 +2,8 @@
 ghost use Rattle.std.specs.Prelude.{◌≡◌, ◌≢◌, ◌≤◌, Ok, Err, IfOk, MatchResult};
 ghost use Rattle.cf_base.specs.Count.{HasRisen};
 ghost use Rattle.outcome_line.specs.Output.{line_of};
-ghost use Rattle.project_run.specs.Run.{IsOfRun, disk_state};
-ghost use Rattle.project_run.specs.Status.{IsStatus, IsStatusReply, outcome_of_peek, status_text};
+ghost use Rattle.project_run.specs.Run.{disk_state};
+ghost use Rattle.project_run.specs.Status.{IsOfLook, IsStatus, IsStatusReply, outcome_of_fault, status_text};
 
 use crate::report::put_count;
 use cf_base::PathText;
@@ -29,7 +29,7 @@ pub fn status<S: Scans, D: Disk>(
     ensures folder { MatchResult result
         (λ text. IsStatusReply (S.world scan.old) path.now (disk_state D.tells D.history D.faults disk.old) (disk_state D.tells D.history D.faults disk.new) (S.loads scan.old) (S.loads scan.new) Outcome.Done text.items)
         (λ outcome. IsStatusReply (S.world scan.old) path.now (disk_state D.tells D.history D.faults disk.old) (disk_state D.tells D.history D.faults disk.new) (S.loads scan.old) (S.loads scan.new) outcome (line_of outcome)) }
-    ensures kind { MatchResult result (λ text. Unit {0}) IsOfRun }
+    ensures kind { MatchResult result (λ text. Unit {0}) IsOfLook }
 
     ensures failed { result ≡ Err Outcome.SourceFault → HasRisen (S.faults scan.old) (S.faults scan.new) }
     ensures steady { result ≢ Err Outcome.SourceFault → S.faults scan.new ≡ S.faults scan.old }
@@ -56,7 +56,7 @@ fn status_of<D: Disk>(alloc: Global, job: &Job, disk: &mut D) -> Result<Vec<u8>,
     ensures status { MatchResult result
         (λ text. IsStatus job.now (disk_state D.tells D.history D.faults disk.old) (disk_state D.tells D.history D.faults disk.new) Outcome.Done text.items)
         (λ outcome. IsStatus job.now (disk_state D.tells D.history D.faults disk.old) (disk_state D.tells D.history D.faults disk.new) outcome (line_of outcome)) }
-    ensures kind { MatchResult result (λ text. Unit {0}) IsOfRun }
+    ensures kind { MatchResult result (λ text. Unit {0}) IsOfLook }
     ensures never { result ≢ Err Outcome.SourceFault }
 
     ensures disk_fault { result ≡ Err Outcome.DiskFault → HasRisen (D.faults disk.old) (D.faults disk.new) }
@@ -69,13 +69,13 @@ fn status_of<D: Disk>(alloc: Global, job: &Job, disk: &mut D) -> Result<Vec<u8>,
             Ok(text) => Ok(text),
             Err(_) => Err(Outcome::NoMemory),
         },
-        Err(fault) => Err(outcome_of_peek(fault)),
+        Err(fault) => Err(outcome_of_fault(fault)),
     }
 }
 
-/// The outcome of a look at the folder.
-fn outcome_of_peek(fault: OpenFault) -> Outcome
-    ensures { result ≡ outcome_of_peek (Err fault) }
+/// The outcome of a ledger that can't be had.
+pub(crate) fn outcome_of_fault(fault: OpenFault) -> Outcome
+    ensures { result ≡ outcome_of_fault fault }
 {
     match fault {
         OpenFault::OtherJob { kept, wanted } => Outcome::OtherJob { kept, wanted },

@@ -1,6 +1,5 @@
 -- The run of the project is the command's reply.
 use Rattle.std.proofs.Common.{refl}
-use Rattle.command_words.specs.declared.command.Command.TheVariants as commands
 use Rattle.conform_tool.proofs.Replies.{reply_of, replied_run, error_of, outcome_of}
 use Rattle.conform_tool.proofs.run.run.Goals as goal
 
@@ -12,5 +11,5 @@ returns-in-Ok-clause-reply g c =
 pub returns-in-Err-clause-reply : goal.returns-in-Err-clause-reply
 returns-in-Err-clause-reply g c =
     let ran = c.in-Err.ensures in
-    reply_of _ _ _ _ _ (replied_run (commands.Run c.args.path.now c.args.workers c.args.share) _ tt ran.kind) tt (λ _. refl)
+    reply_of _ _ _ _ _ (replied_run c.args.path.now c.args.workers c.args.share _ ran.kind) tt (λ _. refl)
     (λ same. ran.failed (error_of _ _ same)) (λ other. ran.steady (λ same. other (outcome_of _ _ same))) ran.later tt tt ran.world

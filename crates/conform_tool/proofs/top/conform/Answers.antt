@@ -49,7 +49,7 @@ returns-in-Some-clause-complete g c command world spells is accepted =
     let disk = disk_state g.D.Disk.tells g.D.Disk.history g.D.Disk.faults c.args.disk in
     let command_is = found_command _ _ command _ _ _ c.in-Ok.ensures.command c.in-Some.ensures.0 spells in
     crew_answered_complete c.job_laws.ensures.job g.S.Scans.world g.S.Scans.faults g.S.Scans.loads g.S.Scans.same c.in-Some.crew.project c.in-Some.crew.workers _ _ disk _ world is
-    (subst (λ k. IsAccepted k world disk) command_is accepted) _ _ _ c.by_crew.ensures.crew
+    (subst (λ k. IsAccepted k world disk) command_is accepted) c.in-Some.crew.share _ _ _ c.by_crew.ensures.crew
 
 pub returns-in-Some-clause-unfailed : goal.returns-in-Some-clause-unfailed
 returns-in-Some-clause-unfailed g c command spells =

@@ -1,6 +1,6 @@
 -- The project comes to its job, and the folder is looked at.
 use Rattle.std.proofs.Common.{refl, inr}
-use Rattle.project_run.proofs.Runs.{match_each, of_job, status_in}
+use Rattle.project_run.proofs.Runs.{match_each, job_looks, status_in}
 use Rattle.project_run.proofs.progress.status.Goals as goal
 
 pub returns-clause-folder : goal.returns-clause-folder
@@ -15,4 +15,4 @@ returns-in-Err-clause-folder g c =
     inr (record { why = job.told; kind = job.kind; untouched = refl; texts = job.loads })
 
 pub returns-in-Err-clause-kind : goal.returns-in-Err-clause-kind
-returns-in-Err-clause-kind g c = of_job _ c.in-Err.ensures.kind
+returns-in-Err-clause-kind g c = job_looks _ c.in-Err.ensures.kind

@@ -1,0 +1,18 @@
+-- The project comes to its job, and the folder is checked.
+use Rattle.std.proofs.Common.{refl, inr}
+use Rattle.project_run.proofs.Runs.{match_each, job_verifies, verified_in}
+use Rattle.project_run.proofs.verify.verify.Goals as goal
+
+pub returns-clause-folder : goal.returns-clause-folder
+returns-clause-folder g c =
+    let job = c.in-Ok.ensures in
+    let reply = verified_in c.in-Ok.job (g.S.Scans.world c.args.scan.now) c.args.path.now _ _ (g.S.Scans.loads c.args.scan.now) (g.S.Scans.loads c.planned.new.scan) in
+    match_each _ _ _ _ _ c.verified-reply.ensures.verified (λ text verified. reply _ _ job.told job.loaded verified) (λ outcome verified. reply _ _ job.told job.loaded verified)
+
+pub returns-in-Err-clause-folder : goal.returns-in-Err-clause-folder
+returns-in-Err-clause-folder g c =
+    let job = c.in-Err.ensures in
+    inr (record { why = job.told; kind = job.kind; untouched = refl; texts = job.loads })
+
+pub returns-in-Err-clause-kind : goal.returns-in-Err-clause-kind
+returns-in-Err-clause-kind g c = job_verifies _ c.in-Err.ensures.kind
