@@ -89,7 +89,9 @@ run_instead told path disk disk_after loads loads_after reached output (inl has)
     run = has.ran.run;
     acked = has.ran.acked;
     whole = has.ran.whole;
+    sound_has = has.ran.sound_has;
     spares = has.ran.spares;
+    writes = has.ran.writes;
     loaded = has.ran.loaded;
   };
 })

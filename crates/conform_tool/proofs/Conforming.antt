@@ -37,7 +37,9 @@ module _ {S : Type 0} (world : S → Option World) (faults loads : S → ℕ) (s
       run = ran.run;
       acked = ran.acked;
       whole = ran.whole;
+      sound_has = ran.sound_has;
       spares = ran.spares;
+      writes = ran.writes;
       scans = ran.scans;
       changed = ran.changed;
     };

@@ -14,7 +14,7 @@ use Rattle.reel_disk.specs.Runs.{LeavesOnly, Surely, NeverForgets}
 use Rattle.resume_ledger.specs.Ledger.{Acks, IsInForce}
 use Rattle.resume_ledger.specs.declared.layout.Version.{Version}
 use Rattle.resume_ledger.specs.declared.layout.Version.TheVariants.{One, Two}
-use Rattle.reel_writer.specs.Reel.{frames_of, HasAcked, IsSoundReel, IsReelRun, KeepsReel, LosesNone}
+use Rattle.reel_writer.specs.Reel.{frames_of, HasAcked, IsSoundReel, HasFrameFiles, IsReelRun, KeepsReel}
 use Rattle.single_run.specs.Run.{AreAllAcked}
 use Rattle.single_run.specs.declared.run_end.RunEnd.{RunEnd}
 use Rattle.single_run.specs.declared.run_end.RunEnd.TheVariants as ends
@@ -40,9 +40,12 @@ sound_by : (a b : JobData) (world : World) → a.parts ≡ b.parts → ◌≡◌
 unfolding frame_file some_lines words_of_key
 sound_by a b world same = ap (λ parts. IsSoundReel (record { parts = parts; infos = b.infos }) world) same
 
-loses_by : (a b : JobData) (old new : History) → a.parts ≡ b.parts → (LosesNone a (view_of old) → KeepsReel a old new) → LosesNone b (view_of old) → KeepsReel b old new
+keeps_by : (a b : JobData) (old new : History) → a.parts ≡ b.parts → (HasFrameFiles a (view_of old) → KeepsReel a old new) → HasFrameFiles b (view_of old) → KeepsReel b old new
+keeps_by a b old new same = subst (λ parts. HasFrameFiles (record { parts = parts; infos = b.infos }) (view_of old) → KeepsReel (record { parts = parts; infos = b.infos }) old new) same
+
+has_by : (a b : JobData) (world : World) → a.parts ≡ b.parts → ((w : World) (files : Files) → IsSoundReel a w files → HasFrameFiles a files) → (files : Files) → IsSoundReel b world files → HasFrameFiles b files
 unfolding frame_file some_lines words_of_key
-loses_by a b old new same = subst (λ parts. LosesNone (record { parts = parts; infos = b.infos }) (view_of old) → KeepsReel (record { parts = parts; infos = b.infos }) old new) same
+has_by a b world same has files = subst (λ parts. IsSoundReel (record { parts = parts; infos = b.infos }) world files → HasFrameFiles (record { parts = parts; infos = b.infos }) files) same (has world files)
 
 -- ---- where a run may begin
 
@@ -90,11 +93,11 @@ still_promise job world now Ended none = record {
 
 -- a run of a job with these parts
 run_promise : (job ran : JobData) (told : Option World) (world : World) (opening now : History) (Ended : Type 0) → told ≡ Some world → ran.parts ≡ job.parts
-    → IsReelRun ran told opening now → (Ended → AreAllAcked ran (moment_of now)) → KeepsItsPromise job world opening now Ended
-run_promise job ran told world opening now Ended is same run acked = record {
+    → IsReelRun ran told opening now → ((w : World) (files : Files) → IsSoundReel ran w files → HasFrameFiles ran files) → (Ended → AreAllAcked ran (moment_of now)) → KeepsItsPromise job world opening now Ended
+run_promise job ran told world opening now Ended is same run has acked = record {
   sound = sound;
   again = λ begun m from to files image. begins_again job world files (sound begun m from to files image);
-  kept = λ begun. kept (inr (world, begun_sound job world (moment_of opening) begun (view_of opening) (view_is_image (moment_of opening))));
+  kept = λ begun. kept (has_by ran job world same has (view_of opening) (begun_sound job world (moment_of opening) begun (view_of opening) (view_is_image (moment_of opening))));
   kept_of_any = kept;
   whole = λ ended begun files image. record {
     there = λ i within. ((sound begun now.now run.extends.later (omega arith) files image).sound i (all ended i within files image)).file;
@@ -102,8 +105,8 @@ run_promise job ran told world opening now Ended is same run acked = record {
   };
 }
   where
-    kept : LosesNone job (view_of opening) → KeepsReel job opening now
-    kept = loses_by ran job opening now same run.keeps
+    kept : HasFrameFiles job (view_of opening) → KeepsReel job opening now
+    kept = keeps_by ran job opening now same run.keeps
 
     sound : IsBeginning job world (moment_of opening) → LeavesOnly opening now (IsSoundReel job world)
     sound begun = subst (λ P. Surely (moment_of opening) P → LeavesOnly opening now P) (sound_by ran job world same)
@@ -172,7 +175,7 @@ module _ (laws : OneJob) (job : JobData) (world : World) (path : List ℕ) (come
   reply_promise told disk disk_after loads loads_after reached output Ended is tells done (inl has) =
       run_promise job has.job told world disk.history disk_after.history Ended is
       (laws.one (file_at world) path has.job.parts job.parts (at_world told world (λ w. ComesTo (file_at w) path (Ok has.job.parts)) is has.comes) comes)
-      (has.ran.run tells) (λ ended. has.ran.acked (how_done _ _ _ (done ended) has.ran.reply.reached_is) tells)
+      (has.ran.run tells) has.ran.sound_has (λ ended. has.ran.acked (how_done _ _ _ (done ended) has.ran.reply.reached_is) tells)
   reply_promise told disk disk_after loads loads_after reached output Ended is tells done (inr none) =
       subst (λ (after : DiskState). KeepsItsPromise job world disk.history after.history Ended) (sym none.untouched)
       (still_promise job world disk.history Ended (λ ended. job_not_done reached none.kind (done ended)))
@@ -183,7 +186,7 @@ module _ (laws : OneJob) (job : JobData) (world : World) (path : List ℕ) (come
   crew_promise world_of faults loads same workers scans scans_after disk disk_after reached output Ended is tells done (inl has) =
       run_promise job has.job (told_by world_of scans) world disk.history disk_after.history Ended is
       (laws.one (file_at world) path has.job.parts job.parts (at_world (told_by world_of scans) world (λ w. ComesTo (file_at w) path (Ok has.job.parts)) is has.comes) comes)
-      (has.ran.run tells) (λ ended. has.ran.acked (how_done _ _ _ (done ended) has.ran.reply.reached_is) tells)
+      (has.ran.run tells) has.ran.sound_has (λ ended. has.ran.acked (how_done _ _ _ (done ended) has.ran.reply.reached_is) tells)
   crew_promise world_of faults loads same workers scans scans_after disk disk_after reached output Ended is tells done (inr none) =
       subst (λ (after : DiskState). KeepsItsPromise job world disk.history after.history Ended) (sym none.untouched)
       (still_promise job world disk.history Ended (λ ended. job_not_done reached none.kind (done ended)))

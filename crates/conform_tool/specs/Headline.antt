@@ -12,7 +12,7 @@ use Rattle.conform_job.specs.Job.{JobData, file_of}
 use Rattle.frame_render.specs.Frame.{frame_file}
 use Rattle.reel_disk.specs.Disk.{Files, Moment, History, moment_of, view_of}
 use Rattle.reel_disk.specs.Runs.{LeavesOnly, Surely, NeverForgets}
-use Rattle.reel_writer.specs.Reel.{frames_of, HasAcked, IsSoundReel, LosesNone}
+use Rattle.reel_writer.specs.Reel.{frames_of, HasAcked, HasFrameFiles, IsSoundReel}
 use Rattle.project_job.specs.Jobs.{ComesTo}
 use Rattle.command_words.specs.Commands.{Spells}
 use Rattle.command_words.specs.declared.command.Command.TheVariants as commands
@@ -57,7 +57,7 @@ pub record KeepsItsPromise (job : JobData) (world : World) (opening now : Histor
   -- No acknowledgement is ever lost.
   pub kept : IsBeginning job world (moment_of opening) → (i : ℕ) → NeverForgets opening now (HasAcked job i)
   -- Nor is one of any other folder, but of a frame of version 1 whose file is lost or isn't as long as a frame.
-  pub kept_of_any : LosesNone job (view_of opening) → (i : ℕ) → NeverForgets opening now (HasAcked job i)
+  pub kept_of_any : HasFrameFiles job (view_of opening) → (i : ℕ) → NeverForgets opening now (HasAcked job i)
   -- A run that was done leaves the whole reel, and so does each crash behind it.
   pub whole : Ended → IsBeginning job world (moment_of opening) → Surely (moment_of now) (IsWholeReel job world)
 

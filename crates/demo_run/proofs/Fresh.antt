@@ -1,16 +1,18 @@
 -- A run that was begun on an empty disk.
-use Rattle.std.proofs.Common.{◌≡◌, ℕ, zero, suc, ◌+◌, Bool, true, false, not, List, [], ◌∷◌, length, get_or, filter, count_by, refl, ap, subst, ◌∙◌, inl, inr, arith}
+use Rattle.std.proofs.Common.{◌≡◌, ℕ, zero, suc, ◌+◌, Bool, true, false, not, List, [], ◌∷◌, length, get_or, filter, count_by, refl, sym, ap, subst, ◌∙◌, inl, inr, arith}
 use Rattle.std.specs.Prelude.{◌⊎◌, Option, Some, None, IsSome, IfSome, is_some}
 use Rattle.std.specs.List.{range_with_len}
 use Rattle.cf_base.specs.declared.file.FileId.{FileId}
-use Rattle.cf_base.specs.declared.file.FileId.TheVariants.{Seal}
+use Rattle.cf_base.specs.declared.file.FileId.TheVariants.{Seal, Seal2}
 use Rattle.scan_source.specs.World.{World}
 use Rattle.conform_job.specs.Job.{JobData}
 use Rattle.reel_disk.specs.declared.disk.Place.{Place}
 use Rattle.reel_disk.specs.declared.disk.Place.TheVariants.{Whole}
 use Rattle.reel_disk.specs.Disk.{Files, History, IsLoose, IsImage, AgreesOutside, IsNewDisk, moment_of, view_of, loose_of}
 use Rattle.reel_disk.specs.Runs.{Surely}
-use Rattle.resume_ledger.specs.Ledger.{IsSealed}
+use Rattle.resume_ledger.specs.Ledger.{IsInForce, IsSealed}
+use Rattle.resume_ledger.specs.declared.layout.Version.{Version}
+use Rattle.resume_ledger.specs.declared.layout.Version.TheVariants.{One, Two}
 use Rattle.reel_writer.specs.Reel.{frames_of, IsSoundReel}
 use Rattle.single_run.specs.Asks.{closed_frames}
 use Rattle.single_run.specs.Ends.{IsEnd}
@@ -19,6 +21,11 @@ use Rattle.frame_share.specs.declared.step.ShareStep.{ShareStep}
 use Rattle.single_run.specs.declared.run_end.Report.{Report}
 use Rattle.single_run.specs.declared.run_end.RunEnd.{RunEnd}
 use Rattle.single_run.specs.declared.run_end.RunEnd.TheVariants.{Done, OtherJob, BadLedger, Changed, SourceFault, DiskFault, NoMemory}
+
+-- files without a seal are of no version
+no_seal : (files : Files) → ((id : FileId) → files id ≡ None) → (version : Version) → IsInForce version files → ⊥
+no_seal files none Two in_force = let gone = sym (none Seal2) ∙ in_force in cc
+no_seal files none One in_force = let gone = sym (none Seal) ∙ in_force.1 in cc
 
 -- no gate is open
 none_open : (gates : List Bool) → ((k : ℕ) → get_or gates k false ≡ true → ⊥) → count_by (λ gate. gate) gates ≡ 0
@@ -49,13 +56,13 @@ module _ (old : History) (faults : ℕ) (fresh : IsNewDisk (λ id. None) old fau
       (image id (λ loose. subst (λ (places : List Place). IsLoose places (Whole id)) fresh.firm loose))
 
   unsealed : IsSealed (view_of old) → ⊥
-  unsealed sealed = let none : view_of old Seal ≡ None = fresh.view Seal in cc
+  unsealed sealed = no_seal (view_of old) (λ id. fresh.view id) sealed.0 sealed.1
 
   sound : (job : JobData) (world : World) → Surely (moment_of old) (IsSoundReel job world)
-  sound job world files image = record { sound = λ i acks. absurd (open_seal acks.sealed); fit = λ sealed. absurd (open_seal sealed) }
+  sound job world files image = record { sound = λ i acks. absurd (none acks.version acks.in_force); fit = λ version in_force. absurd (none version in_force) }
     where
-      open_seal : IsSealed files → ⊥
-      open_seal sealed = let none : files Seal ≡ None = image_empty files image Seal in cc
+      none : (version : Version) → IsInForce version files → ⊥
+      none = no_seal files (image_empty files image)
 
   module _ (job : JobData) (told : Option World) (new : History) where
     -- at Done the folder has the whole reel
@@ -70,7 +77,7 @@ module _ (old : History) (faults : ℕ) (fresh : IsNewDisk (λ id. None) old fau
       -- and every frame is among those that were finished
       pub acked_at_done : WasOpened job told capacity true old new Done report log ⊎ WasRefused job true old new Done report log → report.kept + report.rendered ≡ frames_of job
       acked_at_done (inl opened) =
-          let shut : (k : ℕ) → get_or opened.gates k false ≡ true → ⊥ = λ k is. unsealed ((opened.opening refl k).0 is).sealed in
+          let shut : (k : ℕ) → get_or opened.gates k false ≡ true → ⊥ = λ k is. let acks = ((opened.opening refl k).0 is).0 in unsealed (acks.version, acks.in_force) in
           let kept : report.kept ≡ 0 = opened.kept ∙ none_open opened.gates shut in
           let rendered : report.rendered ≡ frames_of job = opened.finished.all refl ∙ closed_count opened.gates shut (frames_of job) in
           omega (arith, kept, rendered)
@@ -79,8 +86,8 @@ module _ (old : History) (faults : ℕ) (fresh : IsNewDisk (λ id. None) old fau
       -- an empty disk is no other job's, and has no bad ledger
       never_refused : (end : RunEnd) → HasRefused job true old new end → (end ≡ DiskFault → ⊥) → (end ≡ NoMemory → ⊥) → ⊥
       never_refused Done why disk memory = why
-      never_refused (OtherJob kept wanted) why disk memory = unsealed (why.2 refl).sealed
-      never_refused (BadLedger len) why disk memory = unsealed (why refl).sealed
+      never_refused (OtherJob kept wanted) why disk memory = let other = why.2 refl in unsealed (other.version, other.in_force)
+      never_refused (BadLedger len) why disk memory = let bad = why refl in unsealed (bad.version, bad.in_force)
       never_refused (Changed key was now) why disk memory = why
       never_refused SourceFault why disk memory = why
       never_refused DiskFault why disk memory = disk refl

@@ -6,13 +6,14 @@ use Rattle.scan_source.specs.World.{World, file_at}
 use Rattle.conform_job.specs.Answers.{count_after}
 use Rattle.conform_job.specs.Job.{JobData}
 use Rattle.frame_share.specs.declared.step.ShareStep.{ShareStep}
-use Rattle.reel_disk.specs.Disk.{moment_of, view_of}
+use Rattle.reel_disk.specs.Disk.{Files, moment_of, view_of}
 use Rattle.reel_disk.specs.Runs.{Spares}
-use Rattle.reel_writer.specs.Reel.{frames_of, IsReelRun}
+use Rattle.resume_ledger.specs.Sound.{WritesOnly}
+use Rattle.reel_writer.specs.Reel.{frames_of, HasFrameFiles, IsReelRun, IsSoundReel}
 use Rattle.render_board.specs.declared.step.Step.{Step}
 use Rattle.station.specs.Crews.{AreWorked, IsUnstepped, WasCrewed}
 use Rattle.single_run.specs.Ends.{IsChange}
-use Rattle.single_run.specs.Run.{AreAllAcked, HasWhole, IsOwnFile}
+use Rattle.single_run.specs.Run.{AreAllAcked, HasWhole, IsOwnFile, MayWrite}
 use Rattle.single_run.specs.declared.run_end.Report.{Report}
 use Rattle.single_run.specs.declared.run_end.RunEnd.{RunEnd}
 use Rattle.single_run.specs.declared.run_end.RunEnd.TheVariants as ends
@@ -42,12 +43,14 @@ module _ {S : Type 0} (world : S → Option World) (faults loads : S → ℕ) (s
       → (disk.tells ≡ true → IsReelRun job told disk.history disk_after.history)
       → (how ≡ ends.Done → disk.tells ≡ true → AreAllAcked job (moment_of disk_after.history))
       → (how ≡ ends.Done → disk.tells ≡ true → HasWhole job told disk.history disk_after.history)
+      → ((world : World) (files : Files) → IsSoundReel job world files → HasFrameFiles job files)
       → (disk.tells ≡ true → Spares disk.history disk_after.history (IsOwnFile job (view_of disk.history)))
+      → (disk.tells ≡ true → WritesOnly disk.history disk_after.history (MayWrite job (view_of disk.history)))
       → AreWorked world faults loads same (min workers count) report.loads (how ≡ ends.SourceFault) old new
       → (IsChange how → 1 ≤ report.loads)
       → (reached : Outcome) (output : List ℕ) → IsReplyOf job how report reached output
       → IsCrewJobRun world faults loads same job told workers old new disk disk_after reached output
-  crew_job_run log job told workers count old new disk disk_after how report steps all frames ran run acked whole spares scans changed reached output reply = record {
+  crew_job_run log job told workers count old new disk disk_after how report steps all frames ran run acked whole sound_has spares writes scans changed reached output reply = record {
     how = how;
     report = report;
     reply = reply;
@@ -58,7 +61,9 @@ module _ {S : Type 0} (world : S → Option World) (faults loads : S → ℕ) (s
     run = run;
     acked = acked;
     whole = whole;
+    sound_has = sound_has;
     spares = spares;
+    writes = writes;
     scans = subst (λ n. AreWorked world faults loads same (min workers n) report.loads (how ≡ ends.SourceFault) old new) all scans;
     changed = changed;
   }

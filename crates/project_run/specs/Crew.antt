@@ -7,15 +7,16 @@ use Rattle.std.specs.Prelude.{◌≡◌, ◌≢◌, ◌⊎◌, ℕ, ◌+◌, ◌
 use Rattle.cf_base.specs.Count.{HasRisen}
 use Rattle.scan_source.specs.World.{World, file_at}
 use Rattle.frame_share.specs.declared.step.ShareStep.{ShareStep}
-use Rattle.reel_disk.specs.Disk.{moment_of, view_of}
+use Rattle.reel_disk.specs.Disk.{Files, moment_of, view_of}
 use Rattle.reel_disk.specs.Runs.{Spares}
-use Rattle.reel_writer.specs.Reel.{frames_of, IsReelRun}
+use Rattle.resume_ledger.specs.Sound.{WritesOnly}
+use Rattle.reel_writer.specs.Reel.{frames_of, HasFrameFiles, IsReelRun, IsSoundReel}
 use Rattle.conform_job.specs.Answers.{count_after}
 use Rattle.conform_job.specs.Job.{JobData}
 use Rattle.render_board.specs.declared.step.Step.{Step}
 use Rattle.station.specs.Crews.{AreWorked, IsUnstepped, WasCrewed}
 use Rattle.single_run.specs.Ends.{IsChange}
-use Rattle.single_run.specs.Run.{AreAllAcked, HasWhole, IsOwnFile}
+use Rattle.single_run.specs.Run.{AreAllAcked, HasWhole, IsOwnFile, MayWrite}
 use Rattle.single_run.specs.declared.run_end.Report.{Report}
 use Rattle.single_run.specs.declared.run_end.RunEnd.{RunEnd}
 use Rattle.single_run.specs.declared.run_end.RunEnd.TheVariants as ends
@@ -59,8 +60,12 @@ module _ {S : Type 0} (world : S → Option World) (faults loads : S → ℕ) (s
     pub run : disk.tells ≡ true → IsReelRun job told disk.history disk_after.history
     pub acked : how ≡ ends.Done → disk.tells ≡ true → AreAllAcked job (moment_of disk_after.history)
     pub whole : how ≡ ends.Done → disk.tells ≡ true → HasWhole job told disk.history disk_after.history
-    -- what it wrote: the ledger's files, and those of frames that the folder didn't acknowledge
+    -- sound files lose none
+    pub sound_has : (world : World) (files : Files) → IsSoundReel job world files → HasFrameFiles job files
+    -- what it may have changed: the ledger's files, and those of frames that the folder didn't acknowledge
     pub spares : disk.tells ≡ true → Spares disk.history disk_after.history (IsOwnFile job (view_of disk.history))
+    -- what it wrote: of the ledger's files those of version 2 alone
+    pub writes : disk.tells ≡ true → WritesOnly disk.history disk_after.history (MayWrite job (view_of disk.history))
     -- what was done with the scans: as many loads as were reported
     pub scans : AreWorked world faults loads same (min workers (length old)) report.loads (how ≡ ends.SourceFault) old new
     pub changed : IsChange how → 1 ≤ report.loads
