@@ -1,7 +1,7 @@
 //! Commands over scans, disks and sinks in memory that fail at chosen calls, and over scans that wait for one another.
 ghost use Rattle.std.specs.Prelude.{◌≡◌, IfSome, vec_len};
 
-use crate::desk::{desk_scans, is_whole};
+use crate::desk::{TWO, desk_scans, is_whole, scans_of};
 use crate::together::CountedScans;
 use crate::values::Slow;
 use cf_base::{FileId, MemorySink, PathText, Sink, StreamSink};
@@ -146,11 +146,32 @@ fn a_sink_that_fails_keeps_a_prefix_and_the_status(rt: HostRuntime) {
     assert!(rt; says(&out, "frames 24\nkept 24\nrendered 0\n"));
 }
 
-/// Tells how many bytes the last load asked for.
+/// The two texts are among the loads.
+#[test]
+fn the_words_say_how_many_source_frames_are_shared(rt: HostRuntime) {
+    let alloc = rt.alloc();
+    for (line, loads) in [
+        ("run desk.toml --workers 1 --share 2", 4),
+        ("run desk.toml --workers 1 --share 1", 7),
+    ] {
+        let mut scan = Recording {
+            files: scans_of(alloc, TWO, &[]).expect(&rt, "files"),
+            most: 0,
+            loads: 0,
+        };
+        let mut disk = MemoryDisk::new(alloc).ok().expect(&rt, "a disk");
+        let mut out = MemorySink::new(alloc);
+        assert!(rt; answered(alloc, line, &mut scan, &mut disk, &mut out) == Some((0, None)));
+        assert!(rt; scan.loads == loads, "{line}");
+    }
+}
+
+/// Tells how many bytes the last load asked for, and how many loads there were.
 #[derive(Drop)]
 struct Recording {
     files: MemoryScans,
     most: u64,
+    loads: u64,
 }
 
 impl Scans for Recording {
@@ -170,6 +191,7 @@ impl Scans for Recording {
 
     fn load(&mut self, path: &PathText, most: u64, into: &mut Vec<u8>) -> Loaded {
         self.most = most;
+        self.loads = self.loads.saturating_add(1);
         self.files.load(path, most, into)
     }
 
@@ -184,6 +206,7 @@ fn a_command_asks_for_as_many_bytes_as_its_largest_file_has(rt: HostRuntime) {
     let mut scan = Recording {
         files: desk_scans(alloc, &[]).expect(&rt, "files"),
         most: 0,
+        loads: 0,
     };
     let mut disk = MemoryDisk::new(alloc).ok().expect(&rt, "a disk");
     let mut out = MemorySink::new(alloc);

@@ -41,6 +41,15 @@ FCM: NON-DROP FRAME\r
 003  B002     V     D    004 02:00:00:00 02:00:00:12 01:00:00:12 01:00:01:00\r
 ";
 
+/// One source frame of each reel: each alone, and then a dissolve of two frames from the second into the first.
+pub const TWO: &[u8] = b"001 A001 V C 01:00:00:00 01:00:00:01 01:00:00:00 01:00:00:01
+M2 A001 000.0 01:00:00:00
+002 B002 V C 02:00:00:00 02:00:00:01 01:00:00:01 01:00:00:02
+M2 B002 000.0 02:00:00:00
+003 A001 V D 002 01:00:00:00 01:00:00:02 01:00:00:02 01:00:00:04
+M2 A001 000.0 01:00:00:00
+";
+
 /// The four bytes of a pixel with this code in all channels.
 fn word(code: u32) -> [u8; 4] {
     let code = code % 1024;
@@ -94,8 +103,8 @@ pub fn desk_scans(alloc: Global, fails: &[u64]) -> Option<MemoryScans> {
     scans_of(alloc, LIST, fails)
 }
 
-/// The desk job's files with this list.
-fn scans_of(alloc: Global, list: &[u8], fails: &[u64]) -> Option<MemoryScans> {
+/// The desk job's files with this list. The calls with these numbers fail.
+pub fn scans_of(alloc: Global, list: &[u8], fails: &[u64]) -> Option<MemoryScans> {
     let mut files = Vec::new(alloc);
     put_file(
         &mut files,

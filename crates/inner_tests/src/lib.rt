@@ -24,6 +24,8 @@ mod runs;
 #[cfg(test)]
 mod scans;
 #[cfg(test)]
+mod shared;
+#[cfg(test)]
 mod together;
 #[cfg(test)]
 mod values;

@@ -1,5 +1,5 @@
 //! Runs of the desk job on one thread: how often files are loaded, the device calls of a frame, and a stop at each of them.
-use crate::desk::{Desk, is_whole, report};
+use crate::desk::{Desk, TWO, is_whole, report};
 use crate::noted::{Call, Noted};
 use cf_base::{FileId, Key};
 use dpx_header::FrameInfo;
@@ -227,15 +227,6 @@ fn a_run_ends_where_a_source_frame_fails_or_changed(rt: HostRuntime) {
 
 /// Ten record frames of one source frame.
 const STILL: &[u8] = b"001 A001 V C 01:00:00:00 01:00:00:10 01:00:00:00 01:00:00:10
-M2 A001 000.0 01:00:00:00
-";
-
-/// One source frame of each reel: each alone, and then a dissolve of two frames from the second into the first.
-const TWO: &[u8] = b"001 A001 V C 01:00:00:00 01:00:00:01 01:00:00:00 01:00:00:01
-M2 A001 000.0 01:00:00:00
-002 B002 V C 02:00:00:00 02:00:00:01 01:00:00:01 01:00:00:02
-M2 B002 000.0 02:00:00:00
-003 A001 V D 002 01:00:00:00 01:00:00:02 01:00:00:02 01:00:00:04
 M2 A001 000.0 01:00:00:00
 ";
 
