@@ -1,21 +1,19 @@
 -- Each call on a station keeps what the station keeps.
 use Rattle.std.proofs.Common.{◌≡◌, ◌≢◌, inl, inr, ℕ, ◌+◌, ◌<◌, ◌≤◌, Bool, true, false, cond, ◌||◌, List, [], ◌∷◌, ◌++◌, length, get_or, set, slice_get, refl, sym, ◌∙◌, ap, subst, arith, length-set}
-use Rattle.std.specs.Prelude.{Option, Some, None, IfSome, Contains, ◌↔◌, count_by}
+use Rattle.std.specs.Prelude.{Option, Some, None, IfSome, Contains, ◌↔◌}
 use Rattle.std.proofs.lemmas.Bool.{cases_eq, true≢false}
 use Rattle.std.proofs.lemmas.List.{get_or-set_same, get_or-set_other}
 use Rattle.std.proofs.lemmas.List.Elements.{Contains-push_cases}
 use Rattle.cf_base.specs.Count.{HasRisen}
 use Rattle.cf_base.specs.declared.file.FileId.{FileId}
-use Rattle.cf_base.specs.declared.key.Key.{Key}
-use Rattle.dpx_header.specs.declared.info.FrameInfo.{FrameInfo}
 use Rattle.scan_source.specs.World.{World}
-use Rattle.source_reels.specs.declared.seen.Seen.{Seen}
 use Rattle.conform_job.specs.Job.{JobData, file_of}
-use Rattle.reel_disk.specs.Disk.{Files, Moment, History, IsLoose, moment_of, view_of}
+use Rattle.reel_disk.specs.Disk.{Files, Moment, History, IsFirm, IsLoose, moment_of, view_of}
 use Rattle.reel_disk.specs.Runs.{Extends, LeavesOnly, NeverForgets, Spares, Surely}
 use Rattle.reel_disk.proofs.Sparing.{spares_along, spares_wider}
 use Rattle.reel_disk.proofs.Images.{view_is_image}
-use Rattle.resume_ledger.specs.Sound.{AddsAtMost}
+use Rattle.resume_ledger.specs.Sound.{AddsAtMost, WritesOnly}
+use Rattle.resume_ledger.proofs.Reading.{spares_writes, writes_along}
 use Rattle.render_board.specs.declared.board.Claim.{Claim as Answer}
 use Rattle.render_board.specs.declared.board.Claim.TheVariants.{Take, NoneLeft, Stopped}
 use Rattle.render_board.specs.declared.board.Turn.TheVariants as turns
@@ -25,14 +23,14 @@ use Rattle.render_board.specs.declared.step.Why.{Why}
 use Rattle.render_board.specs.declared.step.Why.TheVariants.{Source, Disk, Memory, Changed}
 use Rattle.render_board.specs.Board.{Log, is_done, is_finish_of, turn_of, claim_of, IsNext, with_step}
 use Rattle.render_board.specs.History.{finished_of, is_source, is_disk, is_memory, is_changed, is_stop_by, stops_of}
-use Rattle.render_board.proofs.Steps.{slice_get-push, isnt_other, finished_own, done_as_before, IsLegal-step, IsLegal-start, is_done-start}
+use Rattle.render_board.proofs.Steps.{slice_get-push, isnt_other, finished_own, done_as_before, IsLegal-step, is_done-start}
 use Rattle.render_board.proofs.Histories.{finished_of-finish, finished_of-claim, finished_of-stop, stops_of-step}
 use Rattle.render_board.proofs.Holding.{claim_is_next, held_isnt_done, held_within}
-use Rattle.reel_writer.specs.Reel.{frames_of, HasAcked, IsReelRun, IsSoundReel, IsWrittenFile}
+use Rattle.reel_writer.specs.Reel.{frames_of, HasAcked, HasFrameFiles, IsReelRun, IsSoundReel, IsWrittenFile, KeepsReel}
 use Rattle.reel_writer.specs.View.{ReelView, after_finish, after_fault}
 use Rattle.reel_writer.proofs.ReelLaws.{reel_run_along}
-use Rattle.single_run.specs.Ends.{IsChanged}
-use Rattle.shared_station.specs.Station.{StationView, Totals, IsStation, IsCounted, IsCrewFile, HasChanges, ShowsDone, start_of, at_start}
+use Rattle.single_run.specs.Asks.{IsRunFile}
+use Rattle.shared_station.specs.Station.{StationView, Totals, IsStation, IsCounted, IsCrewFile, MayCrewWrite, HasChanges, ShowsDone, start_of, at_start}
 use Rattle.single_run.proofs.Stepping.{run_file}
 use Rattle.shared_station.specs.StationSteps.{IsBeginning, MayStop, counted_by, after_claimed, after_finished, after_failed, after_stopped}
 
@@ -90,6 +88,12 @@ spares_from old new Mine same spares = record {
   loose = λ m from to p other there. subst (λ (x : Moment). IsLoose x.loose p) (sym same) (spares.loose m from to p other there);
 }
 
+pub writes_from : (old new : History) (Mine : FileId → Type 0) → new.past 0 ≡ old.past 0 → WritesOnly (at_start old) new Mine → WritesOnly (at_start new) new Mine
+writes_from old new Mine same writes = record {
+  files = λ m from to q other firm. writes.files m from to q other (subst (λ (x : Moment). IsFirm x.loose q) same firm) ∙ ap (λ (x : Moment). x.view q) (sym same);
+  loose = λ m from to p other there. subst (λ (x : Moment). IsLoose x.loose p) (sym same) (writes.loose m from to p other there);
+}
+
 -- what each image has now, it has later
 surely_later : (P : Files → Type 0) (old new : History) → Extends old new → NeverForgets old new P → Surely (moment_of old) P → Surely (moment_of new) P
 surely_later P old new extends keeps had =
@@ -112,7 +116,7 @@ module _ (job : JobData) (told : Option World) where
   pub run_from : (old new : History) → new.past 0 ≡ old.past 0 → IsReelRun job told (at_start old) new → IsReelRun job told (at_start new) new
   run_from old new same run = record {
     extends = record { later = run.extends.later; kept = λ m le. refl };
-    keeps = run.keeps;
+    keeps = λ whole. run.keeps (subst (λ (m : Moment). HasFrameFiles job m.view) same whole);
     sound = by told run.sound;
   }
     where
@@ -121,12 +125,12 @@ module _ (job : JobData) (told : Option World) where
       by None sound = tt
       by (Some world) sound = λ all. sound (subst (λ (m : Moment). Surely m (IsSoundReel job world)) same all)
 
-  run_on : (old new : History) → IsReelRun job told (at_start old) old → IsReelRun job told old new → IsReelRun job told (at_start new) new
-  run_on old new first second = run_from old new (second.extends.kept 0 (omega arith)) (reel_run_along job told (at_start old) old new first second)
+  run_on : (old new : History) → IsReelRun job told (at_start old) old → IsReelRun job told old new → KeepsReel job old new → IsReelRun job told (at_start new) new
+  run_on old new first second kept = run_from old new (second.extends.kept 0 (omega arith)) (reel_run_along job told (at_start old) old new first second kept)
 
   -- the acks are kept acknowledged
-  acked_on : (old new : History) (acks : List ℕ) → IsReelRun job told old new → ((i : ℕ) → Contains acks i → Surely (moment_of old) (HasAcked job i)) → (i : ℕ) → Contains acks i → Surely (moment_of new) (HasAcked job i)
-  acked_on old new acks run had i is = surely_later (HasAcked job i) old new run.extends (run.keeps i) (had i is)
+  acked_on : (old new : History) (acks : List ℕ) → IsReelRun job told old new → KeepsReel job old new → ((i : ℕ) → Contains acks i → Surely (moment_of old) (HasAcked job i)) → (i : ℕ) → Contains acks i → Surely (moment_of new) (HasAcked job i)
+  acked_on old new acks run kept had i is = surely_later (HasAcked job i) old new run.extends (kept i) (had i is)
 
   acked_more : (moment : Moment) (acks : List ℕ) (i : ℕ) → ((k : ℕ) → Contains acks k → Surely moment (HasAcked job k)) → Surely moment (HasAcked job i) → (k : ℕ) → Contains (acks ++ i ∷ []) k → Surely moment (HasAcked job k)
   acked_more moment acks i had here k is =
@@ -194,6 +198,7 @@ module _ {D : Type 0} (job : JobData) (told : Option World) (start : Option Mome
     began = is.began;
     run = is.run;
     spares = is.spares;
+    writes = is.writes;
     acked = is.acked;
     legal = IsLegal-step v.log s is.legal next;
     size = is.size;
@@ -235,20 +240,27 @@ module _ {D : Type 0} (job : JobData) (told : Option World) (start : Option Mome
       not_disk (Changed key was now) may = refl
 
   module _ (v : StationView D) (w i : ℕ) (disk : D) (is : IsStation job told start tells history faults v) (opened : v.reel.ledger.closed ≡ false) (known : w < v.log.workers) (holds : turn_of v.log w ≡ turns.Holds i)
-      (run : tells ≡ true → IsReelRun job told (history v.reel.disk) (history disk)) (others : tells ≡ true → AddsAtMost i job.parts.digest (frames_of job) (history v.reel.disk) (history disk))
+      (run : tells ≡ true → IsReelRun job told (history v.reel.disk) (history disk)) (none_lost : tells ≡ true → KeepsReel job (history v.reel.disk) (history disk)) (others : tells ≡ true → AddsAtMost i job.parts.digest (frames_of job) (history v.reel.disk) (history disk))
       (spares : tells ≡ true → Spares (history v.reel.disk) (history disk) (IsWrittenFile (file_of job i))) where
     undone : is_done v.log i ≡ false
     undone = held_isnt_done v.log w i is.legal holds
 
     -- the frame's files are among those that the crew writes
-    written : (q : FileId) → IsWrittenFile (file_of job i) q → IsCrewFile job v.log.start q
-    written q own = inr (run_file job v.log.start i i refl (omega (arith, held_within v.log w i is.legal holds, is.size)) (not_at_start v.log i undone) q own)
+    written : (q : FileId) → IsWrittenFile (file_of job i) q → IsRunFile job v.log.start q
+    written q own = run_file job v.log.start i i refl (omega (arith, held_within v.log w i is.legal holds, is.size)) (not_at_start v.log i undone) q own
 
     spares_on : tells ≡ true → Spares (at_start (history disk)) (history disk) (IsCrewFile job v.log.start)
     spares_on t =
         spares_from (history v.reel.disk) (history disk) (IsCrewFile job v.log.start) ((run t).extends.kept 0 (omega arith))
         (spares_along (at_start (history v.reel.disk)) (history v.reel.disk) (history disk) (IsCrewFile job v.log.start) (is.run t).extends (run t).extends (is.spares t)
-        (spares_wider (history v.reel.disk) (history disk) (IsWrittenFile (file_of job i)) (IsCrewFile job v.log.start) written (spares t)))
+        (spares_wider (history v.reel.disk) (history disk) (IsWrittenFile (file_of job i)) (IsCrewFile job v.log.start) (λ q own. inr (written q own)) (spares t)))
+
+    writes_on : tells ≡ true → WritesOnly (at_start (history disk)) (history disk) (MayCrewWrite job v.log.start)
+    writes_on t =
+        writes_from (history v.reel.disk) (history disk) (MayCrewWrite job v.log.start) ((run t).extends.kept 0 (omega arith))
+        (writes_along (MayCrewWrite job v.log.start) (at_start (history v.reel.disk)) (history v.reel.disk) (history disk) (is.run t).extends (run t).extends (is.writes t)
+        (spares_writes (MayCrewWrite job v.log.start) (history v.reel.disk) (history disk)
+        (spares_wider (history v.reel.disk) (history disk) (IsWrittenFile (file_of job i)) (MayCrewWrite job v.log.start) (λ q own. inr (written q own)) (spares t))))
 
     shown_before : tells ≡ true → (k : ℕ) → HasAcked job k (view_of (history v.reel.disk)) ↔ (is_done v.log k ≡ true)
     shown_before t = open_shows job told v.log v.reel.ledger.closed (view_of (history v.reel.disk)) opened (is.shown t)
@@ -257,9 +269,10 @@ module _ {D : Type 0} (job : JobData) (told : Option World) (start : Option Mome
         → IsStation job told start tells history faults (after_finished v w i disk)
     station_finish acked steady = record {
       began = is.began ∙ began_along tells (history v.reel.disk) (history disk) (λ t. (run t).extends);
-      run = λ t. run_on job told (history v.reel.disk) (history disk) (is.run t) (run t);
+      run = λ t. run_on job told (history v.reel.disk) (history disk) (is.run t) (run t) (none_lost t);
       spares = spares_on;
-      acked = λ t. acked_more job told (moment_of (history disk)) v.reel.acks i (acked_on job told (history v.reel.disk) (history disk) v.reel.acks (run t) (is.acked t)) (acked t);
+      writes = writes_on;
+      acked = λ t. acked_more job told (moment_of (history disk)) v.reel.acks i (acked_on job told (history v.reel.disk) (history disk) v.reel.acks (run t) (none_lost t) (is.acked t)) (acked t);
       legal = IsLegal-step v.log (Finish w i) is.legal (known, holds);
       size = is.size;
       kept = is.kept;
@@ -282,9 +295,10 @@ module _ {D : Type 0} (job : JobData) (told : Option World) (start : Option Mome
         → IsStation job told start tells history faults (after_failed v w disk)
     station_fail rose = record {
       began = is.began ∙ began_along tells (history v.reel.disk) (history disk) (λ t. (run t).extends);
-      run = λ t. run_on job told (history v.reel.disk) (history disk) (is.run t) (run t);
+      run = λ t. run_on job told (history v.reel.disk) (history disk) (is.run t) (run t) (none_lost t);
       spares = spares_on;
-      acked = λ t. acked_on job told (history v.reel.disk) (history disk) v.reel.acks (run t) (is.acked t);
+      writes = writes_on;
+      acked = λ t. acked_on job told (history v.reel.disk) (history disk) v.reel.acks (run t) (none_lost t) (is.acked t);
       legal = IsLegal-step v.log (Stop w Disk) is.legal (known, λ e. let same = sym holds ∙ e in cc);
       size = is.size;
       kept = is.kept;
@@ -307,6 +321,7 @@ module _ {D : Type 0} (job : JobData) (told : Option World) (start : Option Mome
     began = b.began;
     run = b.run;
     spares = b.spares;
+    writes = b.writes;
     acked = λ t i is. let none : Contains [] i = subst (λ (l : List ℕ). Contains l i) b.none is in absurd (omega (arith, none.1));
     legal = λ k s at. absurd (nothing log.steps b.first k s at);
     size = b.size;
@@ -356,14 +371,14 @@ module _ {D : Type 0} (job : JobData) (told : Option World) (start : Option Mome
         rw (is_log, same, a, b, c, d) (station_stop v w kind is known running (subst (MayStop job told) same may))
 
     module _ (i : ℕ) (reel : ReelView D) (log : Log) (opened : v.reel.ledger.closed ≡ false) (known : w < v.log.workers) (holds : turn_of v.log w ≡ turns.Holds i)
-        (run : tells ≡ true → IsReelRun job told (history v.reel.disk) (history reel.disk)) (others : tells ≡ true → AddsAtMost i job.parts.digest (frames_of job) (history v.reel.disk) (history reel.disk))
+        (run : tells ≡ true → IsReelRun job told (history v.reel.disk) (history reel.disk)) (none_lost : tells ≡ true → KeepsReel job (history v.reel.disk) (history reel.disk)) (others : tells ≡ true → AddsAtMost i job.parts.digest (frames_of job) (history v.reel.disk) (history reel.disk))
         (spares : tells ≡ true → Spares (history v.reel.disk) (history reel.disk) (IsWrittenFile (file_of job i))) where
       pub finished_as : reel ≡ after_finish v.reel i reel.disk → log ≡ with_step v.log (Finish w i) → (tells ≡ true → Surely (moment_of (history reel.disk)) (HasAcked job i)) → faults reel.disk ≡ faults v.reel.disk
           → IsStation job told start tells history faults (record { reel = reel; log = log; totals = v.totals })
       finished_as same_reel same_log acked steady =
           subst (λ (r : ReelView D). IsStation job told start tells history faults (record { reel = r; log = log; totals = v.totals })) (sym same_reel)
           (subst (λ (l : Log). IsStation job told start tells history faults (record { reel = after_finish v.reel i reel.disk; log = l; totals = v.totals })) (sym same_log)
-          (station_finish v w i reel.disk is opened known holds run others spares acked steady))
+          (station_finish v w i reel.disk is opened known holds run none_lost others spares acked steady))
 
       pub failed_as : (td : ℕ) → reel ≡ after_fault v.reel reel.disk → log ≡ with_step v.log (Stop w Disk) → td ≡ v.totals.disk + 1 → HasRisen (faults v.reel.disk) (faults reel.disk)
           → IsStation job told start tells history faults (record { reel = reel; log = log; totals = record { source = v.totals.source; disk = td; memory = v.totals.memory; changed = v.totals.changed } })
@@ -371,4 +386,4 @@ module _ {D : Type 0} (job : JobData) (told : Option World) (start : Option Mome
           subst (λ (r : ReelView D). IsStation job told start tells history faults (record { reel = r; log = log; totals = record { source = v.totals.source; disk = td; memory = v.totals.memory; changed = v.totals.changed } })) (sym same_reel)
           (subst (λ (l : Log). IsStation job told start tells history faults (record { reel = after_fault v.reel reel.disk; log = l; totals = record { source = v.totals.source; disk = td; memory = v.totals.memory; changed = v.totals.changed } })) (sym same_log)
           (subst (λ (n : ℕ). IsStation job told start tells history faults (record { reel = after_fault v.reel reel.disk; log = with_step v.log (Stop w Disk); totals = record { source = v.totals.source; disk = n; memory = v.totals.memory; changed = v.totals.changed } })) (sym more)
-          (station_fail v w i reel.disk is opened known holds run others spares rose)))
+          (station_fail v w i reel.disk is opened known holds run none_lost others spares rose)))

@@ -11,7 +11,8 @@ use Rattle.source_reels.specs.declared.seen.Seen.{Seen}
 use Rattle.conform_job.specs.Job.{JobData}
 use Rattle.reel_disk.specs.Disk.{Files, Moment, History, moment_of, view_of}
 use Rattle.reel_disk.specs.Runs.{Surely, Spares}
-use Rattle.resume_ledger.specs.Ledger.{IsLedgerFile}
+use Rattle.resume_ledger.specs.Ledger.{IsLedgerFile, IsWrittenLedgerFile}
+use Rattle.resume_ledger.specs.Sound.{WritesOnly}
 use Rattle.render_board.specs.Board.{Log, IsLegal, is_done}
 use Rattle.render_board.specs.History.{finished_of, stops_of, is_source, is_disk, is_memory, is_changed}
 use Rattle.render_board.specs.declared.step.Step.{Step}
@@ -21,6 +22,7 @@ use Rattle.reel_writer.specs.Reel.{frames_of, HasAcked, IsReelRun}
 use Rattle.reel_writer.specs.View.{ReelView}
 use Rattle.single_run.specs.Asks.{IsRunFile}
 use Rattle.single_run.specs.Ends.{IsChanged}
+use Rattle.single_run.specs.Run.{HasKept}
 
 -- how many stops of each why were counted
 pub record Totals : Type 0 where
@@ -43,9 +45,13 @@ start_of false h = None
 abbrev pub at_start : History → History
 at_start h = record { now = 0; past = h.past }
 
--- what a crew writes: the ledger's files, and those of frames that were not done at the start
+-- what a crew may change: the ledger's files, and those of frames that were not done at the start
 abbrev pub IsCrewFile : JobData → List Bool → FileId → Type 0
 IsCrewFile job start q = IsLedgerFile q ⊎ IsRunFile job start q
+
+-- what a crew writes: of the ledger's files those of version 2 alone
+abbrev pub MayCrewWrite : JobData → List Bool → FileId → Type 0
+MayCrewWrite job start q = IsWrittenLedgerFile q ⊎ IsRunFile job start q
 
 -- The files acknowledge just the frames that are done. Once the reel is closed, this isn't known of one that is not done.
 abbrev pub ShowsDone : JobData → Log → Bool → Files → Type 0
@@ -66,19 +72,22 @@ pub record IsCounted (steps : List Step) (totals : Totals) : Type 0 where
 module _ {D : Type 0} where
   pub record IsStation (job : JobData) (told : Option World) (start : Option Moment) (tells : Bool) (history : D → History) (faults : D → ℕ) (v : StationView D) : Type 0 where
     -- At its first moment the disk held what the name of the start has. From there on whatever a crash left at any moment
-    -- was sound and fit, where it was so at the start, and no acknowledgement was lost.
+    -- was sound and fit, where it was so at the start, and no acknowledgement was lost, where each frame that version 1 of
+    -- the ledger acknowledged at the start had a file of a frame's length, as sound files have.
     pub began : start ≡ start_of tells (history v.reel.disk)
     pub run : tells ≡ true → IsReelRun job told (at_start (history v.reel.disk)) (history v.reel.disk)
-    -- No file was written but the ledger's, and those of frames that were not acknowledged once the folder was open.
+    -- No file was changed but the ledger's, and those of frames that were not acknowledged once the folder was open. Of the
+    -- ledger's those of version 2 alone were written.
     pub spares : tells ≡ true → Spares (at_start (history v.reel.disk)) (history v.reel.disk) (IsCrewFile job v.log.start)
+    pub writes : tells ≡ true → WritesOnly (at_start (history v.reel.disk)) (history v.reel.disk) (MayCrewWrite job v.log.start)
     -- A crash now leaves each frame acknowledged that was finished.
     pub acked : tells ≡ true → (i : ℕ) → Contains v.reel.acks i → Surely (moment_of (history v.reel.disk)) (HasAcked job i)
-    -- The steps are a legal run from the frames that were acknowledged once the folder was open, which are those that the
-    -- start acknowledged. The ledger has these and the finished ones, and the folder shows them.
+    -- The steps are a legal run from the frames that were acknowledged once the folder was open, which are those that an
+    -- opening of what the start had keeps. The ledger has these and the finished ones, and the folder shows them.
     pub legal : IsLegal v.log
     pub size : length v.log.start ≡ frames_of job
     pub kept : v.reel.kept ≡ count_by (λ was. was) v.log.start
-    pub from : IfSome start (λ moment. (i : ℕ) → (slice_index_or v.log.start i false ≡ true) ↔ HasAcked job i moment.view)
+    pub from : IfSome start (λ moment. (i : ℕ) → (slice_index_or v.log.start i false ≡ true) ↔ HasKept job i moment.view)
     pub as_many : length v.reel.ledger.gates ≡ length v.log.start
     pub gates : (i : ℕ) → slice_index_or v.reel.ledger.gates i false ≡ is_done v.log i
     pub shown : tells ≡ true → ShowsDone job v.log v.reel.ledger.closed (view_of (history v.reel.disk))

@@ -4,6 +4,7 @@ use Rattle.scan_source.specs.World.{World}
 use Rattle.conform_job.specs.Job.{JobData}
 use Rattle.reel_disk.specs.Disk.{Moment, History, view_of}
 use Rattle.reel_disk.specs.Runs.{Spares}
+use Rattle.resume_ledger.specs.Sound.{WritesOnly}
 use Rattle.render_board.specs.Board.{Log, with_step, after_claim}
 use Rattle.render_board.specs.declared.board.Claim.{Claim}
 use Rattle.render_board.specs.declared.step.Step.TheVariants.{Finish, Stop}
@@ -12,9 +13,10 @@ use Rattle.render_board.specs.declared.step.Why.TheVariants.{Source, Disk, Memor
 use Rattle.reel_writer.specs.Reel.{frames_of, HasAcked, IsReelRun}
 use Rattle.reel_writer.specs.View.{ReelView, after_finish, after_fault}
 use Rattle.single_run.specs.Ends.{IsChanged}
+use Rattle.single_run.specs.Run.{HasKept}
 use Rattle.single_run.specs.declared.run_end.RunEnd.{RunEnd}
 use Rattle.single_run.specs.declared.run_end.RunEnd.TheVariants.{Done, OtherJob, BadLedger, Changed as IsNow, SourceFault, DiskFault, NoMemory}
-use Rattle.shared_station.specs.Station.{StationView, Totals, IsCrewFile, start_of, at_start}
+use Rattle.shared_station.specs.Station.{StationView, Totals, IsCrewFile, MayCrewWrite, start_of, at_start}
 
 -- one more stop of this why
 abbrev pub counted_by : Why → Totals → Totals
@@ -46,6 +48,7 @@ module _ {D : Type 0} where
     pub began : start ≡ start_of tells (history reel.disk)
     pub run : tells ≡ true → IsReelRun job told (at_start (history reel.disk)) (history reel.disk)
     pub spares : tells ≡ true → Spares (at_start (history reel.disk)) (history reel.disk) (IsCrewFile job log.start)
+    pub writes : tells ≡ true → WritesOnly (at_start (history reel.disk)) (history reel.disk) (MayCrewWrite job log.start)
     pub none : reel.acks ≡ []
     pub is_open : reel.ledger.closed ≡ false
     pub sound_disk : faults reel.disk ≡ 0
@@ -54,7 +57,7 @@ module _ {D : Type 0} where
     pub kept : reel.kept ≡ count_by (λ was. was) log.start
     pub as_many : length reel.ledger.gates ≡ length log.start
     pub gates : (i : ℕ) → slice_index_or reel.ledger.gates i false ≡ slice_index_or log.start i false
-    pub from : IfSome start (λ moment. (i : ℕ) → (slice_index_or log.start i false ≡ true) ↔ HasAcked job i moment.view)
+    pub from : IfSome start (λ moment. (i : ℕ) → (slice_index_or log.start i false ≡ true) ↔ HasKept job i moment.view)
     pub shown : tells ≡ true → (i : ℕ) → HasAcked job i (view_of (history reel.disk)) ↔ (slice_index_or log.start i false ≡ true)
 
   -- a claim changes the board alone

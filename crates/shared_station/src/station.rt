@@ -8,7 +8,7 @@ ghost use Rattle.resume_ledger.specs.Sound.{AddsAtMost};
 ghost use Rattle.render_board.specs.Board.{turn_of, claim_of, least_free};
 ghost use Rattle.render_board.specs.declared.board.Turn.TheVariants as turns;
 ghost use Rattle.render_board.specs.declared.step.Why.TheVariants as whys;
-ghost use Rattle.reel_writer.specs.Reel.{frames_of, HasAcked, IsReelRun, IsWrittenFile};
+ghost use Rattle.reel_writer.specs.Reel.{frames_of, HasAcked, IsReelRun, IsWrittenFile, KeepsReel};
 ghost use Rattle.reel_writer.specs.View.{IsReelOf};
 ghost use Rattle.shared_station.specs.Marks.{IsBlankOf, IsSettled, raised_by};
 ghost use Rattle.shared_station.specs.Station.{StationView, IsStation};
@@ -16,9 +16,8 @@ ghost use Rattle.shared_station.specs.StationSteps.{IsBeginning, MayStop, after_
 
 use crate::marks::Marks;
 use conform_job::Work;
-use frame_render::Rendered;
 use reel_disk::{Disk, DiskFault, Start};
-use reel_writer::Reel;
+use reel_writer::{Hashed, Reel};
 use render_board::{Board, Claim, Turn, Why};
 use std::marker::{Model, PhantomData};
 use std::sync::ledger::{Blank, Book, Ledger};
@@ -125,12 +124,13 @@ impl<D: Disk, N: Work + Start, A: Ledger, B: Ledger, C: Ledger, E: Ledger> Stati
         self.board.claim(worker)
     }
 
-    /// Writes and acknowledges the frame that the worker holds, as the reel does, and then it is done. `DiskFault` comes
-    /// only where the disk's count of faults rose: the reel is closed then, and the worker has stopped.
+    /// Writes and acknowledges the frame that the worker holds, as the reel does, and then it is done. Its digest was made
+    /// before, so that no worker waits for it at the lock. `DiskFault` comes only where the disk's count of faults rose: the
+    /// reel is closed then, and the worker has stopped.
     pub fn finish(
         &mut self,
         worker: u16,
-        frame: &Rendered<N>,
+        frame: &Hashed<N>,
         marks: &mut Marks<A, B, C, E>,
     ) -> Result<(), DiskFault>
         requires is_open { self.old.reel.ledger.closed ≡ false }
@@ -143,6 +143,7 @@ impl<D: Disk, N: Work + Start, A: Ledger, B: Ledger, C: Ledger, E: Ledger> Stati
 
         // What the reel's finish says.
         ensures run { D.tells ≡ true → IsReelRun N.job N.files (D.history self.old.reel.disk) (D.history self.new.reel.disk) }
+        ensures none_lost { D.tells ≡ true → KeepsReel N.job (D.history self.old.reel.disk) (D.history self.new.reel.disk) }
         ensures others { D.tells ≡ true → AddsAtMost frame.now.index N.job.parts.digest (frames_of N.job) (D.history self.old.reel.disk) (D.history self.new.reel.disk) }
         ensures spares { D.tells ≡ true → Spares (D.history self.old.reel.disk) (D.history self.new.reel.disk) (IsWrittenFile (file_of N.job frame.now.index)) }
         ensures acked { OnOk result (D.tells ≡ true → Surely (moment_of (D.history self.new.reel.disk)) (HasAcked N.job frame.now.index)) }
@@ -151,7 +152,7 @@ impl<D: Disk, N: Work + Start, A: Ledger, B: Ledger, C: Ledger, E: Ledger> Stati
         ensures cause { HasCause (D.faults self.old.reel.disk) (D.faults self.new.reel.disk) (IsErr result) }
         ensures steady { OnOk result (D.faults self.new.reel.disk ≡ D.faults self.old.reel.disk) }
     {
-        let index = frame.index();
+        let index = frame.frame().index();
         match self.reel.finish(frame) {
             Ok(()) => {
                 self.board.finished(worker, index);

@@ -1,24 +1,27 @@
 -- What the folder acknowledges where a run ends.
 use Rattle.std.proofs.Common.{◌≡◌, inl, inr, ℕ, zero, suc, ◌<◌, ◌≤◌, Bool, true, false, List, length, take, get_or, refl, sym, ◌∙◌, ap, subst, arith}
 use Rattle.std.specs.Prelude.{Contains, ◌⊎◌, ◌↔◌, Option, Some, None, IfSome}
-use Rattle.std.proofs.lemmas.Bool.{cases_lt}
-use Rattle.std.proofs.lemmas.List.{get_or_past}
 use Rattle.std.proofs.lemmas.List.Sums.{count_by-le-length}
 use Rattle.cf_base.specs.Count.{HasRisen}
 use Rattle.cf_base.specs.declared.file.FileId.{FileId}
 use Rattle.scan_source.specs.Plan.{one_more}
 use Rattle.scan_source.specs.World.{World}
-use Rattle.conform_job.specs.Job.{JobData}
+use Rattle.conform_job.specs.Job.{JobData, file_of}
 use Rattle.frame_share.specs.declared.step.ShareStep.{ShareStep}
-use Rattle.reel_disk.specs.Disk.{Files, History, moment_of, view_of}
+use Rattle.reel_disk.specs.Disk.{Files, History, moment_of, view_of, file_of as place_of}
 use Rattle.reel_disk.specs.Runs.{Surely}
 use Rattle.reel_disk.proofs.Images.{view_is_image}
-use Rattle.resume_ledger.specs.Ledger.{Acks, Agrees}
-use Rattle.resume_ledger.proofs.Acking.{agrees_acks, not_yet}
-use Rattle.reel_writer.specs.Reel.{frames_of, HasAcked, IsReelRun, IsSoundReel}
+use Rattle.resume_ledger.specs.Ledger.{Acks, Agrees, LedgerState}
+use Rattle.resume_ledger.specs.Sound.{WritesOnly}
+use Rattle.resume_ledger.specs.Attach.{IsRefused, IsRefusalFor}
+use Rattle.resume_ledger.specs.declared.attach.OpenFault.{OpenFault}
+use Rattle.resume_ledger.specs.declared.attach.OpenFault.TheVariants as open_fault
+use Rattle.resume_ledger.proofs.Versions.{agrees_shown}
+use Rattle.reel_writer.specs.Reel.{frames_of, HasAcked, HasFrameFiles, IsReelRun, IsSoundReel}
 use Rattle.reel_writer.specs.View.{ReelView, IsReelOf}
 use Rattle.single_run.specs.Asks.{IsRunFile, closed_frames}
-use Rattle.single_run.specs.Run.{AreAllAcked, HasWhole, IsOwnFile, IsWhole}
+use Rattle.single_run.specs.Ends.{refused_by}
+use Rattle.single_run.specs.Run.{AreAllAcked, HasKept, HasRefused, HasWhole, IsOwnFile, IsUnkeptFile, IsWhole, MayWrite}
 use Rattle.conform_job.specs.Answers.{count_after}
 use Rattle.single_run.specs.Ran.{WereFinished}
 use Rattle.single_run.specs.declared.run_end.RunEnd.TheVariants.{Done}
@@ -36,24 +39,18 @@ module _ {D : Type 0} (job : JobData) (tells : Bool) (history : D → History) (
   of_ledger : (k : ℕ) (files : Files) → HasAcked job k files → Acks reel.ledger.digest (length reel.ledger.gates) k files
   of_ledger k files acks = subst (λ (d : List ℕ). Acks d (length reel.ledger.gates) k files) (sym of.digest) (subst (λ (n : ℕ). Acks job.parts.digest n k files) (sym of.size) acks)
 
-  gate_within : (k : ℕ) → get_or reel.ledger.gates k false ≡ true → k < length reel.ledger.gates
-  gate_within k is = elim (cases_lt k (length reel.ledger.gates)) [
-    | inl lt ↦ lt
-    | inr past ↦ let none : get_or reel.ledger.gates k false ≡ false = get_or_past reel.ledger.gates k false past in cc
-  ]
-
   module _ (agrees : Agrees (moment_of (history reel.disk)) reel.ledger) where
     -- every image acknowledges the frames whose gates are open
     pub images_acked : (k : ℕ) → get_or reel.ledger.gates k false ≡ true → Surely (moment_of (history reel.disk)) (HasAcked job k)
-    images_acked k is files image = of_job k files (agrees_acks (moment_of (history reel.disk)) reel.ledger agrees k (gate_within k is) is files image)
+    images_acked k is files image = of_job k files ((agrees_shown (moment_of (history reel.disk)) reel.ledger agrees k files image).0 is)
 
     -- and the view no others
     pub view_acked : (k : ℕ) → HasAcked job k (view_of (history reel.disk)) ↔ (get_or reel.ledger.gates k false ≡ true)
-    view_acked k = (λ acks. by acks (get_or reel.ledger.gates k false) refl, λ is. images_acked k is (view_of (history reel.disk)) (view_is_image (moment_of (history reel.disk))))
-      where
-        by : HasAcked job k (view_of (history reel.disk)) → (b : Bool) → get_or reel.ledger.gates k false ≡ b → get_or reel.ledger.gates k false ≡ true
-        by acks true is = is
-        by acks false is = let own = of_ledger k (view_of (history reel.disk)) acks in absurd (not_yet (moment_of (history reel.disk)) reel.ledger agrees k own.within is own)
+    view_acked k =
+        let here = view_is_image (moment_of (history reel.disk)) in (
+          λ acks. (agrees_shown (moment_of (history reel.disk)) reel.ledger agrees k (view_of (history reel.disk)) here).1 (of_ledger k (view_of (history reel.disk)) acks),
+          λ is. images_acked k is (view_of (history reel.disk)) here,
+        )
 
     pub exit_acked : (gates : List Bool) → ((k : ℕ) → (get_or reel.ledger.gates k false ≡ true) ↔ ((get_or gates k false ≡ true) ⊎ Contains reel.acks k)) → (listed : List ℕ) → reel.acks ≡ listed
         → (k : ℕ) → HasAcked job k (view_of (history reel.disk)) ↔ ((get_or gates k false ≡ true) ⊎ Contains listed k)
@@ -79,13 +76,39 @@ whole_reel job told old new run acked = record { shown = by told run.sound }
     by None sound = tt
     by (Some world) sound = λ all i within.
         let here = view_is_image (moment_of new) in
-        (sound all new.now run.extends.later (omega arith) (view_of new) here).sound i (acked.each i within (view_of new) here)
+        ((sound all new.now run.extends.later (omega arith) (view_of new) here).sound i (acked.each i within (view_of new) here)).file
 
--- what a run writes once the folder is open is its own
-pub own_file : (job : JobData) (gates : List Bool) (before : Files) → ((k : ℕ) → (get_or gates k false ≡ true) ↔ HasAcked job k before) → (q : FileId) → IsRunFile job gates q → IsOwnFile job before q
-own_file job gates before opening q (inl body) = inl (inr body)
-own_file job gates before opening q (inr frame) =
-    inr (frame.0, frame.1, λ acks. let opened : get_or gates frame.0 false ≡ true = (opening frame.0).1 acks in let shut : get_or gates frame.0 false ≡ false = frame.2 in cc, frame.3)
+-- what writes fewer files, writes no others
+pub writes_wider : (old new : History) (Few Many : FileId → Type 0) → ((q : FileId) → Few q → Many q) → WritesOnly old new Few → WritesOnly old new Many
+writes_wider old new Few Many more writes = record {
+  files = λ m from to q other. writes.files m from to q (λ few. other (more q few));
+  loose = λ m from to p other. writes.loose m from to p (λ few. other (more (place_of p) few));
+}
+
+-- a folder that was opened is one of version 2
+pub opened_has : (job : JobData) (h : History) (ledger : LedgerState) → Agrees (moment_of h) ledger → HasFrameFiles job (view_of h)
+opened_has job h ledger agrees one i acks = absurd (one.0 agrees.sealed)
+
+module _ (job : JobData) (gates : List Bool) (before : Files) (opening : (k : ℕ) → (get_or gates k false ≡ true) ↔ HasKept job k before) (q : FileId) where
+  unkept : (i : ℕ) × (i < frames_of job) × (get_or gates i false ≡ false) × (q ≡ file_of job i) → IsUnkeptFile job before q
+  unkept frame =
+      (frame.0, frame.1, λ kept. let opened : get_or gates frame.0 false ≡ true = (opening frame.0).1 kept in let shut : get_or gates frame.0 false ≡ false = frame.2 in cc, frame.3)
+
+  -- what a run writes once the folder is open is its own
+  pub own_file : IsRunFile job gates q → IsOwnFile job before q
+  own_file (inl body) = inl (inr (inr (inr body)))
+  own_file (inr frame) = inr (unkept frame)
+
+  pub own_written : IsRunFile job gates q → MayWrite job before q
+  own_written (inl body) = inl (inr body)
+  own_written (inr frame) = inr (unkept frame)
+
+-- why a folder was not opened
+pub refused : (job : JobData) (tells : Bool) (old new : History) (fault : OpenFault) → IsRefusalFor job.parts.digest fault → (tells ≡ true → IsRefused job.parts.digest (frames_of job) old new fault) → HasRefused job tells old new (refused_by fault)
+refused job tells old new (open_fault.OtherJob kept wanted) known is = (known.0, known.1, is)
+refused job tells old new (open_fault.BadLedger len) known is = is
+refused job tells old new open_fault.DiskFault known is = tt
+refused job tells old new open_fault.NoMemory known is = is
 
 -- a count of loads that went up has risen
 pub loads_rose : (more before : ℕ) → 1 ≤ more → HasRisen before (count_after more before)

@@ -1,12 +1,11 @@
 -- Logs of runs on one thread, step after step.
-use Rattle.std.proofs.Common.{◌≡◌, true, false, List, [], ◌∷◌, ◌++◌, refl, sym, ◌∙◌, ap, subst, append-nil}
-use Rattle.std.specs.List.{filter_map}
+use Rattle.std.proofs.Common.{◌≡◌, Bool, true, false, List, [], ◌∷◌, ◌++◌, refl, sym, ◌∙◌, ap, subst, append-nil}
 use Rattle.std.proofs.lemmas.List.{append_assoc}
 use Rattle.std.proofs.lemmas.List.Elements.{filter_map-append}
 use Rattle.cf_base.specs.declared.key.Key.{Key}
 use Rattle.frame_share.specs.declared.step.ShareStep.{ShareStep}
 use Rattle.frame_share.specs.declared.step.ShareStep.TheVariants.{Ask, Put}
-use Rattle.frame_share.specs.Share.{ShareView}
+use Rattle.frame_share.specs.Share.{ShareView, with_step}
 use Rattle.single_run.specs.Sharing.{HasAsked, HasTried, IsPaired, asked_by, asks_of}
 
 pub paired_along : (E : Type 0) (xs ys : List ShareStep) → IsPaired ⊥ xs → IsPaired E ys → IsPaired E (xs ++ ys)
@@ -67,3 +66,25 @@ asked_is_tried a b ks p = record {
 
 pub asked_none : (a : ShareView) → HasAsked a a []
 asked_none a = record { more = []; room = refl; steps = sym (append-nil a.steps); asks = refl; paired = tt }
+
+-- an ask that found its frame
+pub asked_hit : (a b : ShareView) (key : Key) → b ≡ with_step a (Ask key true) → HasAsked a b (key ∷ [])
+asked_hit a b key is = record { more = Ask key true ∷ []; room = ap (λ (s : ShareView). s.capacity) is; steps = ap (λ (s : ShareView). s.steps) is; asks = refl; paired = tt }
+
+-- one that found none, with the put that followed it
+pub asked_put : (a b c : ShareView) (key ticket : Key) (kept : Bool) → ticket ≡ key → b ≡ with_step a (Ask key false) → c ≡ with_step b (Put ticket kept) → HasAsked a c (key ∷ [])
+asked_put a b c key ticket kept same miss put = record {
+  more = Ask key false ∷ Put ticket kept ∷ [];
+  room = ap (λ (s : ShareView). s.capacity) put ∙ ap (λ (s : ShareView). s.capacity) miss;
+  steps = ap (λ (s : ShareView). s.steps) put ∙ ap (λ (l : List ShareStep). l ++ Put ticket kept ∷ []) (ap (λ (s : ShareView). s.steps) miss) ∙ append_assoc a.steps (Ask key false ∷ []) (Put ticket kept ∷ []);
+  asks = refl;
+  paired = (same, tt);
+}
+
+-- one that found none, without
+pub tried_miss : (a b : ShareView) (key : Key) → b ≡ with_step a (Ask key false) → HasTried a b (key ∷ [])
+tried_miss a b key is = record { more = Ask key false ∷ []; rest = []; room = ap (λ (s : ShareView). s.capacity) is; steps = ap (λ (s : ShareView). s.steps) is; asks = refl; paired = tt }
+
+-- no ask
+pub tried_none : (a b : ShareView) (keys : List Key) → b ≡ a → HasTried a b keys
+tried_none a b keys is = record { more = []; rest = keys; room = ap (λ (s : ShareView). s.capacity) is; steps = ap (λ (s : ShareView). s.steps) is ∙ sym (append-nil a.steps); asks = refl; paired = tt }

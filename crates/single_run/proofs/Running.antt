@@ -1,6 +1,6 @@
 -- What is known where a run over the frames ends.
 use Rattle.std.proofs.Common.{◌≡◌, ◌≢◌, inl, inr, ℕ, suc, ◌+◌, ◌-◌, ◌<◌, ◌≤◌, Bool, true, false, List, [], ◌∷◌, ◌++◌, length, take, drop, get_or, refl, sym, ◌∙◌, ap, subst, arith, length-append, append-nil}
-use Rattle.std.specs.Prelude.{nat_lt, Contains, ◌⊎◌, ◌↔◌, Option, Some, None, Ok, Err, Result}
+use Rattle.std.specs.Prelude.{nat_lt, Contains, ◌⊎◌, ◌↔◌, Option, Ok, Err, Result}
 use Rattle.std.proofs.lemmas.Bool.Decides.{nat_tests}
 use Rattle.std.proofs.lemmas.List.{append_assoc, take_at}
 use Rattle.cf_base.specs.declared.file.FileId.{FileId}

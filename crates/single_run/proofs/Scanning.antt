@@ -1,5 +1,5 @@
 -- How what calls on a scan keep is carried on.
-use Rattle.std.proofs.Common.{◌≡◌, ℕ, zero, suc, ◌+◌, ◌≤◌, refl, ◌∙◌, ap, subst, arith}
+use Rattle.std.proofs.Common.{◌≡◌, ℕ, zero, suc, ◌+◌, ◌-◌, ◌≤◌, refl, ◌∙◌, ap, subst, arith}
 use Rattle.std.specs.Prelude.{Option}
 use Rattle.cf_base.specs.Count.{HasRisen}
 use Rattle.scan_source.specs.Plan.{one_more}
@@ -28,6 +28,14 @@ module _ {S : Type 0} (world : S → Option World) (faults loads : S → ℕ) wh
     steady = λ never. was.steady (λ a. never (from a));
     told = was.told;
   }
+
+  -- no call, as a difference of counts
+  pub scanned_still : (scan : S) (n : ℕ) (Failed : Type 0) → (Failed → ⊥) → IsScanned world faults loads (n - n) Failed scan scan
+  scanned_still scan n Failed never = let none : 0 ≡ n - n = omega arith in subst (λ (k : ℕ). IsScanned world faults loads k Failed scan scan) none (scanned_itself Failed never scan)
+
+  -- one load, as a difference of counts
+  pub scanned_more : (old new : S) (n : ℕ) (A B : Type 0) → (B → A) → (A → B) → IsScanned world faults loads 1 A old new → IsScanned world faults loads (n + 1 - n) B old new
+  scanned_more old new n A B to from was = let one : 1 ≡ n + 1 - n = omega arith in scanned_as old new 1 (n + 1 - n) A B one to from was
 
   -- calls that didn't fail, and then others
   pub scanned_along : (old mid new : S) (n m k : ℕ) (A B : Type 0) → n + m ≡ k → (A → ⊥) → IsScanned world faults loads n A old mid → IsScanned world faults loads m B mid new → IsScanned world faults loads k B old new

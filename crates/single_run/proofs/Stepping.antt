@@ -9,7 +9,9 @@ use Rattle.std.proofs.lemmas.List.{get_or-set_same, get_or-set_other, append-nil
 use Rattle.std.proofs.lemmas.List.Elements.{filter-append, Contains-append_left, Contains-push, Contains-push_cases}
 use Rattle.cf_base.specs.declared.file.FileId.{FileId}
 use Rattle.conform_job.specs.Job.{JobData, file_of, need_at}
-use Rattle.reel_writer.specs.Reel.{frames_of, IsWrittenFile}
+use Rattle.reel_disk.specs.Disk.{History}
+use Rattle.reel_disk.proofs.Moments.{keeps_start}
+use Rattle.reel_writer.specs.Reel.{frames_of, HasAcked, IsWrittenFile, KeepsReel}
 use Rattle.reel_writer.specs.View.{ReelView, after_finish}
 use Rattle.single_run.specs.Asks.{IsRunFile, closed_frames, asks_of_frames, frame_if_closed, keys_of_need}
 use Rattle.single_run.specs.Ran.{IsPast, ArePast}
@@ -115,6 +117,10 @@ asks_if_closed job gates i is = ap (asks_of_frames job) (if_closed gates i is) �
 pub run_file : (job : JobData) (gates : List Bool) (i index : ℕ) → index ≡ i → i < frames_of job → get_or gates i false ≡ false → (q : FileId) → IsWrittenFile (file_of job index) q → IsRunFile job gates q
 run_file job gates i index same within closed q (inl is) = inr (i, within, closed, is ∙ ap (file_of job) same)
 run_file job gates i index same within closed q (inr body) = inl body
+
+-- no call loses no acknowledgement
+pub kept_itself : (job : JobData) (h : History) → KeepsReel job h h
+kept_itself job h k = keeps_start (HasAcked job k) h
 
 module _ {D : Type 0} (old : ReelView D) (i : ℕ) where
   pub past_itself : get_or old.ledger.gates i false ≡ true → old.ledger.closed ≡ false → IsPast i old old

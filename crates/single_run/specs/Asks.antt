@@ -4,7 +4,7 @@
 use Rattle.std.specs.Prelude.{◌≡◌, ◌⊎◌, ℕ, ◌<◌, Bool, false, not, List, [], ◌∷◌, ◌++◌, filter, flat_map, slice_index_or, Option, Some, None, if◌then◌else◌}
 use Rattle.std.specs.List.{range_with_len}
 use Rattle.cf_base.specs.declared.file.FileId.{FileId}
-use Rattle.cf_base.specs.declared.file.FileId.TheVariants.{Body}
+use Rattle.cf_base.specs.declared.file.FileId.TheVariants.{Body2}
 use Rattle.cf_base.specs.declared.key.Key.{Key}
 use Rattle.dpx_header.specs.declared.info.FrameInfo.{FrameInfo}
 use Rattle.conform_job.specs.Job.{JobData, file_of, need_at}
@@ -36,5 +36,5 @@ frame_if_closed gates i = if slice_index_or gates i false then [] else (i ∷ []
 -- what a run writes once the folder is open: the ledger's body, and the files of frames whose gate
 -- is closed
 abbrev pub IsRunFile : JobData → List Bool → FileId → Type 0
-IsRunFile job gates q = (q ≡ Body)
+IsRunFile job gates q = (q ≡ Body2)
     ⊎ ((i : ℕ) × (i < frames_of job) × (slice_index_or gates i false ≡ false) × (q ≡ file_of job i))

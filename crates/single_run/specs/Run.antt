@@ -1,17 +1,19 @@
 -- What a run on one thread promises. All of it is this project's own rule.
+--     HasKept      an opening of the folder keeps the frame acknowledged
 --     WasOpened      a run whose folder was opened: what it finished, asked for and left acknowledged
 --     WasRefused      a run whose folder was not
 --     IsWhole      the folder has the whole reel
+--     IsOwnFile, MayWrite      which files a run may change, and which it writes
 use Rattle.std.specs.Prelude.{◌≡◌, ◌≢◌, ◌⊎◌, ◌↔◌, ℕ, ◌<◌, Bool, true, false, List, [], length, take, count_by, Contains, slice_index_or, Option, Some, IfSome}
 use Rattle.cf_base.specs.declared.file.FileId.{FileId}
 use Rattle.scan_source.specs.World.{World, file_at}
 use Rattle.conform_job.specs.Job.{JobData, file_of}
-use Rattle.frame_render.specs.Frame.{frame_file}
+use Rattle.frame_render.specs.Frame.{frame_file, frame_size}
 use Rattle.reel_disk.specs.Disk.{Files, Moment, History, moment_of, view_of}
 use Rattle.reel_disk.specs.Runs.{Surely}
 use Rattle.frame_share.specs.declared.step.ShareStep.{ShareStep}
-use Rattle.resume_ledger.specs.Ledger.{IsFit, IsLedgerFile}
-use Rattle.resume_ledger.specs.Attach.{IsOtherJob, IsBadLedger, IsUnwritten}
+use Rattle.resume_ledger.specs.Ledger.{IsFit, IsLedgerFile, IsWrittenLedgerFile}
+use Rattle.resume_ledger.specs.Attach.{IsKept, IsOtherJob, IsBadLedger, IsUnwritten}
 use Rattle.reel_writer.specs.Reel.{frames_of, HasAcked, IsSoundReel}
 use Rattle.single_run.specs.Asks.{closed_frames}
 use Rattle.single_run.specs.Ends.{IsEnd}
@@ -21,15 +23,21 @@ use Rattle.single_run.specs.declared.run_end.Report.{Report}
 use Rattle.single_run.specs.declared.run_end.RunEnd.{RunEnd}
 use Rattle.single_run.specs.declared.run_end.RunEnd.TheVariants.{Done, OtherJob, BadLedger, Changed, SourceFault, DiskFault, NoMemory}
 
--- The folder was unsealed or this job's. `gates` are the frames that it acknowledged then. Unless
--- the disk failed, it acknowledges now just these and those that the run finished. The log is that of
--- the share, of so many frames.
+-- An opening of these files keeps the frame acknowledged: they acknowledge it, and where version 1 of
+-- the ledger counts its file has the length of a frame's. In sound files each acknowledged frame is
+-- kept.
+abbrev pub HasKept : JobData → ℕ → Files → Type 0
+HasKept job i files = IsKept job.parts.digest (frames_of job) (file_of job) (frame_size job) files i
+
+-- The folder was unsealed or this job's. `gates` are the frames that the opening kept. Unless the
+-- disk failed, the folder acknowledges now just these and those that the run finished. The log is
+-- that of the share, of so many frames.
 pub record WasOpened (job : JobData) (told : Option World) (capacity : ℕ) (tells : Bool)
     (old new : History) (end : RunEnd) (report : Report) (log : List ShareStep) : Type 0 where
   pub gates : List Bool
   pub size : length gates ≡ frames_of job
   pub opening : tells ≡ true → (k : ℕ)
-      → (slice_index_or gates k false ≡ true) ↔ HasAcked job k (view_of old)
+      → (slice_index_or gates k false ≡ true) ↔ HasKept job k (view_of old)
   pub fit : tells ≡ true → IsFit job.parts.digest (frames_of job) (view_of old)
   pub is_end : IsEnd job told end
   pub kept : report.kept ≡ count_by (λ gate. gate) gates
@@ -77,7 +85,15 @@ pub record HasWhole (job : JobData) (told : Option World) (old new : History) : 
   pub shown : IfSome told (λ world. Surely (moment_of old) (IsSoundReel job world)
       → IsWhole job world (moment_of new))
 
--- what a run writes: the ledger's files, and those of frames that the folder didn't acknowledge
+-- the file of a frame that an opening of these files doesn't keep acknowledged
+abbrev pub IsUnkeptFile : JobData → Files → FileId → Type 0
+IsUnkeptFile job before q = (i : ℕ) × (i < frames_of job) × (HasKept job i before → ⊥)
+    × (q ≡ file_of job i)
+
+-- what a run may change: the ledger's files, and those of frames that its opening didn't keep
 abbrev pub IsOwnFile : JobData → Files → FileId → Type 0
-IsOwnFile job before q = IsLedgerFile q
-    ⊎ ((i : ℕ) × (i < frames_of job) × (HasAcked job i before → ⊥) × (q ≡ file_of job i))
+IsOwnFile job before q = IsLedgerFile q ⊎ IsUnkeptFile job before q
+
+-- what a run writes: of the ledger's files those of version 2 alone
+abbrev pub MayWrite : JobData → Files → FileId → Type 0
+MayWrite job before q = IsWrittenLedgerFile q ⊎ IsUnkeptFile job before q

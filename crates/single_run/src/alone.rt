@@ -4,14 +4,16 @@ ghost use Rattle.cf_base.specs.Count.{HasCause, HasRisen};
 ghost use Rattle.conform_job.specs.Answers.{AreInfosOf};
 ghost use Rattle.conform_job.specs.Names.{Tells};
 ghost use Rattle.frame_share.specs.Share.{IsBlankOf, IsLegal, misses_of};
-ghost use Rattle.reel_disk.specs.Disk.{moment_of, view_of};
+ghost use Rattle.reel_disk.specs.Disk.{Files, moment_of, view_of};
 ghost use Rattle.reel_disk.specs.Runs.{Spares, Surely};
-ghost use Rattle.reel_writer.specs.Reel.{frames_of, HasAcked, IsReelRun, IsSoundReel};
+ghost use Rattle.resume_ledger.specs.Sound.{WritesOnly};
+ghost use Rattle.reel_writer.specs.Reel.{frames_of, HasAcked, HasFrameFiles, IsReelRun, IsSoundReel};
+ghost use Rattle.scan_source.specs.World.{World};
 ghost use Rattle.reel_writer.specs.View.{IsReelOf};
 ghost use Rattle.single_run.specs.Asks.{IsRunFile, closed_frames};
 ghost use Rattle.single_run.specs.Ends.{IsChange, IsEnd, refused_by};
 ghost use Rattle.single_run.specs.Ran.{WereFinished};
-ghost use Rattle.single_run.specs.Run.{AreAllAcked, HasWhole, IsOwnFile, WasOpened, WasRefused};
+ghost use Rattle.single_run.specs.Run.{AreAllAcked, HasWhole, IsOwnFile, MayWrite, WasOpened, WasRefused};
 ghost use Rattle.single_run.specs.Scanned.{IsScanned};
 ghost use Rattle.single_run.specs.Sharing.{IsDetermined, WereShared};
 
@@ -200,9 +202,14 @@ fn run_owned<N: Work, L: Ledger, S: Scans, D: Disk>(
     ensures whole { result.0 ≡ RunEnd.Done → D.tells ≡ true
         → HasWhole N.job N.files (D.history disk) (D.history result.2) }
     ensures run { D.tells ≡ true → IsReelRun N.job N.files (D.history disk) (D.history result.2) }
+    ensures sound_has { (world : World) (files : Files) → IsSoundReel N.job world files
+        → HasFrameFiles N.job files }
     ensures spares { D.tells ≡ true
         → Spares (D.history disk) (D.history result.2)
         (IsOwnFile N.job (view_of (D.history disk))) }
+    ensures writes { D.tells ≡ true
+        → WritesOnly (D.history disk) (D.history result.2)
+        (MayWrite N.job (view_of (D.history disk))) }
 
     ensures changed { IsChange result.0 → HasRisen (S.loads scan.old) (S.loads scan.new) }
     ensures scan { IsScanned S.world S.faults S.loads result.1.loads (result.0
@@ -257,8 +264,8 @@ pub fn run_alone<N: Work, S: Scans, D: Disk>(
     requires infos { AreInfosOf N.job.parts N.files N.job.infos }
     requires capacity { (1 ≤ share_cap) × (share_cap ≤ 16) }
 
-    // What the folder acknowledged at the opening and does now, what was finished, and which source
-    // frames were asked for and loaded; or why the folder wasn't opened.
+    // Which frames the opening kept, what the folder acknowledges now, what was finished, and which
+    // source frames were asked for and loaded; or why the folder wasn't opened.
     ensures ran { WasOpened N.job N.files share_cap D.tells (D.history disk.old)
         (D.history disk.new) result.0 result.1 result.2
         ⊎ WasRefused N.job D.tells (D.history disk.old) (D.history disk.new)
@@ -272,13 +279,22 @@ pub fn run_alone<N: Work, S: Scans, D: Disk>(
     ensures whole { result.0 ≡ RunEnd.Done → D.tells ≡ true
         → HasWhole N.job N.files (D.history disk.old) (D.history disk.new) }
 
-    // A crash at any moment leaves only frames acknowledged that are the reel's, and no
-    // acknowledgement is lost.
+    // A crash at any moment leaves only frames acknowledged that are the reel's. No acknowledgement
+    // is lost, where each frame that version 1 of the ledger acknowledged at the start had a file of
+    // a frame's length, as sound files have.
     ensures run { D.tells ≡ true
         → IsReelRun N.job N.files (D.history disk.old) (D.history disk.new) }
+    ensures sound_has { (world : World) (files : Files) → IsSoundReel N.job world files
+        → HasFrameFiles N.job files }
+
+    // No file is changed but the ledger's and those of frames that the opening didn't keep. Of the
+    // ledger's those of version 2 alone are written.
     ensures spares { D.tells ≡ true
         → Spares (D.history disk.old) (D.history disk.new)
         (IsOwnFile N.job (view_of (D.history disk.old))) }
+    ensures writes { D.tells ≡ true
+        → WritesOnly (D.history disk.old) (D.history disk.new)
+        (MayWrite N.job (view_of (D.history disk.old))) }
 
     ensures changed { IsChange result.0 → HasRisen (S.loads scan.old) (S.loads scan.new) }
     ensures scan { IsScanned S.world S.faults S.loads result.1.loads (result.0

@@ -6,7 +6,7 @@ ghost use Rattle.conform_job.specs.Job.{need_at};
 ghost use Rattle.conform_job.specs.Names.{Tells};
 ghost use Rattle.frame_render.specs.Frame.{frame_size};
 ghost use Rattle.reel_disk.specs.Runs.{Spares};
-ghost use Rattle.reel_writer.specs.Reel.{frames_of, IsReelRun};
+ghost use Rattle.reel_writer.specs.Reel.{frames_of, IsReelRun, KeepsReel};
 ghost use Rattle.single_run.specs.Asks.{IsRunFile, asks_of_frames, closed_frames, frame_if_closed, keys_of_need};
 ghost use Rattle.single_run.specs.Ends.{IsChange, IsEnd, IsStop};
 ghost use Rattle.single_run.specs.Ran.{IsPast, IsUnfinished, WereFinished};
@@ -19,7 +19,7 @@ use conform_job::{Job, Work};
 use frame_render::{FrameBuf, Rendered, render};
 use frame_share::{Share, Units};
 use reel_disk::{Disk, DiskFault};
-use reel_writer::Reel;
+use reel_writer::{Hashed, Reel};
 use scan_source::Scans;
 use std::alloc::Global;
 use std::sync::ledger::Ledger;
@@ -104,6 +104,8 @@ fn run_frame<N: Work, L: Ledger, S: Scans, D: Disk>(
         → reel.new.ledger.closed ≡ false) }
     ensures run { D.tells ≡ true
         → IsReelRun N.job N.files (D.history reel.old.disk) (D.history reel.new.disk) }
+    ensures none_lost { D.tells ≡ true
+        → KeepsReel N.job (D.history reel.old.disk) (D.history reel.new.disk) }
     ensures spares { D.tells ≡ true
         → Spares (D.history reel.old.disk) (D.history reel.new.disk)
         (IsRunFile N.job reel.old.ledger.gates) }
@@ -134,8 +136,9 @@ fn run_frame<N: Work, L: Ledger, S: Scans, D: Disk>(
         Ok(frame) => frame,
         Err(end) => return Err(end),
     };
-    match reel.finish(&frame) {
-        Ok(()) => Ok(frame.into_buf()),
+    let hashed = Hashed::of(frame);
+    match reel.finish(&hashed) {
+        Ok(()) => Ok(hashed.into_frame().into_buf()),
         Err(DiskFault) => Err(RunEnd::DiskFault),
     }
 }

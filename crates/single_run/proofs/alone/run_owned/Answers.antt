@@ -1,26 +1,66 @@
-use Rattle.std.proofs.Common.{inl}
+use Rattle.std.proofs.Common.{inl, inr, refl, sym, ◌∙◌, subst}
 use Rattle.reel_disk.specs.Disk.{view_of}
 use Rattle.reel_disk.proofs.Sparing.{spares_along, spares_wider}
-use Rattle.resume_ledger.specs.Ledger.{IsLedgerFile}
+use Rattle.resume_ledger.specs.Ledger.{IsLedgerFile, IsWrittenLedgerFile}
+use Rattle.resume_ledger.proofs.Reading.{spares_writes, writes_along}
 use Rattle.reel_writer.proofs.ReelLaws.{reel_run_along}
 use Rattle.single_run.specs.Asks.{IsRunFile}
-use Rattle.single_run.specs.Run.{IsOwnFile}
-use Rattle.single_run.proofs.Closing.{own_file, whole_reel}
+use Rattle.single_run.specs.Run.{HasRefused, IsOwnFile, MayWrite}
+use Rattle.single_run.specs.declared.run_end.RunEnd.{RunEnd}
+use Rattle.single_run.proofs.Closing.{opened_has, own_file, own_written, refused, whole_reel, writes_wider}
 use Rattle.single_run.proofs.alone.run_owned.Goals as goal
 
+pub returns-in-Ok-clause-ran : goal.returns-in-Ok-clause-ran
+returns-in-Ok-clause-ran g c = inl (record {
+  gates = c.in-Ok.reel.ledger.gates;
+  size = c.in-Ok.ensures.known.size;
+  opening = λ told k. (c.in-Ok.ensures.answer told).gates k;
+  fit = λ told. (c.in-Ok.ensures.answer told).fit;
+  is_end = c.run_opened-end.ensures.end;
+  kept = c.run_opened-end.ensures.kept ∙ c.in-Ok.ensures.opening.1;
+  finished = c.run_opened-end.ensures.finished;
+  shared = c.run_opened-end.ensures.shared;
+  exit = c.run_opened-end.ensures.exit;
+})
+
 pub returns-in-Ok-clause-run : goal.returns-in-Ok-clause-run
-returns-in-Ok-clause-run g c told = reel_run_along g.N.Work.job g.N.Work.files _ _ _ (c.in-Ok.ensures.run told) (c.run_opened-end.ensures.run told)
+returns-in-Ok-clause-run g c told =
+    let opened = opened_has g.N.Work.job (g.D.Disk.history c.in-Ok.reel.disk) c.in-Ok.reel.ledger (c.in-Ok.ensures.answer told).agrees in
+    reel_run_along g.N.Work.job g.N.Work.files _ _ _ (c.in-Ok.ensures.run told) (c.run_opened-end.ensures.run told) ((c.run_opened-end.ensures.run told).keeps opened)
 
 pub returns-in-Ok-clause-spares : goal.returns-in-Ok-clause-spares
 returns-in-Ok-clause-spares g c told =
     spares_along _ _ _ (IsOwnFile g.N.Work.job (view_of (g.D.Disk.history c.args.disk))) (c.in-Ok.ensures.run told).extends (c.run_opened-end.ensures.run told).extends
     (spares_wider _ _ IsLedgerFile (IsOwnFile g.N.Work.job (view_of (g.D.Disk.history c.args.disk))) (λ q own. inl own) (c.in-Ok.ensures.spares told))
     (spares_wider _ _ (IsRunFile g.N.Work.job c.in-Ok.reel.ledger.gates) (IsOwnFile g.N.Work.job (view_of (g.D.Disk.history c.args.disk)))
-    (own_file g.N.Work.job c.in-Ok.reel.ledger.gates (view_of (g.D.Disk.history c.args.disk)) (c.in-Ok.ensures.answer told).acks.gates) (c.run_opened-end.ensures.spares told))
+    (own_file g.N.Work.job c.in-Ok.reel.ledger.gates (view_of (g.D.Disk.history c.args.disk)) (c.in-Ok.ensures.answer told).gates) (c.run_opened-end.ensures.spares told))
+
+pub returns-in-Ok-clause-writes : goal.returns-in-Ok-clause-writes
+returns-in-Ok-clause-writes g c told =
+    let may = MayWrite g.N.Work.job (view_of (g.D.Disk.history c.args.disk)) in
+    writes_along may _ _ _ (c.in-Ok.ensures.run told).extends (c.run_opened-end.ensures.run told).extends
+    (writes_wider _ _ IsWrittenLedgerFile may (λ q own. inl own) (c.in-Ok.ensures.writes told))
+    (spares_writes may _ _ (spares_wider _ _ (IsRunFile g.N.Work.job c.in-Ok.reel.ledger.gates) may
+    (own_written g.N.Work.job c.in-Ok.reel.ledger.gates (view_of (g.D.Disk.history c.args.disk)) (c.in-Ok.ensures.answer told).gates) (c.run_opened-end.ensures.spares told)))
+
+pub returns-in-Ok-clause-whole : goal.returns-in-Ok-clause-whole
+returns-in-Ok-clause-whole g c done told =
+    let opened = opened_has g.N.Work.job (g.D.Disk.history c.in-Ok.reel.disk) c.in-Ok.reel.ledger (c.in-Ok.ensures.answer told).agrees in
+    whole_reel g.N.Work.job g.N.Work.files (g.D.Disk.history c.args.disk) (g.D.Disk.history c.run_opened-end.result.3)
+    (reel_run_along g.N.Work.job g.N.Work.files _ _ _ (c.in-Ok.ensures.run told) (c.run_opened-end.ensures.run told) ((c.run_opened-end.ensures.run told).keeps opened)) (c.run_opened-end.ensures.acked done told)
+
+pub returns-in-Err-clause-ran : goal.returns-in-Err-clause-ran
+returns-in-Err-clause-ran g c = inr (record {
+  why = subst (λ (e : RunEnd). HasRefused g.N.Work.job g.D.Disk.tells (g.D.Disk.history c.args.disk) (g.D.Disk.history c.in-Err.disk) e) (sym c.end_of_opening.ensures.end)
+      (refused g.N.Work.job g.D.Disk.tells (g.D.Disk.history c.args.disk) (g.D.Disk.history c.in-Err.disk) c.in-Err.fault c.in-Err.ensures.known c.in-Err.ensures.answer);
+  kept = refl;
+  rendered = refl;
+  loads = (refl, refl);
+  unasked = c.requires.unasked;
+})
 
 pub returns-in-Err-clause-spares : goal.returns-in-Err-clause-spares
 returns-in-Err-clause-spares g c told = spares_wider _ _ IsLedgerFile (IsOwnFile g.N.Work.job (view_of (g.D.Disk.history c.args.disk))) (λ q own. inl own) (c.in-Err.ensures.spares told)
 
-pub returns-in-Ok-clause-whole : goal.returns-in-Ok-clause-whole
-returns-in-Ok-clause-whole g c done told =
-    whole_reel g.N.Work.job g.N.Work.files (g.D.Disk.history c.args.disk) (g.D.Disk.history c.run_opened-end.result.3) (reel_run_along g.N.Work.job g.N.Work.files _ _ _ (c.in-Ok.ensures.run told) (c.run_opened-end.ensures.run told)) (c.run_opened-end.ensures.acked done told)
+pub returns-in-Err-clause-writes : goal.returns-in-Err-clause-writes
+returns-in-Err-clause-writes g c told = writes_wider _ _ IsWrittenLedgerFile (MayWrite g.N.Work.job (view_of (g.D.Disk.history c.args.disk))) (λ q own. inl own) (c.in-Err.ensures.writes told)

@@ -1,13 +1,14 @@
-use Rattle.std.proofs.Common.{List, sym, ◌∙◌, subst}
+use Rattle.std.proofs.Common.{List, sym, ◌∙◌, ap, subst}
 use Rattle.cf_base.specs.declared.key.Key.{Key}
 use Rattle.reel_disk.proofs.Sparing.{spares_wider}
 use Rattle.conform_job.specs.Job.{file_of, need_at}
+use Rattle.frame_render.specs.Frame.{FrameBytes}
 use Rattle.reel_writer.specs.Reel.{IsWrittenFile}
 use Rattle.reel_writer.proofs.ReelLaws.{reel_run_itself}
 use Rattle.single_run.specs.Asks.{IsRunFile, keys_of_need}
 use Rattle.single_run.specs.Sharing.{HasAsked}
 use Rattle.single_run.proofs.Logs.{asked_is_tried, asked_none}
-use Rattle.single_run.proofs.Stepping.{past_itself, asks_if_open, asks_if_closed, run_file}
+use Rattle.single_run.proofs.Stepping.{past_itself, asks_if_open, asks_if_closed, kept_itself, run_file}
 use Rattle.single_run.proofs.frames.run_frame.Goals as goal
 
 pub returns-then-is_acked-clause-past : goal.returns-then-is_acked-clause-past
@@ -19,13 +20,25 @@ returns-then-is_acked-clause-run g c told = reel_run_itself g.N.Work.job g.N.Wor
 pub returns-then-is_acked-clause-asked : goal.returns-then-is_acked-clause-asked
 returns-then-is_acked-clause-asked g c = subst (λ (l : List Key). HasAsked c.args.share.now c.args.share.now l) (sym (asks_if_open g.N.Work.job c.args.reel.now.ledger.gates c.args.i (sym c.is_acked.ensures ∙ c.if-is_acked.true))) (asked_none c.args.share.now)
 
+pub returns-then-is_acked-clause-none_lost : goal.returns-then-is_acked-clause-none_lost
+returns-then-is_acked-clause-none_lost g c told = kept_itself g.N.Work.job (g.D.Disk.history c.args.reel.now.disk)
+
+pub returns-in-Err-clause-none_lost : goal.returns-in-Err-clause-none_lost
+returns-in-Err-clause-none_lost g c told = kept_itself g.N.Work.job (g.D.Disk.history c.args.reel.now.disk)
+
+pub returns-in-Ok-finish-clause-none_lost : goal.returns-in-Ok-finish-clause-none_lost
+returns-in-Ok-finish-clause-none_lost g c = c.finish.ensures.none_lost
+
+pub returns-in-Err-finish-clause-none_lost : goal.returns-in-Err-finish-clause-none_lost
+returns-in-Err-finish-clause-none_lost g c = c.finish.ensures.none_lost
+
 pub returns-in-Err-clause-run : goal.returns-in-Err-clause-run
 returns-in-Err-clause-run g c told = reel_run_itself g.N.Work.job g.N.Work.files (g.D.Disk.history c.args.reel.now.disk)
 
 pub returns-in-Ok-finish-clause-spares : goal.returns-in-Ok-finish-clause-spares
 returns-in-Ok-finish-clause-spares g c told =
-    spares_wider _ _ (IsWrittenFile (file_of g.N.Work.job c.in-Ok.frame.index)) (IsRunFile g.N.Work.job c.args.reel.now.ledger.gates)
-    (run_file g.N.Work.job c.args.reel.now.ledger.gates c.args.i c.in-Ok.frame.index c.in-Ok.ensures.index c.requires.index (sym c.is_acked.ensures ∙ c.if-is_acked.false)) (c.finish.ensures.spares told)
+    spares_wider _ _ (IsWrittenFile (file_of g.N.Work.job c.of-hashed.result.index)) (IsRunFile g.N.Work.job c.args.reel.now.ledger.gates)
+    (run_file g.N.Work.job c.args.reel.now.ledger.gates c.args.i c.of-hashed.result.index (ap (λ (f : FrameBytes). f.index) c.of-hashed.ensures ∙ c.in-Ok.ensures.index) c.requires.index (sym c.is_acked.ensures ∙ c.if-is_acked.false)) (c.finish.ensures.spares told)
 
 pub returns-in-Ok-finish-clause-asked : goal.returns-in-Ok-finish-clause-asked
 returns-in-Ok-finish-clause-asked g c =
@@ -36,5 +49,5 @@ returns-in-Err-finish-clause-tried g c = asked_is_tried c.args.share.now c.make_
 
 pub returns-in-Err-finish-clause-spares : goal.returns-in-Err-finish-clause-spares
 returns-in-Err-finish-clause-spares g c told =
-    spares_wider _ _ (IsWrittenFile (file_of g.N.Work.job c.in-Ok.frame.index)) (IsRunFile g.N.Work.job c.args.reel.now.ledger.gates)
-    (run_file g.N.Work.job c.args.reel.now.ledger.gates c.args.i c.in-Ok.frame.index c.in-Ok.ensures.index c.requires.index (sym c.is_acked.ensures ∙ c.if-is_acked.false)) (c.finish.ensures.spares told)
+    spares_wider _ _ (IsWrittenFile (file_of g.N.Work.job c.of-hashed.result.index)) (IsRunFile g.N.Work.job c.args.reel.now.ledger.gates)
+    (run_file g.N.Work.job c.args.reel.now.ledger.gates c.args.i c.of-hashed.result.index (ap (λ (f : FrameBytes). f.index) c.of-hashed.ensures ∙ c.in-Ok.ensures.index) c.requires.index (sym c.is_acked.ensures ∙ c.if-is_acked.false)) (c.finish.ensures.spares told)

@@ -57,7 +57,7 @@ loop-i-preserved g c =
       counted = let was = inv.counted in let now = c.run_frame.ensures.counted in omega (arith, was, now);
       few = let was = inv.few in let two = c.run_frame.ensures.two in omega (arith, was, two);
       room = step.room;
-      run = λ told. reel_run_along g.N.Work.job g.N.Work.files _ _ _ (inv.run told) (step.run told);
+      run = λ told. reel_run_along g.N.Work.job g.N.Work.files _ _ _ (inv.run told) (step.run told) (step.none_lost told);
       spares = λ told. spares_along _ _ _ (IsRunFile g.N.Work.job c.args.reel.now.ledger.gates) (inv.run told).extends (step.run told).extends (inv.spares told)
           (spares_wider _ _ (IsRunFile g.N.Work.job c.loop-i.reel.ledger.gates) (IsRunFile g.N.Work.job c.args.reel.now.ledger.gates) (run_file_along c.args.reel.now c.loop-i.reel c.loop-i.i c.requires.none inv.past g.N.Work.job) (step.spares told));
       faults = steady ∙ inv.faults;
@@ -99,7 +99,7 @@ pub returns-in-Err-run_frame-clause-kept : goal.returns-in-Err-run_frame-clause-
 returns-in-Err-run_frame-clause-kept g c = kept_then c.args.reel.now c.loop-i.reel c.loop-i.i c.requires.none c.loop-i.invariant.past c.run_frame.new.reel c.in-Err-run_frame.ensures.unfinished
 
 pub returns-in-Err-run_frame-clause-run : goal.returns-in-Err-run_frame-clause-run
-returns-in-Err-run_frame-clause-run g c told = reel_run_along g.N.Work.job g.N.Work.files _ _ _ (c.loop-i.invariant.run told) (c.run_frame.ensures.run told)
+returns-in-Err-run_frame-clause-run g c told = reel_run_along g.N.Work.job g.N.Work.files _ _ _ (c.loop-i.invariant.run told) (c.run_frame.ensures.run told) (c.run_frame.ensures.none_lost told)
 
 pub returns-in-Err-run_frame-clause-spares : goal.returns-in-Err-run_frame-clause-spares
 returns-in-Err-run_frame-clause-spares g c told =

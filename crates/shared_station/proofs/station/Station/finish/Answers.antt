@@ -1,6 +1,6 @@
 use Rattle.std.proofs.Common.{◌≡◌, true, rules, ◌∙◌, subst}
 use Rattle.resume_ledger.specs.Sound.{AddsAtMost}
-use Rattle.reel_writer.specs.Reel.{frames_of}
+use Rattle.reel_writer.specs.Reel.{frames_of, KeepsReel}
 use Rattle.render_board.proofs.Holding.{held_isnt_done}
 use Rattle.shared_station.specs.Station.{StationView}
 use Rattle.shared_station.proofs.StationKeeps.{finished_as, failed_as}
@@ -14,7 +14,7 @@ invariant_of-self g c =
     let s = c.self.inside in
     let v : StationView _ = record { reel = s.reel; log = s.board; totals = record { source = s.totals.source.total; disk = s.totals.disk.total; memory = s.totals.memory.total; changed = s.totals.changed.total } } in
     finished_as g.N.Work.job g.N.Work.files g.N.Start.start g.D.Disk.tells g.D.Disk.history g.D.Disk.faults v c.args.worker c.self.invariant
-    c.args.frame.now.index c.finish.new.self c.finished.new.self (search rules) (search rules) (search rules) c.finish.ensures.run c.finish.ensures.others c.finish.ensures.spares
+    c.args.frame.now.index c.finish.new.self c.finished.new.self (search rules) (search rules) (search rules) c.finish.ensures.run c.finish.ensures.none_lost c.finish.ensures.others c.finish.ensures.spares
     (c.in-Ok.ensures.finished) (search rules) c.in-Ok.ensures.acked c.in-Ok.ensures.steady
 
 pub invariant_of-self-in-Err : goal.invariant_of-self-in-Err
@@ -22,7 +22,7 @@ invariant_of-self-in-Err g c =
     let s = c.self.inside in
     let v : StationView _ = record { reel = s.reel; log = s.board; totals = record { source = s.totals.source.total; disk = s.totals.disk.total; memory = s.totals.memory.total; changed = s.totals.changed.total } } in
     failed_as g.N.Work.job g.N.Work.files g.N.Start.start g.D.Disk.tells g.D.Disk.history g.D.Disk.faults v c.args.worker c.self.invariant
-    c.args.frame.now.index c.finish.new.self c.stop.new.self (search rules) (search rules) (search rules) c.finish.ensures.run c.finish.ensures.others c.finish.ensures.spares
+    c.args.frame.now.index c.finish.new.self c.stop.new.self (search rules) (search rules) (search rules) c.finish.ensures.run c.finish.ensures.none_lost c.finish.ensures.others c.finish.ensures.spares
     c.add.new.self.total c.in-Err.ensures.closed c.stop.ensures (search rules) (search rules)
 
 pub returns-in-Ok-clause-others : goal.returns-in-Ok-clause-others
@@ -32,3 +32,9 @@ returns-in-Ok-clause-others g c =
 pub returns-in-Err-clause-others : goal.returns-in-Err-clause-others
 returns-in-Err-clause-others g c =
     subst (λ (v : StationView _). g.D.Disk.tells ≡ true → AddsAtMost c.args.frame.now.index g.N.Work.job.parts.digest (frames_of g.N.Work.job) (g.D.Disk.history v.reel.disk) (g.D.Disk.history c.finish.new.self.disk)) c.self.view_is c.finish.ensures.others
+
+pub returns-in-Ok-clause-none_lost : goal.returns-in-Ok-clause-none_lost
+returns-in-Ok-clause-none_lost g c = subst (λ (v : StationView _). g.D.Disk.tells ≡ true → KeepsReel g.N.Work.job (g.D.Disk.history v.reel.disk) (g.D.Disk.history c.finish.new.self.disk)) c.self.view_is c.finish.ensures.none_lost
+
+pub returns-in-Err-clause-none_lost : goal.returns-in-Err-clause-none_lost
+returns-in-Err-clause-none_lost g c = subst (λ (v : StationView _). g.D.Disk.tells ≡ true → KeepsReel g.N.Work.job (g.D.Disk.history v.reel.disk) (g.D.Disk.history c.finish.new.self.disk)) c.self.view_is c.finish.ensures.none_lost
