@@ -7,26 +7,27 @@ use Rattle.cf_base.specs.declared.file.FileId.{FileId}
 use Rattle.scan_source.specs.World.{World}
 use Rattle.frame_share.specs.declared.step.ShareStep.{ShareStep}
 use Rattle.conform_job.specs.Job.{JobData}
-use Rattle.reel_disk.specs.Disk.{Files, Moment, History, IsLoose, moment_of, view_of}
+use Rattle.reel_disk.specs.Disk.{Files, Moment, History, IsFirm, IsLoose, moment_of, view_of}
 use Rattle.reel_disk.specs.Runs.{Spares, Surely}
 use Rattle.reel_disk.proofs.Sparing.{spares_wider}
 use Rattle.resume_ledger.specs.Ledger.{IsFit}
+use Rattle.resume_ledger.specs.Sound.{WritesOnly}
 use Rattle.render_board.specs.Board.{Log, has_stop, is_done}
 use Rattle.render_board.specs.History.{finished_of, first_why, is_disk, stops_of}
 use Rattle.render_board.specs.declared.step.Step.{Step}
 use Rattle.render_board.specs.declared.step.Step.TheVariants.{Claim, Finish, Stop}
 use Rattle.render_board.specs.declared.step.Why.{Why}
 use Rattle.render_board.specs.declared.step.Why.TheVariants.{Source, Disk, Memory, Changed}
-use Rattle.reel_writer.specs.Reel.{frames_of, HasAcked, IsReelRun}
+use Rattle.reel_writer.specs.Reel.{frames_of, IsReelRun}
 use Rattle.single_run.specs.declared.run_end.Report.{Report}
 use Rattle.single_run.specs.declared.run_end.RunEnd.{RunEnd}
 use Rattle.single_run.specs.declared.run_end.RunEnd.TheVariants.{Done, Changed as IsNow, SourceFault, DiskFault, NoMemory}
 use Rattle.station.specs.Crews.{AreShared, IsCrewRun, WasCrewed, end_by, log_of}
 use Rattle.single_run.specs.Ends.{IsEnd}
-use Rattle.single_run.specs.Run.{AreAllAcked, IsOwnFile}
-use Rattle.shared_station.specs.Station.{IsStation, StationView, HasChanges, IsCrewFile, ShowsDone, at_start, start_of}
+use Rattle.single_run.specs.Run.{AreAllAcked, HasKept, IsOwnFile, MayWrite}
+use Rattle.shared_station.specs.Station.{IsStation, StationView, HasChanges, IsCrewFile, MayCrewWrite, ShowsDone, at_start, start_of}
 use Rattle.reel_writer.specs.View.{IsReelOf}
-use Rattle.single_run.proofs.Closing.{images_acked, own_file}
+use Rattle.single_run.proofs.Closing.{images_acked, own_file, own_written, writes_wider}
 use Rattle.station.proofs.Gathering.{end_done, no_first}
 use Rattle.shared_station.proofs.Opening.{run_back, start_at}
 use Rattle.station.proofs.Resting.{closed_has_stop}
@@ -74,33 +75,49 @@ module _ {D : Type 0} (job : JobData) (told : Option World) (start : Option Mome
       (run_back job told (history disk) (history v.reel.disk) (at_zero t)
       (start_at job told (history disk) (history v.reel.disk) (began t) (made.is.run t)))
 
-  opening : tells ≡ true → (k : ℕ) → (get_or v.log.start k false ≡ true) ↔ HasAcked job k (view_of (history disk))
+  opening : tells ≡ true → (k : ℕ) → (get_or v.log.start k false ≡ true) ↔ HasKept job k (view_of (history disk))
   opening t = by tells start_is made.is.from t
     where
-      by : (b : Bool) → start ≡ start_of b (history disk) → IfSome start (λ moment. (i : ℕ) → (get_or v.log.start i false ≡ true) ↔ HasAcked job i moment.view) → b ≡ true
-          → (k : ℕ) → (get_or v.log.start k false ≡ true) ↔ HasAcked job k (view_of (history disk))
+      by : (b : Bool) → start ≡ start_of b (history disk) → IfSome start (λ moment. (i : ℕ) → (get_or v.log.start i false ≡ true) ↔ HasKept job i moment.view) → b ≡ true
+          → (k : ℕ) → (get_or v.log.start k false ≡ true) ↔ HasKept job k (view_of (history disk))
       by true same from is =
-          subst (λ (n : ℕ). (k : ℕ) → (get_or v.log.start k false ≡ true) ↔ HasAcked job k ((history disk).past n).view) (sym (at_zero t))
-          (subst (λ (s : Option Moment). IfSome s (λ moment. (i : ℕ) → (get_or v.log.start i false ≡ true) ↔ HasAcked job i moment.view)) same from)
+          subst (λ (n : ℕ). (k : ℕ) → (get_or v.log.start k false ≡ true) ↔ HasKept job k ((history disk).past n).view) (sym (at_zero t))
+          (subst (λ (s : Option Moment). IfSome s (λ moment. (i : ℕ) → (get_or v.log.start i false ≡ true) ↔ HasKept job i moment.view)) same from)
       by false same from is = absurd (true≢false (sym is))
+
+  based : tells ≡ true → (history disk).past (history disk).now ≡ (history v.reel.disk).past 0
+  based t = ap (history disk).past (at_zero t) ∙ began t
 
   pub crew_spares : tells ≡ true → Spares (history disk) (history other) (IsOwnFile job (view_of (history disk)))
   crew_spares t =
       subst (λ (d : D). Spares (history disk) (history d) (IsOwnFile job (view_of (history disk)))) made.disk_is
       (spares_wider (history disk) (history v.reel.disk) (IsCrewFile job v.log.start) (IsOwnFile job (view_of (history disk))) own
-      (based (made.is.spares t)))
+      (from_start (made.is.spares t)))
     where
       own : (q : FileId) → IsCrewFile job v.log.start q → IsOwnFile job (view_of (history disk)) q
       own q (inl ledger) = inl ledger
       own q (inr frame) = own_file job v.log.start (view_of (history disk)) (opening t) q frame
 
-      same : (history disk).past (history disk).now ≡ (history v.reel.disk).past 0
-      same = ap (history disk).past (at_zero t) ∙ began t
+      from_start : Spares (at_start (history v.reel.disk)) (history v.reel.disk) (IsCrewFile job v.log.start) → Spares (history disk) (history v.reel.disk) (IsCrewFile job v.log.start)
+      from_start spares = record {
+        files = λ m from to q others. spares.files m (omega arith) to q others ∙ ap (λ (x : Moment). x.view q) (sym (based t));
+        loose = λ m from to p others there. subst (λ (x : Moment). IsLoose x.loose p) (sym (based t)) (spares.loose m (omega arith) to p others there);
+      }
 
-      based : Spares (at_start (history v.reel.disk)) (history v.reel.disk) (IsCrewFile job v.log.start) → Spares (history disk) (history v.reel.disk) (IsCrewFile job v.log.start)
-      based spares = record {
-        files = λ m from to q others. spares.files m (omega arith) to q others ∙ ap (λ (x : Moment). x.view q) (sym same);
-        loose = λ m from to p others there. subst (λ (x : Moment). IsLoose x.loose p) (sym same) (spares.loose m (omega arith) to p others there);
+  pub crew_writes : tells ≡ true → WritesOnly (history disk) (history other) (MayWrite job (view_of (history disk)))
+  crew_writes t =
+      subst (λ (d : D). WritesOnly (history disk) (history d) (MayWrite job (view_of (history disk)))) made.disk_is
+      (writes_wider (history disk) (history v.reel.disk) (MayCrewWrite job v.log.start) (MayWrite job (view_of (history disk))) own
+      (from_start (made.is.writes t)))
+    where
+      own : (q : FileId) → MayCrewWrite job v.log.start q → MayWrite job (view_of (history disk)) q
+      own q (inl ledger) = inl ledger
+      own q (inr frame) = own_written job v.log.start (view_of (history disk)) (opening t) q frame
+
+      from_start : WritesOnly (at_start (history v.reel.disk)) (history v.reel.disk) (MayCrewWrite job v.log.start) → WritesOnly (history disk) (history v.reel.disk) (MayCrewWrite job v.log.start)
+      from_start writes = record {
+        files = λ m from to q others firm. writes.files m (omega arith) to q others (subst (λ (x : Moment). IsFirm x.loose q) (based t) firm) ∙ ap (λ (x : Moment). x.view q) (sym (based t));
+        loose = λ m from to p others there. subst (λ (x : Moment). IsLoose x.loose p) (sym (based t)) (writes.loose m (omega arith) to p others there);
       }
 
   ends_here : end ≡ end_by (first_why v.log.steps)

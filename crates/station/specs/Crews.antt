@@ -1,5 +1,6 @@
 -- What a crew leaves. All of it is this project's own rule.
---     WasCrewed      a run whose folder was opened and whose board was made: its steps, and what the folder acknowledges
+--     WasCrewed      a run whose folder was opened and whose board was made: its steps, which frames its opening kept, and what
+--                    the folder acknowledges
 --     WasUnmade      a run whose board or share could not be made
 --     AreShared      the log of the source frames that the workers shared
 --     AreWorked      what the workers did with their scans
@@ -21,7 +22,7 @@ use Rattle.single_run.specs.declared.run_end.RunEnd.{RunEnd}
 use Rattle.single_run.specs.declared.run_end.RunEnd.TheVariants.{Done, Changed as IsNow, SourceFault, DiskFault, NoMemory}
 use Rattle.single_run.specs.Ends.{IsEnd}
 use Rattle.shared_station.specs.Marks.{Tallies}
-use Rattle.single_run.specs.Run.{WasRefused}
+use Rattle.single_run.specs.Run.{HasKept, WasRefused}
 use Rattle.single_run.specs.Scanned.{IsScanned}
 use Rattle.shared_station.specs.Station.{StationView, IsStation, ShowsDone}
 use Rattle.station.specs.Worked.{HasCauses}
@@ -47,13 +48,13 @@ pub record AreShared (log : List ShareStep) (report : Report) : Type 0 where
   pub misses : report.misses ≡ misses_of log
   pub loads : report.loads ≡ report.misses
 
--- The folder was unsealed or this job's, and the board has these steps. `gates` are the frames that the folder acknowledged
--- then. The run is Done just where no worker stopped, and then every frame is done; else it ends as the first stop says.
+-- The folder was unsealed or this job's, and the board has these steps. `gates` are the frames that the opening kept. The run
+-- is Done just where no worker stopped, and then every frame is done; else it ends as the first stop says.
 pub record WasCrewed (job : JobData) (told : Option World) (tells : Bool) (old new : History) (steps : List Step) (end : RunEnd) (report : Report) (log : List ShareStep) : Type 0 where
   pub gates : List Bool
   pub workers : ℕ
   pub size : length gates ≡ frames_of job
-  pub opening : tells ≡ true → (k : ℕ) → (slice_index_or gates k false ≡ true) ↔ HasAcked job k (view_of old)
+  pub opening : tells ≡ true → (k : ℕ) → (slice_index_or gates k false ≡ true) ↔ HasKept job k (view_of old)
   pub fit : tells ≡ true → IsFit job.parts.digest (frames_of job) (view_of old)
   pub legal : IsLegal (log_of gates workers steps)
   pub ends : end ≡ end_by (first_why steps)
@@ -67,7 +68,7 @@ pub record WasCrewed (job : JobData) (told : Option World) (tells : Bool) (old n
   pub exit : tells ≡ true → stops_of is_disk steps ≡ 0 → (k : ℕ) → HasAcked job k (view_of new) ↔ (is_done (log_of gates workers steps) k ≡ true)
   pub failed_exit : tells ≡ true → 1 ≤ stops_of is_disk steps → ShowsDone job (log_of gates workers steps) true (view_of new)
 
--- No memory was left for the board or for the share. No worker took a step, and no source frame was asked for.
+-- No memory was left for the board, for the share or for room. No worker took a step, and no source frame was asked for.
 pub record WasUnmade (end : RunEnd) (report : Report) (log : List ShareStep) : Type 0 where
   pub no_memory : end ≡ NoMemory
   pub kept : report.kept ≡ 0

@@ -3,22 +3,24 @@ ghost use Rattle.std.specs.Prelude.{◌≡◌, ◌≢◌, ◌<◌, ◌≤◌, �
 ghost use Rattle.cf_base.specs.Count.{HasCause};
 ghost use Rattle.conform_job.specs.Answers.{AreInfosOf};
 ghost use Rattle.conform_job.specs.Names.{Tells};
-ghost use Rattle.reel_disk.specs.Disk.{moment_of, view_of};
+ghost use Rattle.reel_disk.specs.Disk.{Files, moment_of, view_of};
 ghost use Rattle.reel_disk.specs.Runs.{Spares};
 ghost use Rattle.render_board.specs.Board.{has_stop, is_done};
 ghost use Rattle.render_board.specs.History.{first_why};
-ghost use Rattle.reel_writer.specs.Reel.{frames_of, IsReelRun};
+ghost use Rattle.reel_writer.specs.Reel.{frames_of, HasFrameFiles, IsReelRun, IsSoundReel};
+ghost use Rattle.resume_ledger.specs.Sound.{WritesOnly};
+ghost use Rattle.scan_source.specs.World.{World};
 ghost use Rattle.frame_share.specs.Share.{IsBlankOf as IsCounterOf};
 ghost use Rattle.frame_share.specs.Units.{whole};
 ghost use Rattle.station.specs.Crews.{AreShared, AreWorked, HasDiskFailed, IsCrewRun, IsUnstepped, WasCrewed, end_by};
 ghost use Rattle.single_run.specs.Ends.{IsChange};
 ghost use Rattle.shared_station.specs.Marks.{IsBlankOf};
-ghost use Rattle.single_run.specs.Run.{AreAllAcked, HasWhole, IsOwnFile};
+ghost use Rattle.single_run.specs.Run.{AreAllAcked, HasWhole, IsOwnFile, MayWrite};
 ghost use Rattle.shared_station.specs.Station.{start_of};
 ghost use Rattle.shared_station.specs.StationSteps.{IsBeginning};
 
 use crate::seat::Seat;
-use crate::seats::{push_within, seat_all, unseat};
+use crate::seats::{push_within, seat_all, threads_each, unseat};
 use crate::work::work_all;
 use conform_job::{Job, Work};
 use frame_share::{Share, ShareLog, Units};
@@ -40,7 +42,7 @@ pub struct Crew<S, D> {
     pub end: RunEnd,
     /// What it did.
     pub report: Report,
-    /// The steps of its workers: none where the folder wasn't opened, or no memory was left for the board.
+    /// The steps of its workers: none where the folder wasn't opened, or no memory was left to begin with.
     pub history: Option<History>,
     /// The log of the source frames that were shared.
     pub log: ShareLog,
@@ -124,6 +126,63 @@ fn board_of<D: Disk, N: Work>(
     }
     match Board::new(alloc, &done, workers) {
         Ok(board) => Some(board),
+        Err(_) => None,
+    }
+}
+
+/// What a crew needs beside its reel.
+struct Ready<S: Scans, N: Work, A: Ledger, B: Ledger, C: Ledger, E: Ledger, F: Ledger> {
+    /// Who renders which frame.
+    board: Board,
+    /// The source frames that are shared.
+    share: Share<N, F>,
+    /// All units of the share.
+    units: Units<F>,
+    /// Room for the seats.
+    room: Vec<Seat<S, N, A, B, C, E, F>>,
+    /// Room for the scans that are handed back.
+    back: Vec<S>,
+}
+
+/// Makes what a crew of so many workers needs beside its reel, with room for so many scans. None where memory ran out.
+fn make_ready<S: Scans, D: Disk, N: Work, A: Ledger, B: Ledger, C: Ledger, E: Ledger, F: Ledger>(
+    alloc: Global,
+    job: &Job,
+    reel: &Reel<D, N>,
+    workers: u16,
+    scans: usize,
+    share_cap: u32,
+    misses: Blank,
+) -> Option<Ready<S, N, A, B, C, E, F>>
+    requires job { job.now ≡ N.job }
+    requires size { length reel.now.ledger.gates ≡ frames_of N.job }
+    requires workers { (1 ≤ workers) × (workers ≤ 16) }
+    requires share { (1 ≤ share_cap) × (share_cap ≤ 16) }
+    requires misses { IsCounterOf F.name F.parts misses.name misses.parts }
+    ensures board { IfSome result (λ made. made.board ≡ record { start = reel.now.ledger.gates; workers = workers; steps = [] }) }
+    ensures share { IfSome result (λ made. made.share.steps ≡ []) }
+    ensures units { IfSome result (λ made. made.units ≡ whole F.parts) }
+    ensures room { IfSome result (λ made. (made.room.items ≡ []) × (scans ≤ vec_capacity made.room)) }
+    ensures back { IfSome result (λ made. (made.back.items ≡ []) × (scans ≤ vec_capacity made.back)) }
+{
+    let Ok(back) = Vec::with_capacity(alloc, scans) else {
+        return None;
+    };
+    let Ok(room) = Vec::with_capacity(alloc, scans) else {
+        return None;
+    };
+    let board = match board_of(alloc, job, reel, workers) {
+        Some(board) => board,
+        None => return None,
+    };
+    match Share::<N, F>::new(alloc, share_cap, misses) {
+        Ok((share, units)) => Some(Ready {
+            board,
+            share,
+            units,
+            room,
+            back,
+        }),
         Err(_) => None,
     }
 }
@@ -217,7 +276,8 @@ fn run_opened<
         reel, board, source, failed, memory, changed,
     );
     let mut units = units;
-    let mut seats = seat_all(room, scans, &mut marks, &mut units);
+    let each = threads_each(rt, threads);
+    let mut seats = seat_all(room, scans, each, &mut marks, &mut units);
     let (mut station, mut share) = work_all(rt, alloc, job, &mut seats, threads, station, share);
     let (scans, loads) = unseat(seats, back, &mut marks, &mut units);
     station.settle(&mut marks);
@@ -267,7 +327,7 @@ fn crew_under<
     ensures frames { result.report.frames ≡ frames_of N.job }
     ensures misses { result.report.misses ≡ result.report.loads }
 
-    // What the folder acknowledged at the opening and does now, and the steps by which it came; or why there are none.
+    // Which frames the opening kept, what the folder acknowledges now, and the steps by which it came; or why there are none.
     ensures ran { MatchOption result.history
         (IsUnstepped N.job D.tells (D.history disk) (D.history result.disk) result.end result.report result.log)
         (λ steps. WasCrewed N.job N.files D.tells (D.history disk) (D.history result.disk) steps result.end result.report result.log) }
@@ -276,9 +336,15 @@ fn crew_under<
     ensures acked { result.end ≡ RunEnd.Done → D.tells ≡ true → AreAllAcked N.job (moment_of (D.history result.disk)) }
     ensures whole { result.end ≡ RunEnd.Done → D.tells ≡ true → HasWhole N.job N.files (D.history disk) (D.history result.disk) }
 
-    // A crash at any moment leaves only frames acknowledged that are the reel's, and no acknowledgement is lost.
+    // A crash at any moment leaves only frames acknowledged that are the reel's. No acknowledgement is lost, where each frame
+    // that version 1 of the ledger acknowledged at the start had a file of a frame's length, as sound files have.
     ensures run { D.tells ≡ true → IsReelRun N.job N.files (D.history disk) (D.history result.disk) }
+    ensures sound_has { (world : World) (files : Files) → IsSoundReel N.job world files → HasFrameFiles N.job files }
+
+    // No file is changed but the ledger's and those of frames that the opening didn't keep. Of the ledger's those of version 2
+    // alone are written.
     ensures spares { D.tells ≡ true → Spares (D.history disk) (D.history result.disk) (IsOwnFile N.job (view_of (D.history disk))) }
+    ensures writes { D.tells ≡ true → WritesOnly (D.history disk) (D.history result.disk) (MayWrite N.job (view_of (D.history disk))) }
 
     // Each scan is handed back in its place. A stop has its cause: a load failed, a loaded file has changed, the disk failed.
     ensures scans { AreWorked S.world S.faults S.loads S.same (min workers (vec_len scans)) result.report.loads (result.end ≡ RunEnd.SourceFault) scans.items result.scans.items }
@@ -287,25 +353,22 @@ fn crew_under<
     ensures cause { HasCause (D.faults disk) (D.faults result.disk) (HasDiskFailed result.history result.end) }
     ensures steady { (HasDiskFailed result.history result.end → ⊥) → D.faults result.disk ≡ D.faults disk }
 {
-    let Ok(back) = Vec::with_capacity(alloc, scans.len()) else {
-        return unmade(alloc, job, RunEnd::NoMemory, scans, disk);
-    };
-    let Ok(room) = Vec::with_capacity(alloc, scans.len()) else {
-        return unmade(alloc, job, RunEnd::NoMemory, scans, disk);
-    };
     let reel = match Reel::<D, N>::begin(alloc, disk, job) {
         Ok(reel) => reel,
         Err((fault, disk)) => return unmade(alloc, job, end_of_opening(fault), scans, disk),
     };
     let threads = workers.min(scans.len() as u16);
-    let board = match board_of(alloc, job, &reel, threads) {
-        Some(board) => board,
+    let ready = match make_ready(alloc, job, &reel, threads, scans.len(), share_cap, misses) {
+        Some(ready) => ready,
         None => return unmade(alloc, job, RunEnd::NoMemory, scans, reel.close()),
     };
-    let (share, units) = match Share::<N, F>::new(alloc, share_cap, misses) {
-        Ok(made) => made,
-        Err(_) => return unmade(alloc, job, RunEnd::NoMemory, scans, reel.close()),
-    };
+    let Ready {
+        board,
+        share,
+        units,
+        room,
+        back,
+    } = ready;
     run_opened::<N, A, B, C, E, F, S, D, R>(
         rt,
         alloc,
@@ -356,7 +419,7 @@ pub fn run_crew<
     ensures frames { result.report.frames ≡ frames_of N.job }
     ensures misses { result.report.misses ≡ result.report.loads }
 
-    // What the folder acknowledged at the opening and does now, and the steps by which it came; or why there are none.
+    // Which frames the opening kept, what the folder acknowledges now, and the steps by which it came; or why there are none.
     ensures ran { MatchOption result.history
         (IsUnstepped N.job D.tells (D.history disk) (D.history result.disk) result.end result.report result.log)
         (λ steps. WasCrewed N.job N.files D.tells (D.history disk) (D.history result.disk) steps result.end result.report result.log) }
@@ -365,9 +428,15 @@ pub fn run_crew<
     ensures acked { result.end ≡ RunEnd.Done → D.tells ≡ true → AreAllAcked N.job (moment_of (D.history result.disk)) }
     ensures whole { result.end ≡ RunEnd.Done → D.tells ≡ true → HasWhole N.job N.files (D.history disk) (D.history result.disk) }
 
-    // A crash at any moment leaves only frames acknowledged that are the reel's, and no acknowledgement is lost.
+    // A crash at any moment leaves only frames acknowledged that are the reel's. No acknowledgement is lost, where each frame
+    // that version 1 of the ledger acknowledged at the start had a file of a frame's length, as sound files have.
     ensures run { D.tells ≡ true → IsReelRun N.job N.files (D.history disk) (D.history result.disk) }
+    ensures sound_has { (world : World) (files : Files) → IsSoundReel N.job world files → HasFrameFiles N.job files }
+
+    // No file is changed but the ledger's and those of frames that the opening didn't keep. Of the ledger's those of version 2
+    // alone are written.
     ensures spares { D.tells ≡ true → Spares (D.history disk) (D.history result.disk) (IsOwnFile N.job (view_of (D.history disk))) }
+    ensures writes { D.tells ≡ true → WritesOnly (D.history disk) (D.history result.disk) (MayWrite N.job (view_of (D.history disk))) }
 
     // Each scan is handed back in its place. A stop has its cause: a load failed, a loaded file has changed, the disk failed.
     ensures scans { AreWorked S.world S.faults S.loads S.same (min workers (vec_len scans)) result.report.loads (result.end ≡ RunEnd.SourceFault) scans.items result.scans.items }

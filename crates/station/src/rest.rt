@@ -19,6 +19,7 @@ use conform_job::{Job, Work};
 use frame_render::{FrameBuf, Rendered};
 use frame_share::{Share, Units};
 use reel_disk::{Disk, Start};
+use reel_writer::Hashed;
 use render_board::{Claim, Turn, Why};
 use scan_source::Scans;
 use shared_station::{Marks, Station};
@@ -136,7 +137,9 @@ fn finish_as<
     );
     seat.has_failed = either(seat.has_failed, is_source_fault(&made));
     match made {
-        Ok(frame) => station.finish(worker, &frame, &mut seat.marks).is_ok(),
+        Ok(frame) => station
+            .finish(worker, &Hashed::of(frame), &mut seat.marks)
+            .is_ok(),
         Err(end) => {
             station.stop(worker, why_of::<N>(end), &mut seat.marks);
             false

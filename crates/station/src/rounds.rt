@@ -1,4 +1,5 @@
-//! A worker's rounds: a claim under the station's lock, then loads and rendering outside it, then a finish or a stop under it.
+//! A worker's rounds: a claim under the station's lock, then loads, rendering and the file's digest outside it, then a finish
+//! or a stop under it.
 ghost use Rattle.std.specs.Prelude.{◌≡◌, ◌≢◌, ◌↔◌, ◌+◌, ◌-◌, ◌<◌, ◌≤◌, ◌^◌, true, false, Err, length, IfSome, IfOk, IfErr, OnOk, IsErr};
 ghost use Rattle.conform_job.specs.Answers.{AreInfosOf};
 ghost use Rattle.conform_job.specs.Names.{Tells};
@@ -17,6 +18,7 @@ use conform_job::{Job, Work};
 use frame_render::{FrameBuf, Rendered};
 use frame_share::Share;
 use reel_disk::{Disk, Start};
+use reel_writer::Hashed;
 use render_board::{Claim, Turn, Why};
 use scan_source::Scans;
 use shared_station::{Marks, Station};
@@ -24,6 +26,7 @@ use single_run::RunEnd;
 use std::alloc::Global;
 use std::sync::ledger::Ledger;
 use std::sync::{Mutex, Wait};
+use std::thread::Threads;
 
 /// Whether a load failed.
 pub(crate) fn is_source_fault<N: Work>(made: &Result<Rendered<N>, RunEnd>) -> bool
@@ -77,7 +80,7 @@ fn hand_in<D: Disk, N: Work + Start, A: Ledger, B: Ledger, C: Ledger, E: Ledger,
     number: u16,
     marks: &mut Marks<A, B, C, E>,
     station: &Mutex<Station<D, N, A, B, C, E>>,
-    frame: &Rendered<N>,
+    frame: &Hashed<N>,
 ) -> bool
     ensures marks { MayRaise whys.Disk marks.old marks.new }
     ensures done { result ≡ true → marks.new ≡ marks.old }
@@ -88,7 +91,7 @@ fn hand_in<D: Disk, N: Work + Start, A: Ledger, B: Ledger, C: Ledger, E: Ledger,
         return false;
     }
     match here.turn(number) {
-        Turn::Holds(i) if i == frame.index() => {}
+        Turn::Holds(i) if i == frame.frame().index() => {}
         _ => return false,
     }
     here.finish(number, frame, marks).is_ok()
@@ -126,7 +129,7 @@ fn round<
     C: Ledger,
     E: Ledger,
     F: Ledger,
-    R: Wait,
+    R: Threads + Wait + Sync,
 >(
     rt: &R,
     alloc: Global,
@@ -167,6 +170,7 @@ fn round<
         i,
         into,
         room,
+        seat.threads,
         share,
         &mut seat.units,
         &mut seat.loads,
@@ -174,10 +178,11 @@ fn round<
     seat.has_failed = is_source_fault(&made);
     match made {
         Ok(frame) => {
-            if !hand_in(rt, seat.number, &mut seat.marks, station, &frame) {
+            let hashed = Hashed::of(frame);
+            if !hand_in(rt, seat.number, &mut seat.marks, station, &hashed) {
                 return None;
             }
-            Some(frame.into_buf())
+            Some(hashed.into_frame().into_buf())
         }
         Err(end) => {
             let why = why_of::<N>(end);
@@ -187,8 +192,9 @@ fn round<
     }
 }
 
-/// A worker's part of a run: it claims, makes and finishes frames until none is left, or somebody stops. It loads and
-/// renders outside both locks, holds one of them at a time, and waits for them alone.
+/// A worker's part of a run: it claims, makes and finishes frames until none is left, or somebody stops. It loads, renders
+/// and hashes outside both locks, holds one of them at a time, and waits for them alone. A frame is rendered in as many threads
+/// as its seat says.
 ///
 /// It stops where a load failed, where memory ran out, where the disk failed in a finish, and where a source file isn't
 /// what it was when the job was planned. Each stop is counted in its marks.
@@ -201,7 +207,7 @@ pub fn worker<
     C: Ledger,
     E: Ledger,
     F: Ledger,
-    R: Wait,
+    R: Threads + Wait + Sync,
 >(
     rt: &R,
     alloc: Global,

@@ -11,6 +11,8 @@ use std::sync::ledger::Ledger;
 pub struct Seat<S: Scans, N: Work, A: Ledger, B: Ledger, C: Ledger, E: Ledger, F: Ledger> {
     /// Which worker it is, from 0.
     pub number: u16,
+    /// In how many threads it renders a frame, its own among them; 0 is 1.
+    pub threads: u32,
     /// The source files as this worker loads them.
     pub scan: S,
     /// Its shares of the totals of stops.

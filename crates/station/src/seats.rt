@@ -11,11 +11,25 @@ use scan_source::Scans;
 use shared_station::Marks;
 use std::marker::PhantomData;
 use std::sync::ledger::Ledger;
+use std::thread::{Threads, available_parallelism};
 
-/// A seat for each scan, in their order. Takes no memory.
+/// In how many threads each of so many workers renders a frame: as many as there are processors for it, as far as the system
+/// tells, and at least 1. With as many workers as processors a frame is rendered on its worker's own thread.
+pub(crate) fn threads_each<R: Threads>(rt: &R, workers: usize) -> u32
+    requires some { 0 < workers }
+    ensures some { 1 ≤ result }
+{
+    match available_parallelism(rt) {
+        Ok(processors) => (processors.get() / workers).clamp(1, 64) as u32,
+        Err(_) => 1,
+    }
+}
+
+/// A seat for each scan, in their order, with so many threads each. Takes no memory.
 pub(crate) fn seat_all<S: Scans, N: Work, A: Ledger, B: Ledger, C: Ledger, E: Ledger, F: Ledger>(
     room: Vec<Seat<S, N, A, B, C, E, F>>,
     scans: Vec<S>,
+    threads: u32,
     marks: &mut Marks<A, B, C, E>,
     units: &mut Units<F>,
 ) -> Vec<Seat<S, N, A, B, C, E, F>>
@@ -38,6 +52,7 @@ pub(crate) fn seat_all<S: Scans, N: Work, A: Ledger, B: Ledger, C: Ledger, E: Le
     for scan in scans {
         let seat = Seat {
             number,
+            threads,
             scan,
             marks: marks.split(),
             units: units.split(),
@@ -78,6 +93,7 @@ pub(crate) fn unseat<S: Scans, N: Work, A: Ledger, B: Ledger, C: Ledger, E: Ledg
     for seat in seats {
         let Seat {
             number: _,
+            threads: _,
             scan,
             marks: theirs,
             units: asked,

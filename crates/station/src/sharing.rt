@@ -14,13 +14,14 @@ ghost use Rattle.single_run.specs.Scanned.{IsScanned};
 use cf_base::Key;
 use conform_job::{Job, Work};
 use dpx_header::FrameInfo;
-use frame_render::{Decoded, FrameBuf, Rendered, render};
+use frame_render::{Decoded, FrameBuf, Rendered, render_forked};
 use frame_share::{Ask, Placed, Share, Ticket, Units};
 use scan_source::Scans;
 use single_run::{RunEnd, fetch, lent};
 use std::alloc::Global;
 use std::sync::ledger::Ledger;
 use std::sync::{Arc, Mutex, Wait};
+use std::thread::Threads;
 
 /// Asks for a frame.
 fn ask_for<N: Work, F: Ledger, R: Wait>(
@@ -142,8 +143,9 @@ fn side_of<N: Work, F: Ledger, S: Scans, R: Wait>(
     }
 }
 
-/// Renders record frame `i` from the source frames that it needs, which the workers share. The loads are counted.
-pub(crate) fn make_shared<N: Work, F: Ledger, S: Scans, R: Wait>(
+/// Renders record frame `i`, in so many threads, from the source frames that it needs, which the workers share. The loads
+/// are counted.
+pub(crate) fn make_shared<N: Work, F: Ledger, S: Scans, R: Threads + Wait + Sync>(
     rt: &R,
     alloc: Global,
     job: &Job,
@@ -151,6 +153,7 @@ pub(crate) fn make_shared<N: Work, F: Ledger, S: Scans, R: Wait>(
     i: u32,
     into: &mut Vec<u8>,
     room: FrameBuf,
+    threads: u32,
     share: &Mutex<Share<N, F>>,
     units: &mut Units<F>,
     loads: &mut u64,
@@ -183,5 +186,5 @@ pub(crate) fn make_shared<N: Work, F: Ledger, S: Scans, R: Wait>(
         Ok(new) => new,
         Err(end) => return Err(end),
     };
-    Ok(render(job, i, lent(&old), lent(&new), room))
+    Ok(render_forked(rt, job, i, lent(&old), lent(&new), room, threads))
 }

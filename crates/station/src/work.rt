@@ -60,7 +60,14 @@ fn drive<
         rt,
         seats,
         threads,
-        &|_, seat| { worker(rt, alloc, job, seat, station, share) },
+        &|_, seat|
+            requires job { job.now ≡ N.job }
+            requires files { Tells N.files (S.world seat.old.scan) }
+            requires infos { AreInfosOf N.job.parts N.files N.job.infos }
+            requires none { seat.old.loads ≡ 0 }
+            requires unfailed { seat.old.has_failed ≡ false }
+            requires closed { seat.old.units.pending ≡ 0 }
+        { worker(rt, alloc, job, seat, station, share) },
     );
 }
 
