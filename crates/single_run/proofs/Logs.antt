@@ -1,11 +1,16 @@
 -- Logs of runs on one thread, step after step.
-use Rattle.std.proofs.Common.{◌≡◌, Bool, true, false, List, [], ◌∷◌, ◌++◌, refl, sym, ◌∙◌, ap, subst, append-nil}
+use Rattle.std.proofs.Common.{◌≡◌, inl, inr, Bool, true, false, List, [], ◌∷◌, ◌++◌, refl, sym, ◌∙◌, ap, subst, append-nil}
+use Rattle.std.specs.Prelude.{◌⊎◌}
 use Rattle.std.proofs.lemmas.List.{append_assoc}
 use Rattle.std.proofs.lemmas.List.Elements.{filter_map-append}
 use Rattle.cf_base.specs.declared.key.Key.{Key}
+use Rattle.frame_share.specs.Answers.{IsPut, IsPutBy}
+use Rattle.frame_share.specs.declared.share.Placed.{Placed}
+use Rattle.frame_share.specs.declared.share.Placed.TheVariants.{Kept, Left, NoMemory}
 use Rattle.frame_share.specs.declared.step.ShareStep.{ShareStep}
 use Rattle.frame_share.specs.declared.step.ShareStep.TheVariants.{Ask, Put}
 use Rattle.frame_share.specs.Share.{ShareView, with_step}
+use Rattle.frame_share.specs.Units.{IsPlaced, Tally}
 use Rattle.single_run.specs.Sharing.{HasAsked, HasTried, IsPaired, asked_by, asks_of}
 
 pub paired_along : (E : Type 0) (xs ys : List ShareStep) → IsPaired ⊥ xs → IsPaired E ys → IsPaired E (xs ++ ys)
@@ -88,3 +93,16 @@ tried_miss a b key is = record { more = Ask key false ∷ []; rest = []; room = 
 -- no ask
 pub tried_none : (a b : ShareView) (keys : List Key) → b ≡ a → HasTried a b keys
 tried_none a b keys is = record { more = []; rest = keys; room = ap (λ (s : ShareView). s.capacity) is; steps = ap (λ (s : ShareView). s.steps) is ∙ sym (append-nil a.steps); asks = refl; paired = tt }
+
+-- a put that found memory for its step
+pub was_put : (a b : ShareView) (key : Key) (placed : Placed) → (placed ≡ Kept) ⊎ (placed ≡ Left) → IsPut a key placed b → (kept : Bool) × (b ≡ with_step a (Put key kept))
+was_put a b key Kept is put = (true, put)
+was_put a b key Left is put = (false, put.1)
+was_put a b key NoMemory (inl is) put = cc
+was_put a b key NoMemory (inr is) put = cc
+
+pub was_placed : (a b : Tally) (placed : Placed) → (placed ≡ Kept) ⊎ (placed ≡ Left) → IsPutBy a placed b → IsPlaced a b
+was_placed a b Kept is put = put
+was_placed a b Left is put = put
+was_placed a b NoMemory (inl is) put = cc
+was_placed a b NoMemory (inr is) put = cc
