@@ -1,2 +1,3 @@
 pub mod Crews
 pub mod Runs
+pub mod Verifying

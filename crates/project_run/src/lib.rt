@@ -4,12 +4,12 @@
 #![tactic(auto)]
 
 mod alone;
+mod check;
 mod crew;
 mod progress;
 mod report;
-mod verify;
 
 pub use alone::run;
+pub use check::verify;
 pub use crew::{CrewEnded, run_crewed};
 pub use progress::status;
-pub use verify::verify;

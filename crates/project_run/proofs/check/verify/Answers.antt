@@ -1,7 +1,7 @@
 -- The project comes to its job, and the folder is checked.
 use Rattle.std.proofs.Common.{refl, inr}
 use Rattle.project_run.proofs.Runs.{match_each, job_verifies, verified_in}
-use Rattle.project_run.proofs.verify.verify.Goals as goal
+use Rattle.project_run.proofs.check.verify.Goals as goal
 
 pub returns-clause-folder : goal.returns-clause-folder
 returns-clause-folder g c =
