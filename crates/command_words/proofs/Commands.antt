@@ -1,6 +1,6 @@
 -- What the steps of finding a command come to.
-use Rattle.std.proofs.Common.{◌≡◌, ◌∙◌, refl, sym, subst, ℕ, List, [], ◌∷◌, Option, Some, None, MatchOption, option_map, codes, All, if◌then◌else◌}
-use Rattle.std.specs.Prelude.{◌&&◌, not, is_none, IfSome, option_and_then}
+use Rattle.std.proofs.Common.{◌≡◌, ◌≤◌, ◌∙◌, ap, refl, sym, subst, ℕ, List, [], ◌∷◌, Option, Some, None, MatchOption, option_map, codes, All, if◌then◌else◌}
+use Rattle.std.specs.Prelude.{◌&&◌, not, is_none, IfSome, IsSomeAnd, option_and_then}
 use Rattle.std.specs.Str.{bytes_eq}
 use Rattle.std.specs.Str.Parse.{AllDigits, digits_value}
 use Rattle.std.proofs.lemmas.Str.Parse.{tells_digits}
@@ -10,7 +10,7 @@ use Rattle.clap.specs.Simple.{matches_of}
 use Rattle.cf_base.specs.Text.{path_text_of}
 use Rattle.cf_base.specs.declared.timing.Rate.{Rate}
 use Rattle.cf_base.specs.declared.timing.Rate.TheVariants.{R24, R25, R30}
-use Rattle.command_words.specs.Commands.{Gives, HasCounts, IsCount, IsDigit, IsNoCommand, IsPath, IsRow, Spells, rate_word}
+use Rattle.command_words.specs.Commands.{Gives, HasCounts, IsCount, IsDigit, IsFewDigits, IsNoCommand, IsPath, IsRow, Spells, rate_word}
 use Rattle.command_words.specs.Lines.{HasCount, HasNoLine, LineText, MakesLine, simple_command, text_of_line}
 use Rattle.command_words.specs.declared.command.Command.{Command}
 use Rattle.command_words.specs.declared.command.Command.TheVariants as commands
@@ -32,14 +32,16 @@ pub none_given : (line : LineText)
     → ((path : List ℕ) → IsRow line (codes "plan") None → IsPath line.subject path → ⊥)
     → ((project : List ℕ) (workers share : ℕ) → Gives line (commands.Run project workers share) → ⊥)
     → ((path : List ℕ) → IsRow line (codes "status") None → IsPath line.subject path → ⊥)
+    → ((project : List ℕ) (margin : ℕ) → Gives line (commands.Pull project margin) → ⊥)
     → ((count : ℕ) → IsRow line (codes "demo") None → IsCount line.subject count → ⊥)
     → (command : Command) → Gives line command → ⊥
-none_given line frame list plan run status demo (commands.Frame path) h = frame path h.0 h.1
-none_given line frame list plan run status demo (commands.List file rate) h = list file rate h
-none_given line frame list plan run status demo (commands.Plan project) h = plan project h.0 h.1
-none_given line frame list plan run status demo (commands.Run project workers share) h = run project workers share h
-none_given line frame list plan run status demo (commands.Status project) h = status project h.0 h.1
-none_given line frame list plan run status demo (commands.Demo count) h = demo count h.0 h.1
+none_given line frame list plan run status pull demo (commands.Frame path) h = frame path h.0 h.1
+none_given line frame list plan run status pull demo (commands.List file rate) h = list file rate h
+none_given line frame list plan run status pull demo (commands.Plan project) h = plan project h.0 h.1
+none_given line frame list plan run status pull demo (commands.Run project workers share) h = run project workers share h
+none_given line frame list plan run status pull demo (commands.Status project) h = status project h.0 h.1
+none_given line frame list plan run status pull demo (commands.Pull project margin) h = pull project margin h
+none_given line frame list plan run status pull demo (commands.Demo count) h = demo count h.0 h.1
 
 pub one_found : (words : List Text) (found : Option Line) (line : Line) → found ≡ Some line
     → MatchOption found (HasNoLine words) (λ l. MakesLine words (text_of_line l)) → MakesLine words (text_of_line line)
@@ -72,6 +74,10 @@ abbrev run_named : LineText → Option (List ℕ) → Option Command
 run_named line (Some project) = Some (commands.Run project line.workers line.share)
 run_named line None = None
 
+abbrev pull_named : Option ℕ → Option (List ℕ) → Option Command
+pull_named (Some margin) (Some project) = Some (commands.Pull project margin)
+pull_named margin project = None
+
 abbrev path_named : (List ℕ → Command) → LineText → Option Command
 path_named make line = option_map make (option_and_then path_text_of (alone line))
 
@@ -82,6 +88,7 @@ named line =
     else if bytes_eq line.command (codes "plan") then path_named (λ p. commands.Plan p) line
     else if bytes_eq line.command (codes "run") then run_named line (path_text_of line.subject)
     else if bytes_eq line.command (codes "status") then path_named (λ p. commands.Status p) line
+    else if bytes_eq line.command (codes "pull") then pull_named (option_map (digits_value 10) line.extra) (path_text_of line.subject)
     else if bytes_eq line.command (codes "demo") then option_map (λ s. commands.Demo (digits_value 10 s)) (alone line)
     else None
 
@@ -90,13 +97,22 @@ rate_is R24 = refl
 rate_is R25 = refl
 rate_is R30 = refl
 
+margin_named : (further : Option Text) (margin : ℕ) → IsSomeAnd further (λ word. IsFewDigits word margin) → option_map (digits_value 10) further ≡ Some margin
+margin_named None margin h = absurd h
+margin_named (Some word) margin h = ap Some (sym h.2)
+
+margin_small : (further : Option Text) (margin : ℕ) → IsSomeAnd further (λ word. IsFewDigits word margin) → margin ≤ 1000
+margin_small None margin h = absurd h
+margin_small (Some word) margin h = h.3
+
 pub given_is_named : (line : LineText) (command : Command) → Gives line command → named line ≡ Some command
 given_is_named line (commands.Frame path) h = rw (h.0.command, h.0.extra, h.0.options, h.1) refl
 given_is_named line (commands.List file rate) h = rw (h.0.command, h.0.extra, rate_is rate, h.1) refl
 given_is_named line (commands.Plan project) h = rw (h.0.command, h.0.extra, h.0.options, h.1) refl
 given_is_named line (commands.Run project workers share) h = rw (h.0.command, h.1, h.2, h.3) refl
 given_is_named line (commands.Status project) h = rw (h.0.command, h.0.extra, h.0.options, h.1) refl
-given_is_named line (commands.Demo count) h = rw (h.0.command, h.0.extra, h.0.options, h.1.2) refl
+given_is_named line (commands.Pull project margin) h = rw (h.0.command, margin_named line.extra margin h.0.extra, h.1) refl
+given_is_named line (commands.Demo count) h = rw (h.0.command, h.0.extra, h.0.options, h.1.0.2) refl
 
 pub one_given : (line : LineText) (a b : Command) → Gives line a → Gives line b → a ≡ b
 one_given line a b x y = some_is a b (sym (given_is_named line a x) ∙ given_is_named line b y)
@@ -114,7 +130,8 @@ counts_spelled words (commands.Plan project) h = tt
 counts_spelled words (commands.Run project workers share) h =
     (subst HasCount (sym h.2.2) (number_counts _ _ h.1.1.workers), subst HasCount (sym h.2.3) (number_counts _ _ h.1.1.share))
 counts_spelled words (commands.Status project) h = tt
-counts_spelled words (commands.Demo count) h = h.2.1.3
+counts_spelled words (commands.Pull project margin) h = margin_small _ margin h.2.0.extra
+counts_spelled words (commands.Demo count) h = (h.2.1.1, h.2.1.0.3)
 
 pub all_counted : (words : List Text) (r : Option Command) → MatchOption r (IsNoCommand words) (λ command. Spells words command) → IfSome r HasCounts
 all_counted words (Some command) h = counts_spelled words command h

@@ -156,7 +156,11 @@ workers_with_zeros = (line_with (codes "run") (codes "desk.toml") None 3 8 true,
 
 demo_with_zeros : Spells (codes "demo" ∷ codes "0004" ∷ []) (commands.Demo 4)
 unfolding simple_command clap_on_literals
-demo_with_zeros = (line_with (codes "demo") (codes "0004") None 4 8 false, makes (codes "demo" ∷ codes "0004" ∷ []) _ (codes "4") (codes "8") refl is_4 is_8, (record { command = refl; extra = refl; options = refl }, ((omega arith, (omega arith, (omega arith, (omega arith, (omega arith, tt))))), omega arith, refl, (omega arith, omega arith))))
+demo_with_zeros = (line_with (codes "demo") (codes "0004") None 4 8 false, makes (codes "demo" ∷ codes "0004" ∷ []) _ (codes "4") (codes "8") refl is_4 is_8, (record { command = refl; extra = refl; options = refl }, (((omega arith, (omega arith, (omega arith, (omega arith, (omega arith, tt))))), omega arith, refl, omega arith), omega arith)))
+
+pull_spelled : Spells (codes "pull" ∷ codes "desk.toml" ∷ codes "02" ∷ []) (commands.Pull (codes "desk.toml") 2)
+unfolding simple_command clap_on_literals
+pull_spelled = (line_with (codes "pull") (codes "desk.toml") (Some (codes "02")) 4 8 false, makes (codes "pull" ∷ codes "desk.toml" ∷ codes "02" ∷ []) _ (codes "4") (codes "8") refl is_4 is_8, (record { command = refl; extra = ((omega arith, (omega arith, (omega arith, tt))), omega arith, refl, omega arith); options = refl }, refl))
 
 -- ---- words that `clap` refuses
 
@@ -209,6 +213,10 @@ another_rate = no_row (codes "list" ∷ codes "a.edl" ∷ codes "24.0" ∷ []) (
 no_rate : IsNoCommand (codes "list" ∷ codes "a.edl" ∷ [])
 unfolding simple_command clap_on_literals
 no_rate = no_row (codes "list" ∷ codes "a.edl" ∷ []) (line_with (codes "list") (codes "a.edl") None 4 8 false) (codes "4") (codes "8") refl is_4 is_8 refl
+
+no_margin : IsNoCommand (codes "pull" ∷ codes "desk.toml" ∷ [])
+unfolding simple_command clap_on_literals
+no_margin = no_row (codes "pull" ∷ codes "desk.toml" ∷ []) (line_with (codes "pull") (codes "desk.toml") None 4 8 false) (codes "4") (codes "8") refl is_4 is_8 refl
 
 another_word : IsNoCommand (codes "help" ∷ codes "run" ∷ [])
 unfolding simple_command clap_on_literals

@@ -2,7 +2,7 @@
 --     Gives line command      the line is a row of the table, which says this command
 --     Spells words command, IsNoCommand words      the words spell this command, or none
 --     HasCounts command      its numbers are in their ranges
-use Rattle.std.specs.Prelude.{◌≡◌, ◌≤◌, ℕ, false, List, Option, Some, None, codes, length}
+use Rattle.std.specs.Prelude.{◌≡◌, ◌≤◌, ℕ, false, List, Option, Some, None, IsSomeAnd, codes, length}
 use Rattle.std.specs.Str.Parse.{IsNumeral, digits_value}
 use Rattle.clap.specs.Walk.{Text}
 use Rattle.cf_base.specs.Text.{path_text_of}
@@ -26,9 +26,13 @@ IsDigit byte = (48 ≤ byte) × (byte ≤ 57)
 abbrev pub HasDemoCount : ℕ → Type 0
 HasDemoCount count = (1 ≤ count) × (count ≤ 1000)
 
--- one to four digits
+-- one to four digits, of a number up to 1000
+abbrev pub IsFewDigits : Text → ℕ → Type 0
+IsFewDigits text number = IsNumeral 10 text × (length text ≤ 4) × (number ≡ digits_value 10 text) × (number ≤ 1000)
+
+-- the same, and not 0
 abbrev pub IsCount : Text → ℕ → Type 0
-IsCount text count = IsNumeral 10 text × (length text ≤ 4) × (count ≡ digits_value 10 text) × HasDemoCount count
+IsCount text count = IsFewDigits text count × (1 ≤ count)
 
 -- the line is this word, a subject, and this further word or none, with no option
 pub record IsRow (line : LineText) (word : Text) (further : Option Text) : Type 0 where
@@ -41,12 +45,19 @@ pub record IsRun (line : LineText) : Type 0 where
   pub command : line.command ≡ codes "run"
   pub extra : line.extra ≡ None
 
+-- the line is `pull`, a subject and a further word, with no option
+pub record IsPull (line : LineText) (margin : ℕ) : Type 0 where
+  pub command : line.command ≡ codes "pull"
+  pub extra : IsSomeAnd line.extra (λ word. IsFewDigits word margin)
+  pub options : line.has_options ≡ false
+
 abbrev pub Gives : LineText → Command → Type 0
 Gives line (commands.Frame path) = IsRow line (codes "frame") None × IsPath line.subject path
 Gives line (commands.List file rate) = IsRow line (codes "list") (Some (rate_word rate)) × IsPath line.subject file
 Gives line (commands.Plan project) = IsRow line (codes "plan") None × IsPath line.subject project
 Gives line (commands.Run project workers share) = IsRun line × IsPath line.subject project × (workers ≡ line.workers) × (share ≡ line.share)
 Gives line (commands.Status project) = IsRow line (codes "status") None × IsPath line.subject project
+Gives line (commands.Pull project margin) = IsPull line margin × IsPath line.subject project
 Gives line (commands.Demo count) = IsRow line (codes "demo") None × IsCount line.subject count
 
 abbrev pub Spells : List Text → Command → Type 0
@@ -57,5 +68,6 @@ IsNoCommand words = (command : Command) → Spells words command → ⊥
 
 abbrev pub HasCounts : Command → Type 0
 HasCounts (commands.Run project workers share) = HasCount workers × HasCount share
+HasCounts (commands.Pull project margin) = margin ≤ 1000
 HasCounts (commands.Demo count) = HasDemoCount count
 HasCounts command = Unit {0}

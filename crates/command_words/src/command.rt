@@ -1,7 +1,7 @@
 //! The commands, and which of them a line gives.
 ghost use Rattle.std.specs.Prelude.{◌≡◌, ◌↔◌, ℕ, List, IfOk, IfSome, IsTrue, MatchOption, None, codes, map};
 ghost use Rattle.std.specs.Str.Parse.{AllDigits};
-ghost use Rattle.command_words.specs.Commands.{Gives, HasCounts, IsCount, IsDigit, IsNoCommand, IsPath, IsRow, Spells, rate_word};
+ghost use Rattle.command_words.specs.Commands.{Gives, HasCounts, IsCount, IsDigit, IsFewDigits, IsNoCommand, IsPath, IsRow, Spells, rate_word};
 ghost use Rattle.command_words.specs.Lines.{text_of_line};
 
 use crate::line::{Line, line_of};
@@ -26,6 +26,12 @@ pub enum Command {
     },
     /// `status PROJECT`: how much of a project's reel is rendered.
     Status(PathText),
+    /// `pull PROJECT MARGIN`: the ranges of source frames that a project's job needs, with a margin of 0 to 1000 frames on
+    /// both sides, in one to four digits.
+    Pull {
+        project: PathText,
+        margin: u32,
+    },
     /// `demo N`: renders a job of N events that is made in memory; N is 1 to 1000, in one to four digits.
     Demo(u32),
 }
@@ -65,6 +71,9 @@ fn command_on(line: &Line<'_>) -> Option<Command>
     }
     if let Some(project) = path_after(line, "status") {
         return Some(Command::Status(project));
+    }
+    if let Some(pull) = pull_on(line) {
+        return Some(pull);
     }
     let Some(count) = count_after(line, "demo") else {
         return None;
@@ -128,6 +137,21 @@ fn run_on(line: &Line<'_>) -> Option<Command>
     })
 }
 
+/// The row `pull PROJECT MARGIN`.
+fn pull_on(line: &Line<'_>) -> Option<Command>
+    ensures { MatchOption result
+        ((project : List ℕ) (margin : ℕ) → Gives (text_of_line line.now) (Command.Pull project margin) → ⊥)
+        (λ command. Gives (text_of_line line.now) command) }
+{
+    if line.command != "pull" || line.has_options {
+        return None;
+    }
+    let extra = line.extra?;
+    let margin = few_digits_of(extra)?;
+    let project = path_of(line.subject)?;
+    Some(Command::Pull { project, margin })
+}
+
 /// Whether the line is the word and its subject, and nothing else.
 fn is_alone(line: &Line<'_>, word: &str) -> bool
     ensures { IsTrue result ↔ IsRow (text_of_line line.now) word.now None }
@@ -159,16 +183,28 @@ fn count_of(text: &str) -> Option<u32>
     ensures { MatchOption result ((count : ℕ) → IsCount text.now count → ⊥)
         (λ count. IsCount text.now count) }
 {
-    if text.len() > 4 || !is_digits(text) {
-        return None;
-    }
-    let Ok(count) = text.parse::<u32>() else {
-        return None;
-    };
-    if count < 1 || 1000 < count {
+    let count = few_digits_of(text)?;
+    if count < 1 {
         return None;
     }
     Some(count)
+}
+
+/// The number of one to four digits, where it is up to 1000.
+fn few_digits_of(text: &str) -> Option<u32>
+    ensures { MatchOption result ((number : ℕ) → IsFewDigits text.now number → ⊥)
+        (λ number. IsFewDigits text.now number) }
+{
+    if text.len() > 4 || !is_digits(text) {
+        return None;
+    }
+    let Ok(number) = text.parse::<u32>() else {
+        return None;
+    };
+    if 1000 < number {
+        return None;
+    }
+    Some(number)
 }
 
 fn is_digits(text: &str) -> bool

@@ -1,2 +1,3 @@
+mod Counted
 pub mod Laws
 pub mod Projects

@@ -4,6 +4,7 @@
 --     ComesTo files path answer      what the project at a path comes to
 --     Reaches have result wanted      what a step of it gave, against what it is to give
 use Rattle.std.specs.Prelude.{◌≡◌, ◌≤◌, ℕ, List, Vec, Option, Some, None, IsSomeAnd, Result, Ok, Err}
+use Rattle.std.specs.List.{All}
 use Rattle.std.specs.Option.{option_map}
 use Rattle.std.specs.declared.alloc.Global.{Global}
 use Rattle.cf_base.specs.declared.event.EventList.{EventList}
@@ -16,6 +17,9 @@ use Rattle.conform_job.specs.declared.parts.JobFault.TheVariants as fault
 use Rattle.conform_job.specs.declared.parts.JobParts.{JobParts}
 use Rattle.cube_reader.specs.Text.{cube_of}
 use Rattle.edl_events.specs.Lists.{list_of}
+use Rattle.cf_base.specs.Timing.{CanCount, frames_in_day}
+use Rattle.cf_base.specs.declared.reel.ReelEntry.{ReelEntry}
+use Rattle.cf_base.specs.declared.timing.Mode.{Mode}
 use Rattle.cf_base.specs.declared.timing.Rate.{Rate}
 use Rattle.project_file.specs.Projects.{Means}
 use Rattle.project_file.specs.declared.Project.{Project}
@@ -145,6 +149,10 @@ abbrev pub outcome_of_fault : JobFault → Outcome
 outcome_of_fault fault.SourceFault = outcome.SourceFault
 outcome_of_fault fault.NoMemory = outcome.NoMemory
 outcome_of_fault other = outcome.Refused (refused.Job other)
+
+-- each reel is counted in a mode that the rate has
+abbrev pub AreCounted : Rate → List ReelEntry → Type 0
+AreCounted rate entries = All (λ (e : ReelEntry). (mode : Mode) × CanCount rate mode × (e.day ≡ frames_in_day rate mode)) entries
 
 -- how many cubes are loaded
 abbrev pub cube_count : Option (List ℕ) → ℕ

@@ -11,7 +11,7 @@ ghost use Rattle.conform_job.specs.Answers.{count_after, Grows, HeadsGrow};
 ghost use Rattle.conform_job.specs.Asks.{asks_of};
 ghost use Rattle.conform_job.specs.Infos.{HasEachOnce};
 ghost use Rattle.conform_job.specs.Job.{ArePlanned, JobData};
-ghost use Rattle.project_job.specs.Jobs.{list_in, cube_in, look_in, look_of_text, parts_of, itself, list_and_text, look_and_text, outcome_of_fault, Reaches, HasPlanned, MeansFile, unless_refused, IsOfJob, cube_count, AreLoaded};
+ghost use Rattle.project_job.specs.Jobs.{list_in, cube_in, look_in, look_of_text, parts_of, itself, list_and_text, look_and_text, outcome_of_fault, Reaches, HasPlanned, MeansFile, unless_refused, IsOfJob, cube_count, AreCounted, AreLoaded};
 ghost use Rattle.outcome_line.specs.declared.outcome.Refused.TheVariants as refused;
 
 use crate::loads::load;
@@ -64,6 +64,7 @@ pub fn planned<S: Scans>(alloc: Global, path: &PathText, scan: &mut S) -> Result
     ensures job { IfOk result (λ job. Grows job.parts (S.world scan.old) (asks_of job.parts.timeline) [] job.infos) }
     ensures once { IfOk result (λ job. HasEachOnce job.infos) }
     ensures heads { IfOk result (λ job. HeadsGrow (S.heads scan.old) (S.heads scan.new) 0 (length job.infos)) }
+    ensures counted { IfOk result (λ job. AreCounted job.parts.project.rate job.parts.reels) }
 
     ensures failed { result ≡ Err Outcome.SourceFault → HasRisen (S.faults scan.old) (S.faults scan.new) }
     ensures steady { result ≢ Err Outcome.SourceFault → S.faults scan.new ≡ S.faults scan.old }
@@ -107,6 +108,7 @@ fn project_in<S: Scans>(
     ensures told { IfSome (S.world scan.old) (λ world. MeansFile (file_at world path.now) result) }
     ensures kind { IfErr result IsOfJob }
     ensures range { IfOk result (λ read. IsInRange read.project) }
+    ensures counted { IfOk result (λ read. AreCounted read.project.rate read.project.reels) }
 
     ensures failed { result ≡ Err Outcome.SourceFault → HasRisen (S.faults scan.old) (S.faults scan.new) }
     ensures steady { result ≢ Err Outcome.SourceFault → S.faults scan.new ≡ S.faults scan.old }
@@ -141,6 +143,7 @@ fn parts_of<S: Scans>(
     ensures told { IfSome (S.world scan.old) (λ world. Reaches itself result (parts_of (file_at world) text.now project)) }
     ensures kind { IfErr result IsOfJob }
     ensures planned { IfOk result ArePlanned }
+    ensures project { IfOk result (λ parts. parts.project ≡ project) }
 
     ensures failed { result ≡ Err Outcome.SourceFault → HasRisen (S.faults scan.old) (S.faults scan.new) }
     ensures steady { result ≢ Err Outcome.SourceFault → S.faults scan.new ≡ S.faults scan.old }

@@ -3,6 +3,7 @@ use Rattle.std.proofs.Common.{◌+◌, sym, ap, ◌∙◌}
 use Rattle.conform_job.specs.Answers.{count_after}
 use Rattle.conform_job.specs.declared.parts.JobParts.{JobParts}
 use Rattle.project_job.specs.Jobs.{cube_count}
+use Rattle.project_job.proofs.Counted.{counted_job}
 use Rattle.project_job.proofs.Projects.{no_project, no_parts, no_job, a_job, loaded_first, loaded_all, err_as, no_err, scan_of_job, job_of_scan}
 use Rattle.project_job.proofs.project.planned.Goals as goal
 
@@ -41,6 +42,10 @@ returns-clause-loads g c =
 pub returns-in-Ok-plan-clause-loaded : goal.returns-in-Ok-plan-clause-loaded
 returns-in-Ok-plan-clause-loaded g c = loaded_all c.in-Ok-plan.job.parts.project.cube (g.S.Scans.loads c.args.scan.now) _ _ c.in-Ok.ensures.loads
     (c.in-Ok-plan.ensures.loads ∙ c.in-Ok-parts_of.ensures.loaded ∙ ap (λ (parts : JobParts). count_after (1 + cube_count parts.project.cube) (g.S.Scans.loads c.project_in.new.scan)) (sym c.in-Ok-plan.ensures.job.0))
+
+pub returns-in-Ok-plan-clause-counted : goal.returns-in-Ok-plan-clause-counted
+returns-in-Ok-plan-clause-counted g c =
+    counted_job c.in-Ok-plan.job.parts c.in-Ok-parts_of.parts c.in-Ok.read.project c.in-Ok-plan.ensures.job.0 c.in-Ok-parts_of.ensures.project c.in-Ok-parts_of.ensures.planned c.in-Ok.ensures.counted
 
 pub returns-in-Err-clause-failed : goal.returns-in-Err-clause-failed
 returns-in-Err-clause-failed g c e = c.in-Err.ensures.failed (err_as _ _ e)

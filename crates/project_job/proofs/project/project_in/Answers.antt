@@ -1,4 +1,5 @@
 -- The front of the project's file stands for the file.
+use Rattle.project_job.proofs.Counted.{counted_project}
 use Rattle.project_job.proofs.Projects.{err_as, no_err, memory_apart, refused_apart, project_had, project_refused}
 use Rattle.project_job.proofs.project.project_in.Goals as goal
 
@@ -6,6 +7,9 @@ pub returns-in-Ok-read_project-clause-told : goal.returns-in-Ok-read_project-cla
 returns-in-Ok-read_project-clause-told g c =
     project_had (g.S.Scans.world c.args.scan.now) c.args.path.now c.in-Ok.front c.in-Ok-read_project.project c.in-Ok.ensures.told
     (rw c.deref.ensures.value at c.in-Ok-read_project.ensures.project)
+
+pub returns-in-Ok-read_project-clause-counted : goal.returns-in-Ok-read_project-clause-counted
+returns-in-Ok-read_project-clause-counted g c = counted_project _ c.in-Ok-read_project.project c.in-Ok-read_project.ensures.project
 
 pub returns-in-Err-Fault-clause-told : goal.returns-in-Err-Fault-clause-told
 returns-in-Err-Fault-clause-told g c =
