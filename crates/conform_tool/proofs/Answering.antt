@@ -150,6 +150,7 @@ folder_instead (commands.Plan path) before after disk disk_after reached output 
 folder_instead (commands.Run path workers share) before after disk disk_after reached output uses = run_instead before.world path disk disk_after before.loads after.loads reached output uses
 folder_instead (commands.Status path) before after disk disk_after reached output uses = status_instead before.world path disk disk_after before.loads after.loads reached output uses
 folder_instead (commands.Verify path) before after disk disk_after reached output uses = verify_instead before.world path disk disk_after before.loads after.loads reached output uses
+folder_instead (commands.Pull path margin) before after disk disk_after reached output uses = uses
 folder_instead (commands.Demo count) before after disk disk_after reached output uses = uses
 
 -- an outcome whose line found no memory

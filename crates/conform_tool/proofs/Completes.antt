@@ -9,6 +9,7 @@ use Rattle.edl_events.specs.Lists.{list_of}
 use Rattle.edl_events.specs.declared.ListRefusal.{ListRefusal}
 use Rattle.scan_source.specs.World.{World, file_at}
 use Rattle.conform_job.specs.Job.{JobData}
+use Rattle.conform_job.specs.declared.parts.JobParts.{JobParts}
 use Rattle.record_timeline.specs.Accepted.{frame_count}
 use Rattle.frame_share.specs.declared.step.ShareStep.{ShareStep}
 use Rattle.reel_disk.specs.Disk.{History, view_of}
@@ -46,7 +47,7 @@ use Rattle.outcome_line.specs.declared.outcome.Refused.TheVariants as refused
 use Rattle.outcome_line.specs.declared.outcome.Which.TheVariants as which
 use Rattle.conform_tool.specs.Frame.{IsFrameCase, info_in}
 use Rattle.conform_tool.specs.List.{IsListCase}
-use Rattle.conform_tool.specs.Reply.{ScanState, IsKindOf, IsPlanReply, IsDemoReply, IsWholeReply}
+use Rattle.conform_tool.specs.Reply.{ScanState, IsKindOf, IsDemoReply, IsJobReply, IsPlanForm, IsPullForm, IsWholeReply}
 use Rattle.conform_tool.specs.Answer.{SinkState, IsPut, Answered}
 use Rattle.conform_tool.specs.Conform.{CrewAnswered}
 use Rattle.conform_tool.specs.Complete.{HasFitFolder, HasJob, IsAccepted, HasNotRisen, IsComplete, IsUnfailed}
@@ -152,12 +153,13 @@ planned_complete laws told world path outcomes.SourceFault is has why kind no_so
 planned_complete laws told world path outcomes.NoMemory is has why kind no_source = inr refl
 planned_complete laws told world path other is has why kind no_source = absurd kind
 
-plan_complete : OneJob → (world : World) (path output : List ℕ) (before after : ScanState) (reached : Outcome) → HasJob world path → IsPlanReply (file_at world) path reached output before after → reached ≢ outcomes.SourceFault → IsThrough reached
-plan_complete laws world path output before after outcomes.Done has reply no_source = inl refl
-plan_complete laws world path output before after (outcomes.Refused refusal) has reply no_source = absurd (laws.apart (file_at world) path has.0.parts refusal has.1 reply)
-plan_complete laws world path output before after outcomes.SourceFault has reply no_source = absurd (no_source refl)
-plan_complete laws world path output before after outcomes.NoMemory has reply no_source = inr refl
-plan_complete laws world path output before after other has reply no_source = absurd reply
+job_complete : OneJob → (IsForm : JobParts → List ℕ → Type 0) (world : World) (path output : List ℕ) (before after : ScanState) (reached : Outcome) → HasJob world path → IsJobReply IsForm (file_at world) path reached output before after
+    → reached ≢ outcomes.SourceFault → IsThrough reached
+job_complete laws IsForm world path output before after outcomes.Done has reply no_source = inl refl
+job_complete laws IsForm world path output before after (outcomes.Refused refusal) has reply no_source = absurd (laws.apart (file_at world) path has.0.parts refusal has.1 reply)
+job_complete laws IsForm world path output before after outcomes.SourceFault has reply no_source = absurd (no_source refl)
+job_complete laws IsForm world path output before after outcomes.NoMemory has reply no_source = inr refl
+job_complete laws IsForm world path output before after other has reply no_source = absurd reply
 
 demo_complete : OneJob → (count : ℕ) (output : List ℕ) (reached : Outcome) → HasJob (demo_world count) project_path → IsDemoReply count reached output → IsThrough reached
 demo_complete laws count output outcomes.Done has reply = inl refl
@@ -238,14 +240,17 @@ reply_complete laws (commands.List path rate) world scan scan_after disk disk_af
     let file = at_world scan.world world (λ files. right.0 ≡ file_at files path) is right.1 in
     list_complete rate right.0 reached (subst (λ f. IsListCase rate f outcomes.Done) (sym file) accepted) right.2.case no_source
 reply_complete laws (commands.Plan path) world scan scan_after disk disk_after reached output is accepted whole no_source no_disk =
-    plan_complete laws world path output scan scan_after reached accepted
-    (at_world scan.world world (λ files. IsPlanReply (file_at files) path reached output scan scan_after) is whole.reply.right) no_source
+    job_complete laws IsPlanForm world path output scan scan_after reached accepted
+    (at_world scan.world world (λ files. IsJobReply IsPlanForm (file_at files) path reached output scan scan_after) is whole.reply.right) no_source
 reply_complete laws (commands.Run path workers share) world scan scan_after disk disk_after reached output is accepted whole no_source no_disk =
     run_complete laws world path disk accepted scan.world is disk_after scan.loads scan_after.loads reached output whole.folder no_source no_disk
 reply_complete laws (commands.Status path) world scan scan_after disk disk_after reached output is accepted whole no_source no_disk =
     status_complete laws world path disk accepted scan.world is disk_after scan.loads scan_after.loads reached output whole.folder no_source no_disk
 reply_complete laws (commands.Verify path) world scan scan_after disk disk_after reached output is accepted whole no_source no_disk =
     verify_complete laws world path disk accepted scan.world is disk_after scan.loads scan_after.loads reached output whole.folder no_source no_disk
+reply_complete laws (commands.Pull path margin) world scan scan_after disk disk_after reached output is accepted whole no_source no_disk =
+    job_complete laws (IsPullForm margin) world path output scan scan_after reached accepted
+    (at_world scan.world world (λ files. IsJobReply (IsPullForm margin) (file_at files) path reached output scan scan_after) is whole.reply.right) no_source
 reply_complete laws (commands.Demo count) world scan scan_after disk disk_after reached output is accepted whole no_source no_disk =
     demo_complete laws count output reached accepted whole.reply.right
 

@@ -7,4 +7,5 @@ mod Frames
 mod Headlines
 mod Lists
 mod Plans
+mod Pulls
 mod Replies

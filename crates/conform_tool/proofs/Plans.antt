@@ -1,57 +1,58 @@
--- From the plan of a job to its reply.
-use Rattle.std.proofs.Common.{◌≡◌, List, [], length, ℕ, Option, IfSome}
+-- From a job that was planned to the reply of its command.
+use Rattle.std.proofs.Common.{List, [], length, ℕ, Option, IfSome}
 use Rattle.std.specs.Prelude.{Some, None, Ok, Err}
 use Rattle.conform_job.specs.Answers.{Grows, HeadsGrow}
 use Rattle.conform_job.specs.Asks.{asks_of}
 use Rattle.conform_job.specs.Infos.{HasEachOnce}
 use Rattle.conform_job.specs.Job.{JobData}
+use Rattle.conform_job.specs.declared.parts.JobParts.{JobParts}
 use Rattle.scan_source.specs.World.{World, file_at}
 use Rattle.project_job.specs.Jobs.{HasPlanned, IsOfJob}
-use Rattle.printed_tables.specs.Plan.{plan_of}
-use Rattle.conform_tool.specs.Reply.{ScanState, IsPlanReply, IsKindOf}
+use Rattle.conform_tool.specs.Reply.{ScanState, IsJobReply, IsKindOf}
 use Rattle.outcome_line.specs.declared.outcome.Outcome.{Outcome}
 use Rattle.outcome_line.specs.declared.outcome.Outcome.TheVariants as outcomes
 use Rattle.outcome_line.specs.declared.outcome.Outcome.TheVariants.{Done, Usage, Refused, SourceFault, SinkFault, NoMemory}
 use Rattle.command_words.specs.declared.command.Command.{Command}
 
-plan_at : (files : World) (path output : List ℕ) (before after : ScanState) (job : JobData) → HasPlanned (file_at files) path (Ok job) → output ≡ plan_of job.parts.timeline
-    → Grows job.parts before.world (asks_of job.parts.timeline) [] job.infos → HasEachOnce job.infos → HeadsGrow before.heads after.heads 0 (length job.infos)
-    → IsPlanReply (file_at files) path Done output before after
-plan_at files path output before after job comes form needed once heads = record {
-  parts = job.parts;
-  comes = comes;
-  form = form;
-  inspected = record { infos = job.infos; needed = needed; once = once; heads = heads };
-}
+module _ (IsForm : JobParts → List ℕ → Type 0) where
+  put_at : (files : World) (path output : List ℕ) (before after : ScanState) (job : JobData) → HasPlanned (file_at files) path (Ok job) → IsForm job.parts output
+      → Grows job.parts before.world (asks_of job.parts.timeline) [] job.infos → HasEachOnce job.infos → HeadsGrow before.heads after.heads 0 (length job.infos)
+      → IsJobReply IsForm (file_at files) path Done output before after
+  put_at files path output before after job comes form needed once heads = record {
+    parts = job.parts;
+    comes = comes;
+    form = form;
+    inspected = record { infos = job.infos; needed = needed; once = once; heads = heads };
+  }
 
-pub plan_done : (told : Option World) (path output : List ℕ) (before after : ScanState) (job : JobData) → IfSome told (λ world. HasPlanned (file_at world) path (Ok job)) → output ≡ plan_of job.parts.timeline
-    → Grows job.parts before.world (asks_of job.parts.timeline) [] job.infos → HasEachOnce job.infos → HeadsGrow before.heads after.heads 0 (length job.infos)
-    → IfSome told (λ world. IsPlanReply (file_at world) path Done output before after)
-plan_done None path output before after job comes form needed once heads = tt
-plan_done (Some world) path output before after job comes form needed once heads = plan_at world path output before after job comes form needed once heads
+  pub job_done : (told : Option World) (path output : List ℕ) (before after : ScanState) (job : JobData) → IfSome told (λ world. HasPlanned (file_at world) path (Ok job)) → IsForm job.parts output
+      → Grows job.parts before.world (asks_of job.parts.timeline) [] job.infos → HasEachOnce job.infos → HeadsGrow before.heads after.heads 0 (length job.infos)
+      → IfSome told (λ world. IsJobReply IsForm (file_at world) path Done output before after)
+  job_done None path output before after job comes form needed once heads = tt
+  job_done (Some world) path output before after job comes form needed once heads = put_at world path output before after job comes form needed once heads
 
-refused_at : (files : World) (path output : List ℕ) (before after : ScanState) (outcome : Outcome) → HasPlanned (file_at files) path (Err outcome)
-    → IsOfJob outcome → IsPlanReply (file_at files) path outcome output before after
-refused_at files path output before after (Refused refusal) comes kind = comes
-refused_at files path output before after SourceFault comes kind = tt
-refused_at files path output before after NoMemory comes kind = tt
-refused_at files path output before after Done comes kind = absurd kind
-refused_at files path output before after Usage comes kind = absurd kind
-refused_at files path output before after (outcomes.OtherJob kept wanted) comes kind = absurd kind
-refused_at files path output before after (outcomes.BadLedger len) comes kind = absurd kind
-refused_at files path output before after (outcomes.Damaged frame kept found) comes kind = absurd kind
-refused_at files path output before after (outcomes.Changed reel key was now) comes kind = absurd kind
-refused_at files path output before after outcomes.DiskFault comes kind = absurd kind
-refused_at files path output before after (SinkFault instead) comes kind = absurd kind
+  refused_at : (files : World) (path output : List ℕ) (before after : ScanState) (outcome : Outcome) → HasPlanned (file_at files) path (Err outcome)
+      → IsOfJob outcome → IsJobReply IsForm (file_at files) path outcome output before after
+  refused_at files path output before after (Refused refusal) comes kind = comes
+  refused_at files path output before after SourceFault comes kind = tt
+  refused_at files path output before after NoMemory comes kind = tt
+  refused_at files path output before after Done comes kind = absurd kind
+  refused_at files path output before after Usage comes kind = absurd kind
+  refused_at files path output before after (outcomes.OtherJob kept wanted) comes kind = absurd kind
+  refused_at files path output before after (outcomes.BadLedger len) comes kind = absurd kind
+  refused_at files path output before after (outcomes.Damaged frame kept found) comes kind = absurd kind
+  refused_at files path output before after (outcomes.Changed reel key was now) comes kind = absurd kind
+  refused_at files path output before after outcomes.DiskFault comes kind = absurd kind
+  refused_at files path output before after (SinkFault instead) comes kind = absurd kind
 
-pub plan_refused : (told : Option World) (path output : List ℕ) (before after : ScanState) (outcome : Outcome) → IfSome told (λ world. HasPlanned (file_at world) path (Err outcome))
-    → IsOfJob outcome → IfSome told (λ world. IsPlanReply (file_at world) path outcome output before after)
-plan_refused None path output before after outcome comes kind = tt
-plan_refused (Some world) path output before after outcome comes kind = refused_at world path output before after outcome comes kind
+  pub job_refused : (told : Option World) (path output : List ℕ) (before after : ScanState) (outcome : Outcome) → IfSome told (λ world. HasPlanned (file_at world) path (Err outcome))
+      → IsOfJob outcome → IfSome told (λ world. IsJobReply IsForm (file_at world) path outcome output before after)
+  job_refused None path output before after outcome comes kind = tt
+  job_refused (Some world) path output before after outcome comes kind = refused_at world path output before after outcome comes kind
 
-pub plan_without : (told : Option World) → IfSome told (λ world. Unit {0})
-plan_without None = tt
-plan_without (Some world) = tt
+pub job_without : (told : Option World) → IfSome told (λ world. Unit {0})
+job_without None = tt
+job_without (Some world) = tt
 
 -- the outcomes that a job comes to are its command's own
 pub replied_job : (command : Command) (outcome : Outcome) → IsOfJob outcome → IsKindOf command outcome

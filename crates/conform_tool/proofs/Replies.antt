@@ -143,6 +143,7 @@ memory_right (commands.Plan path) output before after = told_any before.world (Î
 memory_right (commands.Run path workers share) output before after = tt
 memory_right (commands.Status path) output before after = tt
 memory_right (commands.Verify path) output before after = tt
+memory_right (commands.Pull path margin) output before after = told_any before.world (Î» world. tt)
 memory_right (commands.Demo count) output before after = tt
 
 -- an error is its outcome

@@ -43,6 +43,7 @@ IsAccepted (commands.Plan path) world disk = HasJob world path
 IsAccepted (commands.Run path workers share) world disk = HasFitFolder world path disk
 IsAccepted (commands.Status path) world disk = HasFitFolder world path disk
 IsAccepted (commands.Verify path) world disk = HasFitFolder world path disk
+IsAccepted (commands.Pull path margin) world disk = HasJob world path
 IsAccepted (commands.Demo count) world disk = HasJob (demo_world count) project_path
 
 -- no fault was counted

@@ -15,6 +15,9 @@ use Rattle.conform_job.specs.Refusals.{Files}
 use Rattle.conform_job.specs.declared.parts.JobParts.{JobParts}
 use Rattle.project_job.specs.Jobs.{AreLoaded, ComesTo}
 use Rattle.printed_tables.specs.Plan.{plan_of}
+use Rattle.printed_tables.specs.Pull.{pull_of}
+use Rattle.pull_list.specs.Pull.{IsPullList}
+use Rattle.pull_list.specs.declared.range.PullRange.{PullRange}
 use Rattle.outcome_line.specs.Output.{line_of}
 use Rattle.demo_run.specs.Demo.{demo_world, IsShown, IsInstead}
 use Rattle.project_run.specs.Run.{DiskState, IsRunReply}
@@ -53,19 +56,27 @@ pub record IsInspected (parts : JobParts) (before after : ScanState) : Type 0 wh
   pub once : HasEachOnce infos
   pub heads : HeadsGrow before.heads after.heads 0 (length infos)
 
--- The plan of the job that the project comes to. Each needed source frame was inspected once.
-pub record IsPlanned (files : Files) (path output : List ℕ) (before after : ScanState) : Type 0 where
+-- What is put of the job that the project comes to. Each needed source frame was inspected once.
+pub record IsPutOfJob (IsForm : JobParts → List ℕ → Type 0) (files : Files) (path output : List ℕ) (before after : ScanState) : Type 0 where
   pub parts : JobParts
   pub comes : ComesTo files path (Ok parts)
-  pub form : output ≡ plan_of parts.timeline
+  pub form : IsForm parts output
   pub inspected : IsInspected parts before after
 
-abbrev pub IsPlanReply : Files → List ℕ → Outcome → List ℕ → ScanState → ScanState → Type 0
-IsPlanReply files path Done output before after = IsPlanned files path output before after
-IsPlanReply files path (IsRefused refusal) output before after = ComesTo files path (Err refusal)
-IsPlanReply files path SourceFault output before after = Unit {0}
-IsPlanReply files path NoMemory output before after = Unit {0}
-IsPlanReply files path other output before after = ⊥
+abbrev pub IsJobReply : (JobParts → List ℕ → Type 0) → Files → List ℕ → Outcome → List ℕ → ScanState → ScanState → Type 0
+IsJobReply IsForm files path Done output before after = IsPutOfJob IsForm files path output before after
+IsJobReply IsForm files path (IsRefused refusal) output before after = ComesTo files path (Err refusal)
+IsJobReply IsForm files path SourceFault output before after = Unit {0}
+IsJobReply IsForm files path NoMemory output before after = Unit {0}
+IsJobReply IsForm files path other output before after = ⊥
+
+-- its plan
+abbrev pub IsPlanForm : JobParts → List ℕ → Type 0
+IsPlanForm parts output = output ≡ plan_of parts.timeline
+
+-- its pull list with a margin
+abbrev pub IsPullForm : ℕ → JobParts → List ℕ → Type 0
+IsPullForm margin parts output = (ranges : List PullRange) × IsPullList parts margin ranges × (output ≡ pull_of parts.project.rate parts.reels ranges)
 
 -- The demonstration of so many events, whose files are its own.
 abbrev pub IsDemoReply : ℕ → Outcome → List ℕ → Type 0
@@ -77,10 +88,11 @@ IsDemoReply count other output = IsInstead (file_at (demo_world count)) other
 abbrev pub IsRight : Command → Outcome → List ℕ → ScanState → ScanState → Type 0
 IsRight (commands.Frame path) reached output before after = ByFile before.world path (λ file. IsRightBy (IsFrameCase file) (IsFrameForm file) reached output)
 IsRight (commands.List path rate) reached output before after = ByFile before.world path (λ file. IsRightBy (IsListCase rate file) (IsListForm rate file) reached output)
-IsRight (commands.Plan path) reached output before after = IfSome before.world (λ world. IsPlanReply (file_at world) path reached output before after)
+IsRight (commands.Plan path) reached output before after = IfSome before.world (λ world. IsJobReply IsPlanForm (file_at world) path reached output before after)
 IsRight (commands.Run path workers share) reached output before after = Unit {0}
 IsRight (commands.Status path) reached output before after = Unit {0}
 IsRight (commands.Verify path) reached output before after = Unit {0}
+IsRight (commands.Pull path margin) reached output before after = IfSome before.world (λ world. IsJobReply (IsPullForm margin) (file_at world) path reached output before after)
 IsRight (commands.Demo count) reached output before after = IsDemoReply count reached output
 
 -- What a command loads: the one file, or a project, its list and its cube, or nothing. What `run`, `status` and `verify` load
@@ -92,6 +104,7 @@ HasLoaded (commands.Plan path) before after = AreLoaded 1 3 before after
 HasLoaded (commands.Run path workers share) before after = Unit {0}
 HasLoaded (commands.Status path) before after = Unit {0}
 HasLoaded (commands.Verify path) before after = Unit {0}
+HasLoaded (commands.Pull path margin) before after = AreLoaded 1 3 before after
 HasLoaded (commands.Demo count) before after = after ≡ before
 
 -- The one file's head isn't looked at by itself, and `demo` looks at none.
@@ -102,6 +115,7 @@ LooksAtHeads (commands.Plan path) before after = Unit {0}
 LooksAtHeads (commands.Run path workers share) before after = Unit {0}
 LooksAtHeads (commands.Status path) before after = Unit {0}
 LooksAtHeads (commands.Verify path) before after = Unit {0}
+LooksAtHeads (commands.Pull path margin) before after = Unit {0}
 LooksAtHeads (commands.Demo count) before after = after ≡ before
 
 -- the command makes calls on the disk

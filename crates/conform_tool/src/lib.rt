@@ -3,14 +3,16 @@
 //! `conform` does all that the program does, and `answer` does it on one thread. `frame PATH` reads one DPX file and puts the
 //! same pixels under the station's own header; `list FILE RATE` reads an edit list and puts its event table; `plan PROJECT`
 //! reads a project and puts what each record frame shows; `run PROJECT` renders its reel; `status PROJECT` puts how much of it
-//! is rendered, and `verify PROJECT` whether that is still whole; `demo N` renders a job of N events that is made in memory.
-//! The words become a `Command`, the command a reply, and the reply is put on the output in one piece.
+//! is rendered, and `verify PROJECT` whether that is still whole; `pull PROJECT MARGIN` puts which ranges of source frames it
+//! needs; `demo N` renders a job of N events that is made in memory. The words become a `Command`, the command a reply, and the
+//! reply is put on the output in one piece.
 #![tactic(auto)]
 
 mod frame;
 mod list;
 mod one_thread;
 mod plan;
+mod pull;
 mod run;
 mod status;
 mod top;

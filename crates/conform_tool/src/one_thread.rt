@@ -13,6 +13,7 @@ ghost use Rattle.command_words.specs.Commands.{HasCounts, Spells};
 use crate::frame::frame;
 use crate::list::list;
 use crate::plan::plan;
+use crate::pull::pull;
 use crate::run::run;
 use crate::status::status;
 use crate::verify::verify;
@@ -112,6 +113,7 @@ fn carried_out<S: Scans, D: Disk>(
         } => run(alloc, project, *workers, *share, scan, disk),
         Command::Status(project) => status(alloc, project, scan, disk),
         Command::Verify(project) => verify(alloc, project, scan, disk),
+        Command::Pull { project, margin } => pull(alloc, project, *margin, scan),
         Command::Demo(count) => demo(alloc, *count),
     }
 }
