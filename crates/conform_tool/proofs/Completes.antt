@@ -55,7 +55,7 @@ use Rattle.conform_tool.proofs.Headlines.{at_world}
 use Rattle.conform_tool.proofs.Replies.{replied_run}
 
 -- what was done, or found no memory
-IsThrough : Outcome → Type 0
+abbrev IsThrough : Outcome → Type 0
 IsThrough reached = (reached ≡ outcomes.Done) ⊎ (reached ≡ outcomes.NoMemory)
 
 through : (command : Command) (reached : Outcome) → IsThrough reached → IsComplete command reached

@@ -1,7 +1,7 @@
 -- A run with several workers is a crew's, and all else is not.
 use Rattle.std.proofs.Common.{◌≡◌, ◌∙◌, ◌≤◌, arith, length, refl, rules, subst, sym, vec_len}
 use Rattle.project_run.specs.Run.{disk_state}
-use Rattle.conform_tool.specs.Complete.{IsAccepted}
+use Rattle.conform_tool.specs.Complete.{IsAccepted, IsComplete}
 use Rattle.conform_tool.proofs.Alone.{alone_complete, alone_promise, alone_unfailed, first_answered}
 use Rattle.conform_tool.proofs.Completes.{crew_answered_complete, crew_unfailed}
 use Rattle.conform_tool.proofs.Conforming.{alone_found, crew_as, crew_unread, found_command, found_run, run_found}
@@ -48,8 +48,9 @@ pub returns-in-Some-clause-complete : goal.returns-in-Some-clause-complete
 returns-in-Some-clause-complete g c command world spells is accepted =
     let disk = disk_state g.D.Disk.tells g.D.Disk.history g.D.Disk.faults c.args.disk in
     let command_is = found_command _ _ command _ _ _ c.in-Ok.ensures.command c.in-Some.ensures.0 spells in
-    crew_answered_complete c.job_laws.ensures.job g.S.Scans.world g.S.Scans.faults g.S.Scans.loads g.S.Scans.same c.in-Some.crew.project c.in-Some.crew.workers _ _ disk _ world is
-    (subst (λ k. IsAccepted k world disk) command_is accepted) c.in-Some.crew.share _ _ _ c.by_crew.ensures.crew
+    let complete = crew_answered_complete c.job_laws.ensures.job g.S.Scans.world g.S.Scans.faults g.S.Scans.loads g.S.Scans.same c.in-Some.crew.project c.in-Some.crew.workers _ _ disk _ world is
+        (subst (λ k. IsAccepted k world disk) command_is accepted) c.in-Some.crew.share _ _ _ c.by_crew.ensures.crew in
+    λ scans_steady disk_steady sink_steady. subst (λ k. IsComplete k c.by_crew.result.outcome) (sym command_is) (complete scans_steady disk_steady sink_steady)
 
 pub returns-in-Some-clause-unfailed : goal.returns-in-Some-clause-unfailed
 returns-in-Some-clause-unfailed g c command spells =
