@@ -1,12 +1,16 @@
-use Rattle.std.proofs.Common.{inl, inr, refl, sym, ◌∙◌, subst}
+use Rattle.std.proofs.Common.{◌≡◌, ℕ, inl, inr, refl, sym, ◌∙◌, ap, subst}
+use Rattle.cf_base.specs.Count.{HasCause}
 use Rattle.reel_disk.specs.Disk.{view_of}
 use Rattle.reel_disk.proofs.Sparing.{spares_along, spares_wider}
 use Rattle.resume_ledger.specs.Ledger.{IsLedgerFile, IsWrittenLedgerFile}
+use Rattle.resume_ledger.specs.declared.attach.OpenFault.TheVariants as open_fault
 use Rattle.resume_ledger.proofs.Reading.{spares_writes, writes_along}
 use Rattle.reel_writer.proofs.ReelLaws.{reel_run_along}
 use Rattle.single_run.specs.Asks.{IsRunFile}
+use Rattle.single_run.specs.Ends.{refused_by}
 use Rattle.single_run.specs.Run.{HasRefused, IsOwnFile, MayWrite}
 use Rattle.single_run.specs.declared.run_end.RunEnd.{RunEnd}
+use Rattle.single_run.specs.declared.run_end.RunEnd.TheVariants as run_end
 use Rattle.single_run.proofs.Closing.{opened_has, own_file, own_written, refused, whole_reel, writes_wider}
 use Rattle.single_run.proofs.alone.run_owned.Goals as goal
 
@@ -64,3 +68,28 @@ returns-in-Err-clause-spares g c told = spares_wider _ _ IsLedgerFile (IsOwnFile
 
 pub returns-in-Err-clause-writes : goal.returns-in-Err-clause-writes
 returns-in-Err-clause-writes g c told = writes_wider _ _ IsWrittenLedgerFile (MayWrite g.N.Work.job (view_of (g.D.Disk.history c.args.disk))) (λ q own. inl own) (c.in-Err.ensures.writes told)
+
+pub returns-in-Err-clause-run : goal.returns-in-Err-clause-run
+returns-in-Err-clause-run g c = c.in-Err.ensures.run
+
+-- a fault of the disk is told
+pub returns-in-Ok-clause-steady : goal.returns-in-Ok-clause-steady
+returns-in-Ok-clause-steady g c other = c.run_opened-end.ensures.steady other ∙ c.in-Ok.ensures.steady (λ same. cc)
+
+pub returns-in-Err-clause-steady : goal.returns-in-Err-clause-steady
+returns-in-Err-clause-steady g c other =
+    c.in-Err.ensures.steady (λ same. let is : c.in-Err.fault ≡ open_fault.DiskFault = cc in other (c.end_of_opening.ensures.end ∙ ap refused_by is))
+
+-- what is said of the end is the open run's
+pub returns-in-Ok-clause-acked : goal.returns-in-Ok-clause-acked
+returns-in-Ok-clause-acked g c = c.run_opened-end.ensures.acked
+
+pub returns-in-Ok-clause-changed : goal.returns-in-Ok-clause-changed
+returns-in-Ok-clause-changed g c = c.run_opened-end.ensures.changed
+
+pub returns-in-Ok-clause-scan : goal.returns-in-Ok-clause-scan
+returns-in-Ok-clause-scan g c = c.run_opened-end.ensures.scan
+
+pub returns-in-Ok-clause-cause : goal.returns-in-Ok-clause-cause
+returns-in-Ok-clause-cause g c =
+    subst (λ (n : ℕ). HasCause n (g.D.Disk.faults c.run_opened-end.result.3) (c.run_opened-end.result.0 ≡ run_end.DiskFault)) (c.in-Ok.ensures.steady (λ same. cc)) c.run_opened-end.ensures.cause

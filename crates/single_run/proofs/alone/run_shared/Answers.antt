@@ -1,6 +1,7 @@
 use Rattle.std.proofs.Common.{◌≡◌, List, length, sym, ◌∙◌, ap, subst}
 use Rattle.frame_share.specs.declared.step.ShareStep.{ShareStep}
-use Rattle.frame_share.specs.Share.{IsLegal}
+use Rattle.frame_share.specs.Share.{IsLegal, ShareView}
+use Rattle.frame_share.specs.Units.{Tally}
 use Rattle.reel_writer.proofs.ReelLaws.{reel_run_itself}
 use Rattle.single_run.specs.Ran.{WereFinished}
 use Rattle.single_run.specs.Sharing.{IsPaired}
@@ -15,6 +16,29 @@ returns-in-Err-clause-finished g c = unbegun g.N.Work.job c.args.reel.now.ledger
 
 pub returns-in-Err-clause-run : goal.returns-in-Err-clause-run
 returns-in-Err-clause-run g c told = reel_run_itself g.N.Work.job g.N.Work.files (g.D.Disk.history c.args.reel.now.disk)
+
+pub run_frames-end-requires-clause-files : goal.run_frames-end-requires-clause-files
+run_frames-end-requires-clause-files g c = c.requires.files
+
+pub run_frames-end-requires-clause-zero : goal.run_frames-end-requires-clause-zero
+run_frames-end-requires-clause-zero g c = (c.requires.zero, ap (λ (t : Tally). t.amount) c.in-Ok.ensures.units, ap (λ (t : Tally). t.pending) c.in-Ok.ensures.units)
+
+pub run_frames-end-requires-clause-unasked : goal.run_frames-end-requires-clause-unasked
+run_frames-end-requires-clause-unasked g c = ap (λ (s : ShareView). s.steps) c.in-Ok.ensures.share
+
+pub settle-requires : goal.settle-requires
+settle-requires g c = record { all = c.run_frames-end.ensures.parts ∙ ap (λ (t : Tally). t.parts) c.in-Ok.ensures.units }
+
+pub returns-clause-scan : goal.returns-clause-scan
+returns-clause-scan g c = c.run_frames-end.ensures.scan
+
+pub returns-clause-same_scan : goal.returns-clause-same_scan
+returns-clause-same_scan g c = c.run_frames-end.ensures.same_scan
+
+pub returns-clause-legal : goal.returns-clause-legal
+returns-clause-legal g c =
+    let room : c.settle.new.self.capacity ≡ c.args.share_cap = ap (λ (s : ShareView). s.capacity) c.settle.ensures.same ∙ c.run_frames-end.ensures.room ∙ ap (λ (s : ShareView). s.capacity) c.in-Ok.ensures.share in
+    subst (λ n. IsLegal n c.into_log.result) room (subst (λ xs. IsLegal c.settle.new.self.capacity xs) (sym c.into_log.ensures.steps) c.into_log.ensures.kept.legal)
 
 pub returns-clause-finished : goal.returns-clause-finished
 returns-clause-finished g c = subst (λ (l : List ShareStep). WereFinished g.N.Work.job c.args.reel.now.ledger.gates c.run_frames-end.result (length c.run_frames-end.new.reel.acks) l) (sym (c.into_log.ensures.steps ∙ ap (λ s. s.steps) c.settle.ensures.same)) c.run_frames-end.ensures.finished

@@ -1,14 +1,16 @@
-use Rattle.std.proofs.Common.{List, sym, ◌∙◌, ap, subst}
+use Rattle.std.proofs.Common.{ℕ, false, List, get_or, refl, sym, ◌∙◌, ap, subst, arith}
 use Rattle.cf_base.specs.declared.key.Key.{Key}
 use Rattle.reel_disk.proofs.Sparing.{spares_wider}
 use Rattle.conform_job.specs.Job.{file_of, need_at}
 use Rattle.frame_render.specs.Frame.{FrameBytes}
 use Rattle.reel_writer.specs.Reel.{IsWrittenFile}
 use Rattle.reel_writer.proofs.ReelLaws.{reel_run_itself}
+use Rattle.reel_writer.specs.View.{ReelView, after_finish}
 use Rattle.single_run.specs.Asks.{IsRunFile, keys_of_need}
+use Rattle.single_run.specs.Ran.{IsPast}
 use Rattle.single_run.specs.Sharing.{HasAsked}
 use Rattle.single_run.proofs.Logs.{asked_is_tried, asked_none}
-use Rattle.single_run.proofs.Stepping.{past_itself, asks_if_open, asks_if_closed, kept_itself, run_file}
+use Rattle.single_run.proofs.Stepping.{past_finish, past_itself, asks_if_open, asks_if_closed, kept_itself, run_file}
 use Rattle.single_run.proofs.frames.run_frame.Goals as goal
 
 pub returns-then-is_acked-clause-past : goal.returns-then-is_acked-clause-past
@@ -51,3 +53,35 @@ pub returns-in-Err-finish-clause-spares : goal.returns-in-Err-finish-clause-spar
 returns-in-Err-finish-clause-spares g c told =
     spares_wider _ _ (IsWrittenFile (file_of g.N.Work.job c.of-hashed.result.index)) (IsRunFile g.N.Work.job c.args.reel.now.ledger.gates)
     (run_file g.N.Work.job c.args.reel.now.ledger.gates c.args.i c.of-hashed.result.index (ap (λ (f : FrameBytes). f.index) c.of-hashed.ensures ∙ c.in-Ok.ensures.index) c.requires.index (sym c.is_acked.ensures ∙ c.if-is_acked.false)) (c.finish.ensures.spares told)
+
+-- the gate was closed
+pub finish-requires-clause-fresh : goal.finish-requires-clause-fresh
+finish-requires-clause-fresh g c =
+    ap (λ (n : ℕ). get_or c.args.reel.now.ledger.gates n false) (ap (λ (f : FrameBytes). f.index) c.of-hashed.ensures ∙ c.in-Ok.ensures.index) ∙ sym c.is_acked.ensures ∙ c.if-is_acked.false
+
+pub returns-in-Err-clause-shut : goal.returns-in-Err-clause-shut
+returns-in-Err-clause-shut g c = sym c.is_acked.ensures ∙ c.if-is_acked.false
+
+pub returns-in-Err-finish-clause-shut : goal.returns-in-Err-finish-clause-shut
+returns-in-Err-finish-clause-shut g c = sym c.is_acked.ensures ∙ c.if-is_acked.false
+
+-- and is open once the frame is finished
+pub returns-in-Ok-finish-clause-past : goal.returns-in-Ok-finish-clause-past
+returns-in-Ok-finish-clause-past g c =
+    let old = c.args.reel.now in
+    let disk = c.finish.new.self.disk in
+    let same = ap (λ (f : FrameBytes). f.index) c.of-hashed.ensures ∙ c.in-Ok.ensures.index in
+    let within = c.requires.index in
+    let size = c.requires.size in
+    subst (λ (r : ReelView _). IsPast c.args.i old r) (sym c.in-Ok-finish.ensures.finished)
+    (subst (λ (n : ℕ). IsPast c.args.i old (after_finish old n disk)) (sym same) (past_finish old c.args.i disk (sym c.is_acked.ensures ∙ c.if-is_acked.false) (omega (arith, within, size)) c.requires.is_open))
+
+-- nothing is said of these where the disk failed
+pub returns-in-Err-finish-clause-past : goal.returns-in-Err-finish-clause-past
+returns-in-Err-finish-clause-past g c = tt
+
+pub returns-in-Err-finish-clause-asked : goal.returns-in-Err-finish-clause-asked
+returns-in-Err-finish-clause-asked g c = tt
+
+pub returns-in-Err-finish-clause-steady : goal.returns-in-Err-finish-clause-steady
+returns-in-Err-finish-clause-steady g c other = absurd (other refl)
