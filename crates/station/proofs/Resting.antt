@@ -32,7 +32,7 @@ use Rattle.shared_station.specs.StationSteps.{why_by}
 use Rattle.conform_job.specs.Answers.{count_after}
 use Rattle.single_run.specs.Scanned.{IsScanned}
 use Rattle.station.specs.Stepped.{HasStepped}
-use Rattle.station.specs.Worked.{HasCauses, HasCounted, KeepsParts, KeepsSources}
+use Rattle.station.specs.Worked.{HasCauses, HasCounted, KeepsParts, KeepsSources, MayRaise}
 use Rattle.single_run.proofs.Scanning.{loads_along, scanned_itself}
 use Rattle.station.proofs.Working.{counted_along, parts_along, causes_none}
 
@@ -146,6 +146,12 @@ stop_causes job told end why more failed before now same stop fails loaded raise
     by DiskFault stop fails loaded = record { parts = record { source = refl; disk = refl; memory = refl; changed = refl }; source = λ rose. absurd (omega (arith, rose)); changed = λ rose. absurd (omega (arith, rose)) }
     by NoMemory stop fails loaded = record { parts = record { source = refl; disk = refl; memory = refl; changed = refl }; source = λ rose. absurd (omega (arith, rose)); changed = λ rose. absurd (omega (arith, rose)) }
 
+-- the same where the stop may not have been made
+pub may_causes : (job : JobData) (told : Option World) (end : RunEnd) (why : Why) (more : ℕ) (failed : Bool) (before now : Tallies) → why ≡ why_by end → IsStop job told end → (end ≡ SourceFault → failed ≡ true) → (IsChange end → 1 ≤ more) → MayRaise why before now → HasCauses told more failed before now
+may_causes job told end why more failed before now same stop fails loaded (inl still) =
+    subst (HasCauses told more failed before) (sym still) (causes_none told before before more failed (record { source = refl; disk = refl; memory = refl; changed = refl }) (record { source = refl; changed = refl }))
+may_causes job told end why more failed before now same stop fails loaded (inr raised) = stop_causes job told end why more failed before now same stop fails loaded raised
+
 pub stepped_by : {S : Type 0} (told : Option World) (world : S → Option World) (faults loads : S → ℕ) (scan now : S) (counted count : ℕ) (had has failed : Bool) (before after : Tallies)
     → counted ≤ count → has ≡ (had || failed) → IsScanned world faults loads (count - counted) (failed ≡ true) scan now → HasCauses told (count - counted) failed before after
     → HasStepped told world faults loads scan now counted count had has before after
@@ -154,6 +160,10 @@ stepped_by told world faults loads scan now counted count had has failed before 
 -- a worker that finished its frame is idle
 pub idle_after : (old new : Log) (w i : ℕ) → new ≡ with_step old (Finish w i) → turn_of new w ≡ turns.Idle
 idle_after old new w i same = ap (λ (l : Log). turn_of l w) same ∙ turn_of-own old (Finish w i) w refl
+
+-- and the others are as they were
+pub others_after : (old new : Log) (w i : ℕ) → new ≡ with_step old (Finish w i) → (v : ℕ) → v ≢ w → turn_of new v ≡ turn_of old v
+others_after old new w i same v other = ap (λ (l : Log). turn_of l v) same ∙ turn_of-other old (Finish w i) v other
 
 pub holds_after : (old new : Log) (i : ℕ) → new ≡ with_step old (Claim 0 i) → turn_of new 0 ≡ turns.Holds i
 holds_after old new i same = ap (λ (l : Log). turn_of l 0) same ∙ turn_of-own old (Claim 0 i) 0 refl

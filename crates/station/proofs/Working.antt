@@ -1,6 +1,8 @@
 -- How a worker's rounds add up.
 use Rattle.std.proofs.Common.{◌≡◌, ℕ, ◌+◌, ◌-◌, ◌<◌, ◌≤◌, Bool, true, length, sym, ◌∙◌, ap, subst, arith}
-use Rattle.std.specs.Prelude.{Option, None, Some}
+use Rattle.std.specs.Prelude.{Option, None, Some, Result, Ok, Err, OnOk}
+use Rattle.std.specs.Result.{is_ok}
+use Rattle.std.proofs.lemmas.Bool.{false≢true}
 use Rattle.scan_source.specs.World.{World}
 use Rattle.frame_share.specs.Units.{Tally}
 use Rattle.render_board.specs.declared.board.Claim.TheVariants.{Take}
@@ -10,6 +12,11 @@ use Rattle.shared_station.specs.Marks.{Tallies}
 use Rattle.single_run.specs.Scanned.{IsScanned}
 use Rattle.station.specs.Worked.{HasCauses, HasCounted, KeepsParts, KeepsSources}
 use Rattle.single_run.proofs.Scanning.{scanned_along}
+
+-- what holds at Ok, where that came
+pub ok_has : {T E : Type 0} (r : Result T E) (P : Type 0) → is_ok r ≡ true → OnOk r P → P
+ok_has (Ok x) P is here = here
+ok_has (Err e) P is here = absurd (false≢true is)
 
 -- a frame that is taken is one of the reel's
 pub take_within : (log : Log) (i n : ℕ) → claim_of log ≡ Take i → length log.start ≡ n → i < n

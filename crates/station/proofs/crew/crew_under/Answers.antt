@@ -1,4 +1,4 @@
-use Rattle.std.proofs.Common.{◌≡◌, ◌∙◌, ◌≤◌, Vec, ap, inl, refl, sym, subst}
+use Rattle.std.proofs.Common.{◌≡◌, ◌∙◌, ◌≤◌, Vec, ap, arith, inl, min, refl, sym, subst, vec_len}
 use Rattle.std.specs.declared.alloc.Global.{Global}
 use Rattle.reel_disk.specs.Disk.{view_of}
 use Rattle.reel_disk.specs.Runs.{Spares}
@@ -6,7 +6,7 @@ use Rattle.reel_disk.proofs.Sparing.{spares_wider}
 use Rattle.render_board.specs.History.{first_why, is_disk, stops_of}
 use Rattle.resume_ledger.specs.Ledger.{IsLedgerFile, IsWrittenLedgerFile}
 use Rattle.resume_ledger.specs.Sound.{WritesOnly}
-use Rattle.station.specs.Crews.{IsCrewRun, IsUnstepped, WasCrewed}
+use Rattle.station.specs.Crews.{AreWorked, IsCrewRun, IsUnstepped, WasCrewed}
 use Rattle.single_run.specs.Run.{IsOwnFile, MayWrite}
 use Rattle.single_run.specs.declared.run_end.RunEnd.TheVariants as ends
 use Rattle.single_run.proofs.Closing.{whole_reel, writes_wider}
@@ -20,6 +20,9 @@ run_opened-requires-clause-beginning g c κs within =
     beginning g.N.Work.job g.N.Work.files g.N.Start.start g.D.Disk.tells g.D.Disk.history g.D.Disk.faults c.args.disk c.in-Ok.reel c.in-Some.ready.board c.min-threads.result
     c.requires.start c.requires.moment c.requires.faults c.in-Ok.ensures.run c.in-Ok.ensures.spares c.in-Ok.ensures.writes c.in-Ok.ensures.answer c.in-Ok.ensures.known c.in-Ok.ensures.opening
     (c.in-Ok.ensures.steady (λ e. cc)) c.in-Some.ensures.board
+
+pub run_opened-requires-clause-within : goal.run_opened-requires-clause-within
+run_opened-requires-clause-within g c κs within = let is = c.from.ensures in let least = c.min-threads.ensures in let len = c.len.ensures in omega (arith, is, least, len)
 
 -- the folder was not opened
 pub returns-in-Err-clause-scans : goal.returns-in-Err-clause-scans
@@ -71,6 +74,14 @@ returns-clause-ran g c =
     by_steps c.run_opened.result.history _ _ _ c.run_opened.ensures.some c.run_opened.ensures.made (λ steps made.
     crewed g.N.Work.job g.N.Work.files g.N.Start.start g.D.Disk.tells g.D.Disk.history g.D.Disk.faults c.args.disk c.run_opened.result.disk steps c.run_opened.result.end c.run_opened.result.report
     c.requires.start c.requires.moment made (λ told. (c.in-Ok.ensures.answer told).fit) c.run_opened.result.log c.run_opened.ensures.shared)
+
+pub returns-clause-scans : goal.returns-clause-scans
+returns-clause-scans g c =
+    let is = c.from.ensures in
+    let least = c.min-threads.ensures in
+    let len = c.len.ensures in
+    let threads : c.from.result ≡ min c.args.workers (vec_len c.args.scans) = omega (arith, is, least, len) in
+    subst (λ n. AreWorked g.S.Scans.world g.S.Scans.faults g.S.Scans.loads g.S.Scans.same n c.run_opened.result.report.loads (c.run_opened.result.end ≡ ends.SourceFault) c.args.scans.items c.run_opened.result.scans.items) threads c.run_opened.ensures.scans
 
 pub returns-clause-run : goal.returns-clause-run
 returns-clause-run g c told =
