@@ -1,7 +1,7 @@
 -- What is known where a run over the frames ends.
 use Rattle.std.proofs.Common.{◌≡◌, ◌≢◌, inl, inr, ℕ, suc, ◌+◌, ◌-◌, ◌<◌, ◌≤◌, Bool, true, false, List, [], ◌∷◌, ◌++◌, length, take, drop, get_or, refl, sym, ◌∙◌, ap, subst, arith, length-append, append-nil}
 use Rattle.std.specs.Prelude.{nat_lt, Contains, ◌⊎◌, ◌↔◌, Option, Ok, Err, Result}
-use Rattle.std.proofs.lemmas.Bool.Decides.{nat_tests}
+use Rattle.std.proofs.lemmas.Bool.{lt-ltb, ltb-true}
 use Rattle.std.proofs.lemmas.List.{append_assoc, take_at}
 use Rattle.cf_base.specs.declared.file.FileId.{FileId}
 use Rattle.scan_source.specs.World.{World}
@@ -114,13 +114,13 @@ module _ {D : Type 0} (old mid : ReelView D) (i : ℕ) (none : old.acks ≡ []) 
         where
           by : (b : Bool) → get_or old.ledger.gates k false ≡ b → (get_or old.ledger.gates k false ≡ true) ⊎ Contains mid.acks k
           by true is = inl is
-          by false is = let lt : k < i = grind (arith, nat_tests) in inr (subst (λ l. Contains l k) (sym acks_are) (closed_has old.ledger.gates i k lt is))
+          by false is = let lt : k < i = ltb-true k i early in inr (subst (λ l. Contains l k) (sym acks_are) (closed_has old.ledger.gates i k lt is))
 
       back : (get_or old.ledger.gates k false ≡ true) ⊎ Contains mid.acks k → get_or mid.ledger.gates k false ≡ true
       back (inl was) = past.gates k ∙ sym (or_true (get_or old.ledger.gates k false) (nat_lt k i) was) ∙ was
       back (inr has) =
           let lt : k < i = closed_below old.ledger.gates i k (subst (λ l. Contains l k) acks_are has) in
-          let early : nat_lt k i ≡ true = grind (arith, nat_tests) in
+          let early : nat_lt k i ≡ true = lt-ltb k i lt in
           past.gates k ∙ or_here (get_or old.ledger.gates k false) (nat_lt k i) early
 
   -- a closed gate was closed at the opening

@@ -2,7 +2,7 @@
 use Rattle.std.proofs.Common.{◌≡◌, inl, inr, ℕ, zero, suc, ◌+◌, ◌<◌, Bool, true, false, not, ◌==◌, ◌||◌, if◌then◌else◌, List, [], ◌∷◌, ◌++◌, length, get_or, set, refl, sym, ◌∙◌, ap, subst, arith, length-set}
 use Rattle.std.specs.Prelude.{filter, nat_lt, Contains, ◌⊎◌}
 use Rattle.std.specs.List.{range_with_len}
-use Rattle.std.proofs.lemmas.Bool.{cases_lt, cases_eq}
+use Rattle.std.proofs.lemmas.Bool.{cases_lt, cases_eq, lt-ltb, le-ltb}
 use Rattle.std.proofs.lemmas.Bool.Decides.{nat_tests}
 use Rattle.std.proofs.lemmas.Grind.{flat_map-append}
 use Rattle.std.proofs.lemmas.List.{get_or-set_same, get_or-set_other, append-nil, append_assoc}
@@ -152,7 +152,7 @@ module _ {D : Type 0} (old : ReelView D) (i : ℕ) where
 module _ {D : Type 0} (old : ReelView D) where
   pub past_none : old.ledger.closed ≡ false → ArePast 0 old old
   past_none is_open = record {
-    gates = λ k. let none : nat_lt k 0 ≡ false = grind (arith, nat_tests) in or_false (get_or old.ledger.gates k false) (nat_lt k 0) none;
+    gates = λ k. let none : nat_lt k 0 ≡ false = le-ltb k 0 (omega arith) in or_false (get_or old.ledger.gates k false) (nat_lt k 0) none;
     size = refl;
     acks = sym (append-nil old.acks) ∙ ap (λ l. old.acks ++ l) (sym (closed_none old.ledger.gates));
     kept = refl;
@@ -162,7 +162,7 @@ module _ {D : Type 0} (old : ReelView D) where
   module _ (mid : ReelView D) (i : ℕ) (past : ArePast i old mid) where
     -- the gate of the next frame is as it was at the opening
     pub gate_still : get_or mid.ledger.gates i false ≡ get_or old.ledger.gates i false
-    gate_still = let none : nat_lt i i ≡ false = grind (arith, nat_tests) in past.gates i ∙ sym (or_false (get_or old.ledger.gates i false) (nat_lt i i) none)
+    gate_still = let none : nat_lt i i ≡ false = le-ltb i i (omega arith) in past.gates i ∙ sym (or_false (get_or old.ledger.gates i false) (nat_lt i i) none)
 
     pub if_still : frame_if_closed mid.ledger.gates i ≡ frame_if_closed old.ledger.gates i
     if_still = ap (λ (b : Bool). if b then [] else (i ∷ [])) gate_still
@@ -182,18 +182,18 @@ module _ {D : Type 0} (old : ReelView D) where
         below : (k : ℕ) → (nat_lt k i || (k == i)) ≡ nat_lt k (suc i)
         below k = elim (cases_lt k i) [
           | inl early ↦
-              let first : nat_lt k i ≡ true = grind (arith, nat_tests) in
-              let later : nat_lt k (suc i) ≡ true = grind (arith, nat_tests) in
+              let first : nat_lt k i ≡ true = lt-ltb k i early in
+              let later : nat_lt k (suc i) ≡ true = lt-ltb k (suc i) (omega (arith, early)) in
               sym (or_true (nat_lt k i) (k == i) first) ∙ first ∙ sym later
           | inr late ↦ elim (cases_eq k i) [
             | inl same ↦
                 let here : (k == i) ≡ true = grind (arith, nat_tests) in
-                let later : nat_lt k (suc i) ≡ true = grind (arith, nat_tests) in
+                let later : nat_lt k (suc i) ≡ true = lt-ltb k (suc i) (omega (arith, same)) in
                 or_here (nat_lt k i) (k == i) here ∙ sym later
             | inr other ↦
-                let first : nat_lt k i ≡ false = grind (arith, nat_tests) in
+                let first : nat_lt k i ≡ false = le-ltb k i late in
                 let here : (k == i) ≡ false = grind (arith, nat_tests) in
-                let later : nat_lt k (suc i) ≡ false = grind (arith, nat_tests) in
+                let later : nat_lt k (suc i) ≡ false = le-ltb k (suc i) (omega (arith, late, other)) in
                 sym (or_false (nat_lt k i) (k == i) here) ∙ first ∙ sym later
           ]
         ]
