@@ -11,6 +11,7 @@ use Rattle.std.proofs.lemmas.List.Sums.{count_by-le-length}
 use Rattle.render_board.specs.declared.board.Turn.TheVariants as turns
 use Rattle.render_board.specs.declared.step.Step.{Step}
 use Rattle.render_board.specs.declared.step.Step.TheVariants.{Claim, Finish, Stop}
+use Rattle.render_board.specs.declared.step.Why.TheVariants.{Disk}
 use Rattle.render_board.specs.declared.step.Why.{Why}
 use Rattle.render_board.specs.declared.board.Claim.{Claim as Answer}
 use Rattle.render_board.specs.declared.board.Claim.TheVariants as answers
@@ -146,11 +147,24 @@ stop_causes job told end why more failed before now same stop fails loaded raise
     by DiskFault stop fails loaded = record { parts = record { source = refl; disk = refl; memory = refl; changed = refl }; source = λ rose. absurd (omega (arith, rose)); changed = λ rose. absurd (omega (arith, rose)) }
     by NoMemory stop fails loaded = record { parts = record { source = refl; disk = refl; memory = refl; changed = refl }; source = λ rose. absurd (omega (arith, rose)); changed = λ rose. absurd (omega (arith, rose)) }
 
+-- where nothing is counted, nothing wants a cause
+pub still_causes : (told : Option World) (more : ℕ) (failed : Bool) (before now : Tallies) → now ≡ before → HasCauses told more failed before now
+still_causes told more failed before now still =
+    subst (HasCauses told more failed before) (sym still) (causes_none told before before more failed (record { source = refl; disk = refl; memory = refl; changed = refl }) (record { source = refl; changed = refl }))
+
 -- the same where the stop may not have been made
 pub may_causes : (job : JobData) (told : Option World) (end : RunEnd) (why : Why) (more : ℕ) (failed : Bool) (before now : Tallies) → why ≡ why_by end → IsStop job told end → (end ≡ SourceFault → failed ≡ true) → (IsChange end → 1 ≤ more) → MayRaise why before now → HasCauses told more failed before now
-may_causes job told end why more failed before now same stop fails loaded (inl still) =
-    subst (HasCauses told more failed before) (sym still) (causes_none told before before more failed (record { source = refl; disk = refl; memory = refl; changed = refl }) (record { source = refl; changed = refl }))
+may_causes job told end why more failed before now same stop fails loaded (inl still) = still_causes told more failed before now still
 may_causes job told end why more failed before now same stop fails loaded (inr raised) = stop_causes job told end why more failed before now same stop fails loaded raised
+
+-- a stop for the disk is for no source file
+pub disk_causes : (told : Option World) (more : ℕ) (failed : Bool) (before now : Tallies) → MayRaise Disk before now → HasCauses told more failed before now
+disk_causes told more failed before now (inl still) = still_causes told more failed before now still
+disk_causes told more failed before now (inr raised) = subst (HasCauses told more failed before) (sym raised) (record {
+  parts = record { source = refl; disk = refl; memory = refl; changed = refl };
+  source = λ rose. absurd (omega (arith, rose));
+  changed = λ rose. absurd (omega (arith, rose));
+})
 
 pub stepped_by : {S : Type 0} (told : Option World) (world : S → Option World) (faults loads : S → ℕ) (scan now : S) (counted count : ℕ) (had has failed : Bool) (before after : Tallies)
     → counted ≤ count → has ≡ (had || failed) → IsScanned world faults loads (count - counted) (failed ≡ true) scan now → HasCauses told (count - counted) failed before after

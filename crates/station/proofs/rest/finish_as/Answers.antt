@@ -4,7 +4,7 @@ use Rattle.render_board.proofs.Holding.{held_within}
 use Rattle.single_run.specs.Ends.{IsChange, IsStop}
 use Rattle.single_run.specs.declared.run_end.RunEnd.{RunEnd}
 use Rattle.single_run.specs.declared.run_end.RunEnd.TheVariants.{SourceFault}
-use Rattle.station.proofs.Resting.{closed_has_stop, stepped_by, stop_causes}
+use Rattle.station.proofs.Resting.{closed_has_stop, stepped_by, stepped_itself, stop_causes}
 use Rattle.single_run.proofs.Scanning.{scanned_as}
 use Rattle.station.proofs.rest.finish_as.Goals as goal
 
@@ -16,6 +16,9 @@ make_apart-made-requires-clause-index g c =
     let within = held_within c.args.station.now.log c.args.worker c.args.i c.workers.ensures.kept.legal c.requires.holds in
     let size = c.workers.ensures.kept.size in
     omega (arith, within, size)
+
+pub returns-then-is_closed-clause-stepped : goal.returns-then-is_closed-clause-stepped
+returns-then-is_closed-clause-stepped g c = stepped_itself g.N.Work.files g.S.Scans.world g.S.Scans.faults g.S.Scans.loads c.args.seat.now.scan c.args.seat.now.loads c.args.seat.now.has_failed c.args.seat.now.marks
 
 pub returns-in-Err-clause-stepped : goal.returns-in-Err-clause-stepped
 returns-in-Err-clause-stepped g c =
