@@ -114,10 +114,7 @@ fn a_crew_that_was_stopped_at_a_call_loses_no_frame(rt: HostRuntime) {
             scans: _,
             disk,
         } = crew_on(&rt, alloc, &desk.job, scans, 3, disk);
-        assert!(rt;
-            (end == RunEnd::Done) == (stop == 153),
-            "stop at {stop}"
-        );
+        assert!(rt; (end == RunEnd::Done) == (stop == 153), "stop at {stop}");
         let least = if stop < 9 { 0 } else { (stop as u32 - 9) / 6 };
         for pick in 0..3 {
             let mut crashed = disk.crash(pick).ok().expect(&rt, "a disk");
@@ -126,10 +123,7 @@ fn a_crew_that_was_stopped_at_a_call_loses_no_frame(rt: HostRuntime) {
                 end == RunEnd::Done && least <= report.kept && report.kept <= least + 1,
                 "stop at {stop}, crash {pick}"
             );
-            assert!(rt;
-                is_whole(&mut crashed),
-                "stop at {stop}, crash {pick}"
-            );
+            assert!(rt; is_whole(&mut crashed), "stop at {stop}, crash {pick}");
         }
     }
     drop(desk);

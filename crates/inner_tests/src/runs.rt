@@ -190,10 +190,7 @@ fn a_folder_of_version_1_is_taken_over(rt: HostRuntime) {
                 end == RunEnd::Done && report.kept == DONE && report.rendered == 19,
                 "stop at {call}, crash {pick}"
             );
-            assert!(rt;
-                is_whole(&mut crashed),
-                "stop at {call}, crash {pick}"
-            );
+            assert!(rt; is_whole(&mut crashed), "stop at {call}, crash {pick}");
         }
     }
     drop(desk);

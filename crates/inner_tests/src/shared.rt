@@ -10,15 +10,15 @@ use scan_source::{Head, Loaded, MemoryScans, Scans};
 use station::{Crew, RunEnd, run_crew};
 use std::alloc::Global;
 use std::marker::Brand;
-use std::sync::Arc;
-use std::sync::Wait;
 use std::sync::atomic::{AtomicU64, Ordering};
+use std::sync::{Arc, Wait};
 use std::thread::Threads;
 
 /// How often a load looks whether what it waits for has come.
 const TURNS: u64 = 400_000_000;
 
 const FIRST: u32 = 86_400;
+
 const LAST: u32 = 86_403;
 
 /// What all loads and writes of a crew have come to.
@@ -84,7 +84,11 @@ impl HeldScans {
         if !path.bytes().ends_with(b".dpx") {
             return false;
         }
-        let reel = if path.bytes().starts_with(b"a001") { 0 } else { 1 };
+        let reel = if path.bytes().starts_with(b"a001") {
+            0
+        } else {
+            1
+        };
         let number = self.seen.loads[reel]
             .fetch_add(1, Ordering::SeqCst)
             .wrapping_add(1);

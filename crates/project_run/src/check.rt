@@ -123,12 +123,7 @@ fn outcome_of_check(fault: CheckFault) -> Outcome
 }
 
 /// The frames of the reel, those that the folder acknowledges, and those whose files were compared with their records.
-fn verify_text(
-    alloc: Global,
-    frames: u32,
-    acked: u32,
-    verified: u32,
-) -> Result<Vec<u8>, AllocError>
+fn verify_text(alloc: Global, frames: u32, acked: u32, verified: u32) -> Result<Vec<u8>, AllocError>
     ensures { IfOk result (λ text. text.items ≡ verify_text frames acked verified) }
 {
     let mut text = Vec::new(alloc);

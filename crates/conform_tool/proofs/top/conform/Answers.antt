@@ -49,7 +49,7 @@ returns-in-Some-clause-complete g c command world spells is accepted =
     let disk = disk_state g.D.Disk.tells g.D.Disk.history g.D.Disk.faults c.args.disk in
     let command_is = found_command _ _ command _ _ _ c.in-Ok.ensures.command c.in-Some.ensures.0 spells in
     let complete = crew_answered_complete c.job_laws.ensures.job g.S.Scans.world g.S.Scans.faults g.S.Scans.loads g.S.Scans.same c.in-Some.crew.project c.in-Some.crew.workers _ _ disk _ world is
-        (subst (λ k. IsAccepted k world disk) command_is accepted) c.in-Some.crew.share _ _ _ c.by_crew.ensures.crew in
+    (subst (λ k. IsAccepted k world disk) command_is accepted) c.in-Some.crew.share _ _ _ c.by_crew.ensures.crew in
     λ scans_steady disk_steady sink_steady. subst (λ k. IsComplete k c.by_crew.result.outcome) (sym command_is) (complete scans_steady disk_steady sink_steady)
 
 pub returns-in-Some-clause-unfailed : goal.returns-in-Some-clause-unfailed
