@@ -5,6 +5,7 @@ use Rattle.std.specs.FinMap.{get-from_entries}
 use Rattle.std.proofs.lemmas.Cmp.{nat_list_cmp_total}
 use Rattle.scan_source.specs.Answers.{first_bytes}
 use Rattle.scan_source.specs.Plan.{one_more}
+use Rattle.scan_source.specs.Turning.{Turning, serving, both_counts}
 use Rattle.scan_source.specs.World.{file_at, world_of}
 
 -- a short file is filled up with zeros, a long one is cut
@@ -33,3 +34,20 @@ last_count = refl
 
 next_count : one_more 18446744073709551614 ≡ 18446744073709551615
 next_count = refl
+
+-- with a bound of 34 call 33 goes to the first scan and call 34 to the second; with one of 1 all go to the second
+last_of_first : (turning : Turning) → serving (record turning { at = 34; calls = 32 }) ≡ turning.first
+last_of_first turning = refl
+
+first_of_later : (turning : Turning) → serving (record turning { at = 34; calls = 33 }) ≡ turning.later
+first_of_later turning = refl
+
+all_of_later : (turning : Turning) → serving (record turning { at = 1; calls = 0 }) ≡ turning.later
+all_of_later turning = refl
+
+-- two counts of faults are one
+both : both_counts 2 3 ≡ 5
+both = refl
+
+last_of_both : both_counts 18446744073709551615 1 ≡ 18446744073709551615
+last_of_both = refl

@@ -1,3 +1,6 @@
 pub mod Answers
+pub mod Memory
 pub mod Plan
+pub mod Same
+pub mod Turning
 pub mod World

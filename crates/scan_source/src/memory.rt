@@ -1,6 +1,7 @@
 //! Source files in memory.
-ghost use Rattle.std.specs.Prelude.{◌≡◌, ◌≤◌, ◌↔◌, Some, None, IsTrue, IsFalse, MatchOption, Contains, map, refl};
+ghost use Rattle.std.specs.Prelude.{◌≡◌, ◌≤◌, ◌↔◌, Some, None, IsTrue, IsFalse, MatchOption, Contains, is_some, map, refl};
 ghost use Rattle.cf_base.specs.Count.{HasRisen};
+ghost use Rattle.scan_source.specs.Memory.{memory_of};
 ghost use Rattle.scan_source.specs.Plan.{one_more};
 ghost use Rattle.scan_source.specs.World.{world_of, file_at};
 
@@ -36,6 +37,13 @@ impl MemoryScans {
             loads: 0,
             heads: 0,
         }
+    }
+
+    /// Whether there is a file at the path. It is no call, and none is counted.
+    pub(crate) fn has_file(&self, path: &PathText) -> bool
+        ensures { result ≡ is_some (file_at (memory_of self.now).files path.now) }
+    {
+        bytes_at(&self.files, path).is_some()
     }
 
     /// Whether this call is one that fails. It counts the call, and the fault.

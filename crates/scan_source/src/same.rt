@@ -1,0 +1,96 @@
+//! Texts in memory, and one head for all other files.
+ghost use Rattle.std.specs.Prelude.{◌≡◌, ◌≢◌, ◌≤◌, None, is_some, refl};
+ghost use Rattle.cf_base.specs.Count.{HasRisen};
+ghost use Rattle.scan_source.specs.Answers.{Fills};
+ghost use Rattle.scan_source.specs.Memory.{memory_of};
+ghost use Rattle.scan_source.specs.Plan.{one_more};
+ghost use Rattle.scan_source.specs.Same.{same_of, HasLoadedSame, HasLookedSame, next_same};
+
+use crate::{Head, Loaded, MemoryScans, Scans};
+use cf_base::PathText;
+
+/// A few texts in memory, and at every other path a file with one and the same head, which can't be loaded: a job of any
+/// number of source frames can be planned over it, and takes no memory for their files. It doesn't tell its files, and
+/// never fails by itself.
+#[derive(Drop)]
+pub struct SameScans {
+    texts: MemoryScans,
+    head: [u8; 2048],
+    len: u64,
+    loads: u64,
+    heads: u64,
+}
+
+impl SameScans {
+    /// Calls on a path of the texts go to their scan, which counts and fails those that go to it. At any other path the
+    /// head is this one, the file has `len` bytes, and a load finds none. Takes no memory.
+    pub fn new(texts: MemoryScans, head: [u8; 2048], len: u64) -> Self
+        ensures same { same_of result ≡ record { texts = memory_of texts; head = head; len = len } }
+        ensures faults { ⟦<SameScans as Scans>⟧.faults result ≡ ⟦<MemoryScans as Scans>⟧.faults texts }
+        ensures world { ⟦<SameScans as Scans>⟧.world result ≡ None }
+        ensures plan { ⟦<SameScans as Scans>⟧.plan result ≡ None }
+        ensures loads { ⟦<SameScans as Scans>⟧.loads result ≡ 0 }
+        ensures heads { ⟦<SameScans as Scans>⟧.heads result ≡ 0 }
+    {
+        SameScans {
+            texts,
+            head,
+            len,
+            loads: 0,
+            heads: 0,
+        }
+    }
+}
+
+impl Scans for SameScans {
+    ghost world = { λ _. None };
+
+    ghost faults = { λ scan. ⟦<MemoryScans as Scans>⟧.faults scan.texts };
+
+    ghost loads = { λ scan. scan.loads };
+
+    ghost heads = { λ scan. scan.heads };
+
+    fn load(&mut self, path: &PathText, most: u64, into: &mut Vec<u8>) -> Loaded
+        ensures answer { HasLoadedSame (same_of self.old) path.now most result into.new.items }
+        ensures next { same_of self.new ≡ next_same path.now (same_of self.old) }
+        ensures fills { Fills result most into.new.items }
+
+        ensures failed { result ≡ Loaded.Failed → HasRisen (⟦<SameScans as Scans>⟧.faults self.old) (⟦<SameScans as Scans>⟧.faults self.new) }
+        ensures steady { result ≢ Loaded.Failed → ⟦<SameScans as Scans>⟧.faults self.new ≡ ⟦<SameScans as Scans>⟧.faults self.old }
+        ensures later { ⟦<SameScans as Scans>⟧.faults self.old ≤ ⟦<SameScans as Scans>⟧.faults self.new }
+
+        ensures loads { ⟦<SameScans as Scans>⟧.loads self.new ≡ one_more (⟦<SameScans as Scans>⟧.loads self.old) }
+        ensures heads { ⟦<SameScans as Scans>⟧.heads self.new ≡ ⟦<SameScans as Scans>⟧.heads self.old }
+    {
+        self.loads = self.loads.saturating_add(1);
+        if self.texts.has_file(path) {
+            return self.texts.load(path, most, into);
+        }
+        into.clear();
+        Loaded::Absent
+    }
+
+    fn head(&mut self, path: &PathText, into: &mut [u8; 2048]) -> Head
+        ensures answer { HasLookedSame (same_of self.old) path.now result into.new }
+        ensures next { same_of self.new ≡ next_same path.now (same_of self.old) }
+
+        ensures failed { result ≡ Head.Failed → HasRisen (⟦<SameScans as Scans>⟧.faults self.old) (⟦<SameScans as Scans>⟧.faults self.new) }
+        ensures steady { result ≢ Head.Failed → ⟦<SameScans as Scans>⟧.faults self.new ≡ ⟦<SameScans as Scans>⟧.faults self.old }
+        ensures later { ⟦<SameScans as Scans>⟧.faults self.old ≤ ⟦<SameScans as Scans>⟧.faults self.new }
+
+        ensures heads { ⟦<SameScans as Scans>⟧.heads self.new ≡ one_more (⟦<SameScans as Scans>⟧.heads self.old) }
+        ensures loads { ⟦<SameScans as Scans>⟧.loads self.new ≡ ⟦<SameScans as Scans>⟧.loads self.old }
+    {
+        self.heads = self.heads.saturating_add(1);
+        if self.texts.has_file(path) {
+            return self.texts.head(path, into);
+        }
+        *into = self.head;
+        Head::Found { len: self.len }
+    }
+
+    ghost same_refl = { λ _. tt };
+
+    ghost same_trans = { λ _ _ _ _ _. tt };
+}
