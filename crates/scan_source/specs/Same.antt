@@ -1,6 +1,7 @@
 -- A few texts in memory, and at every other path a file of which no more than one and the same head is known.
 --     HasLoadedSame, HasLookedSame      what it answers
 --     next_same path same      what there is after a call on that path
+--     faults_in scan      how often it has failed
 use Rattle.std.specs.Prelude.{◌≡◌, ℕ, List, Option, None, Some, MatchOption}
 use Rattle.scan_source.specs.declared.same.SameScans.{SameScans}
 use Rattle.scan_source.specs.declared.scans.Loaded.{Loaded}
@@ -41,3 +42,7 @@ counted (Some text) texts = one_call texts
 
 abbrev pub next_same : List ℕ → Same → Same
 next_same path same = record same { texts = counted (file_at same.texts.files path) same.texts }
+
+-- the scan of the texts alone may fail
+abbrev pub faults_in : SameScans → ℕ
+faults_in scan = scan.texts.faults

@@ -1,6 +1,7 @@
 -- Files that change: calls with numbers below a bound go to one scan in memory, and all later ones to another.
 --     serving turning      the scan in memory that answers the next call
 --     next_turning turning      what there is after that call
+--     faults_in scan      how often it has failed
 use Rattle.std.specs.Prelude.{ℕ, ◌+◌, ◌-◌, ◌^◌, min, Bool, cond, nat_lt}
 use Rattle.scan_source.specs.declared.turning.TurningScans.{TurningScans}
 use Rattle.scan_source.specs.Memory.{Memory, memory_of, one_call}
@@ -34,3 +35,7 @@ next_turning turning = record turning {
 -- two counts as one, which is kept in 64 bits and stays at its last value
 abbrev pub both_counts : ℕ → ℕ → ℕ
 both_counts first later = min (first + later) (2 ^ 64 - 1)
+
+-- each of the two may fail, and nothing else does
+abbrev pub faults_in : TurningScans → ℕ
+faults_in scan = both_counts scan.first.faults scan.later.faults

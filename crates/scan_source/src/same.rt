@@ -4,7 +4,7 @@ ghost use Rattle.cf_base.specs.Count.{HasRisen};
 ghost use Rattle.scan_source.specs.Answers.{Fills};
 ghost use Rattle.scan_source.specs.Memory.{memory_of};
 ghost use Rattle.scan_source.specs.Plan.{one_more};
-ghost use Rattle.scan_source.specs.Same.{same_of, HasLoadedSame, HasLookedSame, next_same};
+ghost use Rattle.scan_source.specs.Same.{same_of, HasLoadedSame, HasLookedSame, next_same, faults_in};
 
 use crate::{Head, Loaded, MemoryScans, Scans};
 use cf_base::PathText;
@@ -45,7 +45,7 @@ impl SameScans {
 impl Scans for SameScans {
     ghost world = { λ _. None };
 
-    ghost faults = { λ scan. ⟦<MemoryScans as Scans>⟧.faults scan.texts };
+    ghost faults = { faults_in };
 
     ghost loads = { λ scan. scan.loads };
 
@@ -56,9 +56,9 @@ impl Scans for SameScans {
         ensures next { same_of self.new ≡ next_same path.now (same_of self.old) }
         ensures fills { Fills result most into.new.items }
 
-        ensures failed { result ≡ Loaded.Failed → HasRisen (⟦<SameScans as Scans>⟧.faults self.old) (⟦<SameScans as Scans>⟧.faults self.new) }
-        ensures steady { result ≢ Loaded.Failed → ⟦<SameScans as Scans>⟧.faults self.new ≡ ⟦<SameScans as Scans>⟧.faults self.old }
-        ensures later { ⟦<SameScans as Scans>⟧.faults self.old ≤ ⟦<SameScans as Scans>⟧.faults self.new }
+        ensures failed { result ≡ Loaded.Failed → HasRisen (faults_in self.old) (faults_in self.new) }
+        ensures steady { result ≢ Loaded.Failed → faults_in self.new ≡ faults_in self.old }
+        ensures later { faults_in self.old ≤ faults_in self.new }
 
         ensures loads { ⟦<SameScans as Scans>⟧.loads self.new ≡ one_more (⟦<SameScans as Scans>⟧.loads self.old) }
         ensures heads { ⟦<SameScans as Scans>⟧.heads self.new ≡ ⟦<SameScans as Scans>⟧.heads self.old }
@@ -75,9 +75,9 @@ impl Scans for SameScans {
         ensures answer { HasLookedSame (same_of self.old) path.now result into.new }
         ensures next { same_of self.new ≡ next_same path.now (same_of self.old) }
 
-        ensures failed { result ≡ Head.Failed → HasRisen (⟦<SameScans as Scans>⟧.faults self.old) (⟦<SameScans as Scans>⟧.faults self.new) }
-        ensures steady { result ≢ Head.Failed → ⟦<SameScans as Scans>⟧.faults self.new ≡ ⟦<SameScans as Scans>⟧.faults self.old }
-        ensures later { ⟦<SameScans as Scans>⟧.faults self.old ≤ ⟦<SameScans as Scans>⟧.faults self.new }
+        ensures failed { result ≡ Head.Failed → HasRisen (faults_in self.old) (faults_in self.new) }
+        ensures steady { result ≢ Head.Failed → faults_in self.new ≡ faults_in self.old }
+        ensures later { faults_in self.old ≤ faults_in self.new }
 
         ensures heads { ⟦<SameScans as Scans>⟧.heads self.new ≡ one_more (⟦<SameScans as Scans>⟧.heads self.old) }
         ensures loads { ⟦<SameScans as Scans>⟧.loads self.new ≡ ⟦<SameScans as Scans>⟧.loads self.old }

@@ -4,7 +4,7 @@ ghost use Rattle.cf_base.specs.Count.{HasRisen};
 ghost use Rattle.scan_source.specs.Answers.{Fills};
 ghost use Rattle.scan_source.specs.Memory.{memory_of, HasLoaded, HasLooked};
 ghost use Rattle.scan_source.specs.Plan.{one_more};
-ghost use Rattle.scan_source.specs.Turning.{turning_of, is_before, serving, next_turning, both_counts};
+ghost use Rattle.scan_source.specs.Turning.{turning_of, is_before, serving, next_turning, both_counts, faults_in};
 
 use crate::{Head, Loaded, MemoryScans, Scans};
 use cf_base::PathText;
@@ -26,7 +26,8 @@ impl TurningScans {
     /// ones to the second, and each of the two counts and fails those that go to it. Takes no memory.
     pub fn new(first: MemoryScans, then: MemoryScans, at: u64) -> Self
         ensures turning { turning_of result ≡ record { first = memory_of first; later = memory_of then; at = at; calls = 0 } }
-        ensures faults { ⟦<TurningScans as Scans>⟧.faults result ≡ both_counts (⟦<MemoryScans as Scans>⟧.faults first) (⟦<MemoryScans as Scans>⟧.faults then) }
+        ensures faults { ⟦<TurningScans as Scans>⟧.faults result
+            ≡ both_counts (⟦<MemoryScans as Scans>⟧.faults first) (⟦<MemoryScans as Scans>⟧.faults then) }
         ensures world { ⟦<TurningScans as Scans>⟧.world result ≡ None }
         ensures plan { ⟦<TurningScans as Scans>⟧.plan result ≡ None }
         ensures loads { ⟦<TurningScans as Scans>⟧.loads result ≡ 0 }
@@ -55,7 +56,7 @@ impl TurningScans {
 impl Scans for TurningScans {
     ghost world = { λ _. None };
 
-    ghost faults = { λ scan. both_counts (⟦<MemoryScans as Scans>⟧.faults scan.first) (⟦<MemoryScans as Scans>⟧.faults scan.later) };
+    ghost faults = { faults_in };
 
     ghost loads = { λ scan. scan.loads };
 
@@ -66,9 +67,9 @@ impl Scans for TurningScans {
         ensures next { turning_of self.new ≡ next_turning (turning_of self.old) }
         ensures fills { Fills result most into.new.items }
 
-        ensures failed { result ≡ Loaded.Failed → HasRisen (⟦<TurningScans as Scans>⟧.faults self.old) (⟦<TurningScans as Scans>⟧.faults self.new) }
-        ensures steady { result ≢ Loaded.Failed → ⟦<TurningScans as Scans>⟧.faults self.new ≡ ⟦<TurningScans as Scans>⟧.faults self.old }
-        ensures later { ⟦<TurningScans as Scans>⟧.faults self.old ≤ ⟦<TurningScans as Scans>⟧.faults self.new }
+        ensures failed { result ≡ Loaded.Failed → HasRisen (faults_in self.old) (faults_in self.new) }
+        ensures steady { result ≢ Loaded.Failed → faults_in self.new ≡ faults_in self.old }
+        ensures later { faults_in self.old ≤ faults_in self.new }
 
         ensures loads { ⟦<TurningScans as Scans>⟧.loads self.new ≡ one_more (⟦<TurningScans as Scans>⟧.loads self.old) }
         ensures heads { ⟦<TurningScans as Scans>⟧.heads self.new ≡ ⟦<TurningScans as Scans>⟧.heads self.old }
@@ -85,9 +86,9 @@ impl Scans for TurningScans {
         ensures answer { HasLooked (serving (turning_of self.old)) path.now result into.new }
         ensures next { turning_of self.new ≡ next_turning (turning_of self.old) }
 
-        ensures failed { result ≡ Head.Failed → HasRisen (⟦<TurningScans as Scans>⟧.faults self.old) (⟦<TurningScans as Scans>⟧.faults self.new) }
-        ensures steady { result ≢ Head.Failed → ⟦<TurningScans as Scans>⟧.faults self.new ≡ ⟦<TurningScans as Scans>⟧.faults self.old }
-        ensures later { ⟦<TurningScans as Scans>⟧.faults self.old ≤ ⟦<TurningScans as Scans>⟧.faults self.new }
+        ensures failed { result ≡ Head.Failed → HasRisen (faults_in self.old) (faults_in self.new) }
+        ensures steady { result ≢ Head.Failed → faults_in self.new ≡ faults_in self.old }
+        ensures later { faults_in self.old ≤ faults_in self.new }
 
         ensures heads { ⟦<TurningScans as Scans>⟧.heads self.new ≡ one_more (⟦<TurningScans as Scans>⟧.heads self.old) }
         ensures loads { ⟦<TurningScans as Scans>⟧.loads self.new ≡ ⟦<TurningScans as Scans>⟧.loads self.old }
