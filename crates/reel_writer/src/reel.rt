@@ -199,7 +199,8 @@ impl<D: Disk, N: Work> Reel<D, N> {
     /// Whether a frame is acknowledged. Frames are numbered from 0, below the job's count.
     pub fn is_acked(&self, i: u32) -> bool
         requires { i < frames_of N.job }
-        ensures { result ≡ slice_index_or self.now.ledger.gates i false }
+        ensures acked { result ≡ slice_index_or self.now.ledger.gates i false }
+        ensures reel { IsReelOf N.job D.tells D.history self.now }
     {
         self.ledger.is_acked(i)
     }

@@ -1,5 +1,5 @@
 -- What the folder acknowledges where a run ends.
-use Rattle.std.proofs.Common.{◌≡◌, inl, inr, ℕ, zero, suc, ◌<◌, ◌≤◌, Bool, true, false, List, length, take, get_or, refl, sym, ◌∙◌, ap, subst, arith}
+use Rattle.std.proofs.Common.{◌≡◌, ◌≢◌, inl, inr, ℕ, zero, suc, ◌<◌, ◌≤◌, Bool, true, false, List, length, take, get_or, refl, sym, ◌∙◌, ap, subst, arith}
 use Rattle.std.specs.Prelude.{Contains, ◌⊎◌, ◌↔◌, Option, Some, None, IfSome}
 use Rattle.std.proofs.lemmas.List.Sums.{count_by-le-length}
 use Rattle.cf_base.specs.Count.{HasRisen}
@@ -12,7 +12,7 @@ use Rattle.reel_disk.specs.Disk.{Files, History, moment_of, view_of, file_of as 
 use Rattle.reel_disk.specs.Runs.{Surely}
 use Rattle.reel_disk.proofs.Images.{view_is_image}
 use Rattle.resume_ledger.specs.Ledger.{Acks, Agrees, LedgerState}
-use Rattle.resume_ledger.specs.Sound.{WritesOnly}
+use Rattle.resume_ledger.specs.Sound.{AddsAtMost, AddsNone, WritesOnly}
 use Rattle.resume_ledger.specs.Attach.{IsRefused, IsRefusalFor}
 use Rattle.resume_ledger.specs.declared.attach.OpenFault.{OpenFault}
 use Rattle.resume_ledger.specs.declared.attach.OpenFault.TheVariants as open_fault
@@ -24,7 +24,8 @@ use Rattle.single_run.specs.Ends.{refused_by}
 use Rattle.single_run.specs.Run.{AreAllAcked, HasKept, HasRefused, HasWhole, IsOwnFile, IsUnkeptFile, IsWhole, MayWrite}
 use Rattle.conform_job.specs.Answers.{count_after}
 use Rattle.single_run.specs.Ran.{WereFinished}
-use Rattle.single_run.specs.declared.run_end.RunEnd.TheVariants.{Done}
+use Rattle.single_run.specs.declared.run_end.RunEnd.{RunEnd}
+use Rattle.single_run.specs.declared.run_end.RunEnd.TheVariants.{Done, OtherJob, BadLedger, Changed, SourceFault, DiskFault, NoMemory}
 use Rattle.single_run.proofs.Running.{taken}
 use Rattle.single_run.proofs.Stepping.{closed_has}
 
@@ -52,10 +53,31 @@ module _ {D : Type 0} (job : JobData) (tells : Bool) (history : D → History) (
           λ is. images_acked k is (view_of (history reel.disk)) here,
         )
 
+    -- where only one frame may have been touched since, all others are acknowledged as their gates say
+    pub others_acked : (i : ℕ) (new : History) → (history reel.disk).now ≤ new.now → AddsAtMost i job.parts.digest (frames_of job) (history reel.disk) new → (k : ℕ) → k ≢ i → HasAcked job k (view_of new) ↔ (get_or reel.ledger.gates k false ≡ true)
+    others_acked i new later adds k other =
+        let there = adds k other new.now later (omega arith) (view_of new) (view_is_image (moment_of new)) in
+        (λ acks. (view_acked k).0 (there.0 acks), λ is. there.1 ((view_acked k).1 is))
+
     pub exit_acked : (gates : List Bool) → ((k : ℕ) → (get_or reel.ledger.gates k false ≡ true) ↔ ((get_or gates k false ≡ true) ⊎ Contains reel.acks k)) → (listed : List ℕ) → reel.acks ≡ listed
         → (k : ℕ) → HasAcked job k (view_of (history reel.disk)) ↔ ((get_or gates k false ≡ true) ⊎ Contains listed k)
     exit_acked gates opened listed same k = subst (λ (l : List ℕ). HasAcked job k (view_of (history reel.disk)) ↔ ((get_or gates k false ≡ true) ⊎ Contains l k)) same
         (λ acks. (opened k).0 ((view_acked k).0 acks), λ was. (view_acked k).1 ((opened k).1 was))
+
+  -- so it is at the end of a run, also where the disk failed
+  pub exit_of : (gates : List Bool) → ((k : ℕ) → (get_or reel.ledger.gates k false ≡ true) ↔ ((get_or gates k false ≡ true) ⊎ Contains reel.acks k)) → (listed : List ℕ) → reel.acks ≡ listed → (k : ℕ)
+      → (end : RunEnd) → (end ≢ DiskFault → Agrees (moment_of (history reel.disk)) reel.ledger) → (end ≡ DiskFault → HasAcked job k (view_of (history reel.disk)) ↔ ((get_or gates k false ≡ true) ⊎ Contains reel.acks k))
+      → HasAcked job k (view_of (history reel.disk)) ↔ ((get_or gates k false ≡ true) ⊎ Contains listed k)
+  exit_of gates opened listed same k end agrees failed = by end refl
+    where
+      by : (e : RunEnd) → end ≡ e → HasAcked job k (view_of (history reel.disk)) ↔ ((get_or gates k false ≡ true) ⊎ Contains listed k)
+      by DiskFault is = subst (λ (l : List ℕ). HasAcked job k (view_of (history reel.disk)) ↔ ((get_or gates k false ≡ true) ⊎ Contains l k)) same (failed is)
+      by Done is = exit_acked (agrees (λ was. let both = sym is ∙ was in cc)) gates opened listed same k
+      by (OtherJob kept wanted) is = exit_acked (agrees (λ was. let both = sym is ∙ was in cc)) gates opened listed same k
+      by (BadLedger len) is = exit_acked (agrees (λ was. let both = sym is ∙ was in cc)) gates opened listed same k
+      by (Changed key was_info now) is = exit_acked (agrees (λ was. let both = sym is ∙ was in cc)) gates opened listed same k
+      by SourceFault is = exit_acked (agrees (λ was. let both = sym is ∙ was in cc)) gates opened listed same k
+      by NoMemory is = exit_acked (agrees (λ was. let both = sym is ∙ was in cc)) gates opened listed same k
 
 -- at Done every frame is among those that were acknowledged and those that were finished
 pub all_done : (job : JobData) (gates : List Bool) (acks : List ℕ) (rendered : ℕ) (log : List ShareStep) → WereFinished job gates Done rendered log → acks ≡ take rendered (closed_frames gates (frames_of job)) → (i : ℕ) → i < frames_of job → (get_or gates i false ≡ true) ⊎ Contains acks i
@@ -104,11 +126,12 @@ module _ (job : JobData) (gates : List Bool) (before : Files) (opening : (k : �
   own_written (inr frame) = inr (unkept frame)
 
 -- why a folder was not opened
-pub refused : (job : JobData) (tells : Bool) (old new : History) (fault : OpenFault) → IsRefusalFor job.parts.digest fault → (tells ≡ true → IsRefused job.parts.digest (frames_of job) old new fault) → HasRefused job tells old new (refused_by fault)
-refused job tells old new (open_fault.OtherJob kept wanted) known is = (known.0, known.1, is)
-refused job tells old new (open_fault.BadLedger len) known is = is
-refused job tells old new open_fault.DiskFault known is = tt
-refused job tells old new open_fault.NoMemory known is = is
+pub refused : (job : JobData) (tells : Bool) (old new : History) (fault : OpenFault) → IsRefusalFor job.parts.digest fault → (tells ≡ true → IsRefused job.parts.digest (frames_of job) old new fault) → (tells ≡ true → AddsNone job.parts.digest (frames_of job) old new)
+    → HasRefused job tells old new (refused_by fault)
+refused job tells old new (open_fault.OtherJob kept wanted) known is adds = (known.0, known.1, is)
+refused job tells old new (open_fault.BadLedger len) known is adds = is
+refused job tells old new open_fault.DiskFault known is adds = adds
+refused job tells old new open_fault.NoMemory known is adds = is
 
 -- a count of loads that went up has risen
 pub loads_rose : (more before : ℕ) → 1 ≤ more → HasRisen before (count_after more before)

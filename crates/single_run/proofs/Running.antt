@@ -11,7 +11,7 @@ use Rattle.frame_share.specs.Share.{ShareView}
 use Rattle.reel_writer.specs.Reel.{frames_of}
 use Rattle.reel_writer.specs.View.{ReelView}
 use Rattle.single_run.specs.Ends.{IsStop}
-use Rattle.single_run.specs.Asks.{IsRunFile, closed_frames, asks_of_frames, frame_if_closed, keys_of_need}
+use Rattle.single_run.specs.Asks.{IsNext, IsRunFile, closed_frames, asks_of_frames, frame_if_closed, keys_of_need}
 use Rattle.single_run.specs.Ran.{IsUnfinished, ArePast, WereFinished}
 use Rattle.single_run.specs.Sharing.{HasTried, IsPaired, asks_of}
 use Rattle.single_run.specs.declared.run_end.RunEnd.{RunEnd}
@@ -58,6 +58,10 @@ next_closed gates count i within closed =
     parts.1 ∙ ap (λ l. l ++ parts.0) (closed_more gates i ∙ ap (λ l. closed_frames gates i ++ l) (if_closed gates i closed)) ∙ append_assoc (closed_frames gates i) (i ∷ []) parts.0
     in
     ap (λ l. take 1 (drop (length (closed_frames gates i)) l)) whole ∙ next_after (closed_frames gates i) parts.0 i
+
+pub is_next : (gates : List Bool) (count i finished : ℕ) → i < count → get_or gates i false ≡ false → finished ≡ length (closed_frames gates i) → IsNext gates count finished i
+is_next gates count i finished within closed same =
+    subst (λ n. IsNext gates count n i) (sym same) (subst (λ l. Contains l i) (sym (next_closed gates count i within closed)) (0, omega arith, refl))
 
 -- a run that stopped at frame i, whose gate was closed
 pub stopped : (job : JobData) (gates : List Bool) (end : RunEnd) (i : ℕ) (a b : ShareView) → end ≢ Done → i < frames_of job → get_or gates i false ≡ false → asks_of a.steps ≡ asks_of_frames job (closed_frames gates i) → IsPaired ⊥ a.steps
@@ -143,6 +147,12 @@ module _ {D : Type 0} (old mid : ReelView D) (i : ℕ) (none : old.acks ≡ []) 
     gates_then k =
         subst (λ (l : List ℕ). (get_or new.ledger.gates k false ≡ true) ↔ ((get_or old.ledger.gates k false ≡ true) ⊎ Contains l k)) (sym same.acks)
         (subst (λ (l : List Bool). (get_or l k false ≡ true) ↔ ((get_or old.ledger.gates k false ≡ true) ⊎ Contains mid.acks k)) (sym same.gates) (gates_are k))
+
+    -- what is acknowledged by the gates is so by those of the opening and by what was finished
+    pub acked_then : (Acked : Type 0) (k : ℕ) → Acked ↔ (get_or mid.ledger.gates k false ≡ true) → Acked ↔ ((get_or old.ledger.gates k false ≡ true) ⊎ Contains new.acks k)
+    acked_then Acked k by_gates =
+        let opened = subst (λ (l : List Bool). (get_or l k false ≡ true) ↔ ((get_or old.ledger.gates k false ≡ true) ⊎ Contains new.acks k)) same.gates (gates_then k) in
+        (λ acked. opened.0 (by_gates.0 acked), λ was. by_gates.1 (opened.1 was))
 
     pub kept_then : new.kept ≡ old.kept
     kept_then = same.kept ∙ past.kept

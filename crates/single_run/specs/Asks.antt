@@ -1,7 +1,8 @@
 -- What a run on one thread finishes and asks for. All of it is this project's own rule.
 --     closed_frames gates count      the frames that are still to be finished
 --     asks_of_frames job frames      the keys that these frames ask for
-use Rattle.std.specs.Prelude.{◌≡◌, ◌⊎◌, ℕ, ◌<◌, Bool, false, not, List, [], ◌∷◌, ◌++◌, filter, flat_map, slice_index_or, Option, Some, None, if◌then◌else◌}
+--     IsNext gates count finished k      the frame that comes behind the finished ones
+use Rattle.std.specs.Prelude.{◌≡◌, ◌⊎◌, ℕ, ◌<◌, Bool, false, not, List, [], ◌∷◌, ◌++◌, Contains, drop, filter, flat_map, slice_index_or, take, Option, Some, None, if◌then◌else◌}
 use Rattle.std.specs.List.{range_with_len}
 use Rattle.cf_base.specs.declared.file.FileId.{FileId}
 use Rattle.cf_base.specs.declared.file.FileId.TheVariants.{Body2}
@@ -28,6 +29,10 @@ keys_of_need need = key_of_side need.old ++ key_of_side need.new
 -- what these frames ask for, one frame after another
 unfoldable pub asks_of_frames : JobData → List ℕ → List Key
 asks_of_frames job frames = flat_map (λ i. keys_of_need (need_at job i)) frames
+
+-- frame k is the next to be finished, behind so many
+abbrev pub IsNext : List Bool → (count finished : ℕ) → ℕ → Type 0
+IsNext gates count finished k = Contains (take 1 (drop finished (closed_frames gates count))) k
 
 -- frame i, where its gate is closed
 abbrev pub frame_if_closed : List Bool → ℕ → List ℕ

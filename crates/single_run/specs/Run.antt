@@ -14,8 +14,9 @@ use Rattle.reel_disk.specs.Runs.{Surely}
 use Rattle.frame_share.specs.declared.step.ShareStep.{ShareStep}
 use Rattle.resume_ledger.specs.Ledger.{IsFit, IsLedgerFile, IsWrittenLedgerFile}
 use Rattle.resume_ledger.specs.Attach.{IsKept, IsOtherJob, IsBadLedger, IsUnwritten}
+use Rattle.resume_ledger.specs.Sound.{AddsNone}
 use Rattle.reel_writer.specs.Reel.{frames_of, HasAcked, IsSoundReel}
-use Rattle.single_run.specs.Asks.{closed_frames}
+use Rattle.single_run.specs.Asks.{IsNext, closed_frames}
 use Rattle.single_run.specs.Ends.{IsEnd}
 use Rattle.single_run.specs.Ran.{WereFinished}
 use Rattle.single_run.specs.Sharing.{WereShared}
@@ -29,9 +30,9 @@ use Rattle.single_run.specs.declared.run_end.RunEnd.TheVariants.{Done, OtherJob,
 abbrev pub HasKept : JobData → ℕ → Files → Type 0
 HasKept job i files = IsKept job.parts.digest (frames_of job) (file_of job) (frame_size job) files i
 
--- The folder was unsealed or this job's. `gates` are the frames that the opening kept. Unless the
--- disk failed, the folder acknowledges now just these and those that the run finished. The log is
--- that of the share, of so many frames.
+-- The folder was unsealed or this job's. `gates` are the frames that the opening kept. The folder
+-- acknowledges now just these and those that the run finished. Where the disk failed, that is so of
+-- all frames but the next one, whose finish failed. The log is that of the share, of so many frames.
 pub record WasOpened (job : JobData) (told : Option World) (capacity : ℕ) (tells : Bool)
     (old new : History) (end : RunEnd) (report : Report) (log : List ShareStep) : Type 0 where
   pub gates : List Bool
@@ -43,13 +44,14 @@ pub record WasOpened (job : JobData) (told : Option World) (capacity : ℕ) (tel
   pub kept : report.kept ≡ count_by (λ gate. gate) gates
   pub finished : WereFinished job gates end report.rendered log
   pub shared : WereShared capacity log report
-  pub exit : tells ≡ true → end ≢ DiskFault → (k : ℕ)
+  pub exit : tells ≡ true → (k : ℕ)
+      → (end ≡ DiskFault → IsNext gates (frames_of job) report.rendered k → ⊥)
       → HasAcked job k (view_of new)
       ↔ ((slice_index_or gates k false ≡ true)
       ⊎ Contains (take report.rendered (closed_frames gates (frames_of job))) k)
 
--- why the folder was not opened: 20.1 and 20.2 just where they are so, with nothing written, as
--- where memory ran out
+-- Why the folder was not opened: 20.1 and 20.2 just where they are so, with nothing written, as
+-- where memory ran out. Where the disk failed, no acknowledgement was made.
 abbrev pub HasRefused : JobData → Bool → History → History → RunEnd → Type 0
 HasRefused job tells old new Done = ⊥
 HasRefused job tells old new (OtherJob kept wanted) = (kept ≢ wanted) × (wanted ≡ job.parts.digest)
@@ -58,7 +60,8 @@ HasRefused job tells old new (BadLedger len) = tells ≡ true
     → IsBadLedger job.parts.digest (frames_of job) len old new
 HasRefused job tells old new (Changed key was now) = ⊥
 HasRefused job tells old new SourceFault = ⊥
-HasRefused job tells old new DiskFault = Unit {0}
+HasRefused job tells old new DiskFault = tells ≡ true
+    → AddsNone job.parts.digest (frames_of job) old new
 HasRefused job tells old new NoMemory = tells ≡ true → IsUnwritten old new
 
 -- The folder was not opened, and no source file was asked for.

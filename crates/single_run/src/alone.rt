@@ -10,7 +10,7 @@ ghost use Rattle.resume_ledger.specs.Sound.{WritesOnly};
 ghost use Rattle.reel_writer.specs.Reel.{frames_of, HasAcked, HasFrameFiles, IsReelRun, IsSoundReel};
 ghost use Rattle.scan_source.specs.World.{World};
 ghost use Rattle.reel_writer.specs.View.{IsReelOf};
-ghost use Rattle.single_run.specs.Asks.{IsRunFile, closed_frames};
+ghost use Rattle.single_run.specs.Asks.{IsNext, IsRunFile, closed_frames};
 ghost use Rattle.single_run.specs.Ends.{IsChange, IsEnd, refused_by};
 ghost use Rattle.single_run.specs.Ran.{WereFinished};
 ghost use Rattle.single_run.specs.Run.{AreAllAcked, HasWhole, IsOwnFile, MayWrite, WasOpened, WasRefused};
@@ -84,6 +84,10 @@ fn run_shared<N: Work, L: Ledger, S: Scans, D: Disk>(
         ↔ ((slice_index_or reel.old.ledger.gates k false ≡ true) ⊎ Contains reel.new.acks k) }
     ensures kept { reel.new.kept ≡ reel.old.kept }
     ensures stays_open { result.0 ≢ RunEnd.DiskFault → reel.new.ledger.closed ≡ false }
+    ensures failed { D.tells ≡ true → result.0 ≡ RunEnd.DiskFault → (k : ℕ)
+        → (IsNext reel.old.ledger.gates (frames_of N.job) (length reel.new.acks) k → ⊥)
+        → HasAcked N.job k (view_of (D.history reel.new.disk))
+        ↔ ((slice_index_or reel.old.ledger.gates k false ≡ true) ⊎ Contains reel.new.acks k) }
     ensures run { D.tells ≡ true
         → IsReelRun N.job N.files (D.history reel.old.disk) (D.history reel.new.disk) }
     ensures spares { D.tells ≡ true
@@ -132,7 +136,9 @@ fn run_opened<N: Work, L: Ledger, S: Scans, D: Disk>(
     ensures kept { result.1.kept ≡ reel.kept }
     ensures frames { result.1.frames ≡ frames_of N.job }
     ensures misses { result.1.misses ≡ result.1.loads }
-    ensures exit { D.tells ≡ true → result.0 ≢ RunEnd.DiskFault → (k : ℕ)
+    ensures exit { D.tells ≡ true → (k : ℕ)
+        → (result.0 ≡ RunEnd.DiskFault
+        → IsNext reel.ledger.gates (frames_of N.job) result.1.rendered k → ⊥)
         → HasAcked N.job k (view_of (D.history result.3))
         ↔ ((slice_index_or reel.ledger.gates k false ≡ true)
         ⊎ Contains (take result.1.rendered (closed_frames reel.ledger.gates (frames_of N.job))) k) }

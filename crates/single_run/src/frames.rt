@@ -5,9 +5,10 @@ ghost use Rattle.conform_job.specs.Answers.{AreInfosOf};
 ghost use Rattle.conform_job.specs.Job.{need_at};
 ghost use Rattle.conform_job.specs.Names.{Tells};
 ghost use Rattle.frame_render.specs.Frame.{frame_size};
+ghost use Rattle.reel_disk.specs.Disk.{view_of};
 ghost use Rattle.reel_disk.specs.Runs.{Spares};
-ghost use Rattle.reel_writer.specs.Reel.{frames_of, IsReelRun, KeepsReel};
-ghost use Rattle.single_run.specs.Asks.{IsRunFile, asks_of_frames, closed_frames, frame_if_closed, keys_of_need};
+ghost use Rattle.reel_writer.specs.Reel.{frames_of, HasAcked, IsReelRun, KeepsReel};
+ghost use Rattle.single_run.specs.Asks.{IsNext, IsRunFile, asks_of_frames, closed_frames, frame_if_closed, keys_of_need};
 ghost use Rattle.single_run.specs.Ends.{IsChange, IsEnd, IsStop};
 ghost use Rattle.single_run.specs.Ran.{IsPast, IsUnfinished, WereFinished};
 ghost use Rattle.single_run.specs.Scanned.{IsScanned};
@@ -102,6 +103,9 @@ fn run_frame<N: Work, L: Ledger, S: Scans, D: Disk>(
     ensures unfinished { OnErr result (IsUnfinished reel.old reel.new) }
     ensures stays_open { IfErr result (λ end. end ≢ RunEnd.DiskFault
         → reel.new.ledger.closed ≡ false) }
+    ensures failed { D.tells ≡ true → result ≡ Err RunEnd.DiskFault → (k : ℕ) → k ≢ i
+        → HasAcked N.job k (view_of (D.history reel.new.disk))
+        ↔ (slice_index_or reel.old.ledger.gates k false ≡ true) }
     ensures run { D.tells ≡ true
         → IsReelRun N.job N.files (D.history reel.old.disk) (D.history reel.new.disk) }
     ensures none_lost { D.tells ≡ true
@@ -172,6 +176,10 @@ pub(crate) fn run_frames<N: Work, L: Ledger, S: Scans, D: Disk>(
         ↔ ((slice_index_or reel.old.ledger.gates k false ≡ true) ⊎ Contains reel.new.acks k) }
     ensures kept { reel.new.kept ≡ reel.old.kept }
     ensures stays_open { result ≢ RunEnd.DiskFault → reel.new.ledger.closed ≡ false }
+    ensures failed { D.tells ≡ true → result ≡ RunEnd.DiskFault → (k : ℕ)
+        → (IsNext reel.old.ledger.gates (frames_of N.job) (length reel.new.acks) k → ⊥)
+        → HasAcked N.job k (view_of (D.history reel.new.disk))
+        ↔ ((slice_index_or reel.old.ledger.gates k false ≡ true) ⊎ Contains reel.new.acks k) }
     ensures run { D.tells ≡ true
         → IsReelRun N.job N.files (D.history reel.old.disk) (D.history reel.new.disk) }
     ensures spares { D.tells ≡ true

@@ -2,24 +2,26 @@ use Rattle.std.proofs.Common.{◌≡◌, ◌≢◌, ℕ, false, get_or, length, 
 use Rattle.std.specs.Prelude.{Contains, ◌⊎◌, ◌↔◌}
 use Rattle.reel_disk.specs.Disk.{view_of, moment_of}
 use Rattle.reel_writer.specs.Reel.{frames_of, HasAcked}
-use Rattle.single_run.specs.Asks.{closed_frames}
+use Rattle.single_run.specs.Asks.{IsNext, closed_frames}
 use Rattle.single_run.specs.Ran.{WereFinished}
 use Rattle.single_run.specs.Run.{AreAllAcked}
 use Rattle.single_run.specs.declared.run_end.Report.{Report}
 use Rattle.single_run.specs.declared.run_end.RunEnd.{RunEnd}
 use Rattle.single_run.specs.declared.run_end.RunEnd.TheVariants as run_end
-use Rattle.single_run.proofs.Closing.{rose_by, images_acked, exit_acked, all_done}
+use Rattle.single_run.proofs.Closing.{rose_by, images_acked, exit_of, all_done}
 use Rattle.single_run.proofs.alone.run_opened.Goals as goal
 
 pub returns-clause-exit : goal.returns-clause-exit
-returns-clause-exit g c told steady k =
+returns-clause-exit g c told k other =
     let new = c.run_shared-end.new.reel in
     let all = closed_frames c.args.reel.ledger.gates (frames_of g.N.Work.job) in
     let of = c.report_of-report.ensures.reel in
     let rendered = ap (λ (r : Report). r.rendered) c.report_of-report.ensures.report in
+    let listed = c.run_shared-end.ensures.acks ∙ ap (λ (n : ℕ). take n all) (sym rendered) in
     subst (λ d. HasAcked g.N.Work.job k (view_of (g.D.Disk.history d)) ↔ ((get_or c.args.reel.ledger.gates k false ≡ true) ⊎ Contains (take c.report_of-report.result.rendered all) k)) (sym c.close.ensures)
-    (exit_acked g.N.Work.job g.D.Disk.tells g.D.Disk.history new of (of.agrees (c.run_shared-end.ensures.stays_open steady) told) c.args.reel.ledger.gates c.run_shared-end.ensures.gates (take c.report_of-report.result.rendered all)
-    (c.run_shared-end.ensures.acks ∙ ap (λ (n : ℕ). take n all) (sym rendered)) k)
+    (exit_of g.N.Work.job g.D.Disk.tells g.D.Disk.history new of c.args.reel.ledger.gates c.run_shared-end.ensures.gates (take c.report_of-report.result.rendered all) listed k c.run_shared-end.result.0
+    (λ steady. of.agrees (c.run_shared-end.ensures.stays_open steady) told)
+    (λ failed. c.run_shared-end.ensures.failed told failed k (λ next. other failed (subst (λ n. IsNext c.args.reel.ledger.gates (frames_of g.N.Work.job) n k) (sym rendered) next))))
 
 pub returns-clause-acked : goal.returns-clause-acked
 returns-clause-acked g c done told =

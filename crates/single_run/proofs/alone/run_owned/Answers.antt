@@ -56,7 +56,7 @@ returns-in-Ok-clause-whole g c done told =
 pub returns-in-Err-clause-ran : goal.returns-in-Err-clause-ran
 returns-in-Err-clause-ran g c = inr (record {
   why = subst (λ (e : RunEnd). HasRefused g.N.Work.job g.D.Disk.tells (g.D.Disk.history c.args.disk) (g.D.Disk.history c.in-Err.disk) e) (sym c.end_of_opening.ensures.end)
-      (refused g.N.Work.job g.D.Disk.tells (g.D.Disk.history c.args.disk) (g.D.Disk.history c.in-Err.disk) c.in-Err.fault c.in-Err.ensures.known c.in-Err.ensures.answer);
+      (refused g.N.Work.job g.D.Disk.tells (g.D.Disk.history c.args.disk) (g.D.Disk.history c.in-Err.disk) c.in-Err.fault c.in-Err.ensures.known c.in-Err.ensures.answer c.in-Err.ensures.adds_none);
   kept = refl;
   rendered = refl;
   loads = (refl, refl);

@@ -29,6 +29,9 @@ run_frames-end-requires-clause-unasked g c = ap (λ (s : ShareView). s.steps) c.
 pub settle-requires : goal.settle-requires
 settle-requires g c = record { all = c.run_frames-end.ensures.parts ∙ ap (λ (t : Tally). t.parts) c.in-Ok.ensures.units }
 
+pub returns-clause-failed : goal.returns-clause-failed
+returns-clause-failed g c = c.run_frames-end.ensures.failed
+
 pub returns-clause-scan : goal.returns-clause-scan
 returns-clause-scan g c = c.run_frames-end.ensures.scan
 

@@ -9,18 +9,19 @@ use Rattle.reel_writer.specs.View.{ReelView, after_finish}
 use Rattle.single_run.specs.Asks.{IsRunFile, keys_of_need}
 use Rattle.single_run.specs.Ran.{IsPast}
 use Rattle.single_run.specs.Sharing.{HasAsked}
+use Rattle.single_run.proofs.Closing.{others_acked}
 use Rattle.single_run.proofs.Logs.{asked_is_tried, asked_none}
 use Rattle.single_run.proofs.Stepping.{past_finish, past_itself, asks_if_open, asks_if_closed, kept_itself, run_file}
 use Rattle.single_run.proofs.frames.run_frame.Goals as goal
 
 pub returns-then-is_acked-clause-past : goal.returns-then-is_acked-clause-past
-returns-then-is_acked-clause-past g c = past_itself _ _ (sym c.is_acked.ensures ∙ c.if-is_acked.true) c.requires.is_open
+returns-then-is_acked-clause-past g c = past_itself _ _ (sym c.is_acked.ensures.acked ∙ c.if-is_acked.true) c.requires.is_open
 
 pub returns-then-is_acked-clause-run : goal.returns-then-is_acked-clause-run
 returns-then-is_acked-clause-run g c told = reel_run_itself g.N.Work.job g.N.Work.files (g.D.Disk.history c.args.reel.now.disk)
 
 pub returns-then-is_acked-clause-asked : goal.returns-then-is_acked-clause-asked
-returns-then-is_acked-clause-asked g c = subst (λ (l : List Key). HasAsked c.args.share.now c.args.share.now l) (sym (asks_if_open g.N.Work.job c.args.reel.now.ledger.gates c.args.i (sym c.is_acked.ensures ∙ c.if-is_acked.true))) (asked_none c.args.share.now)
+returns-then-is_acked-clause-asked g c = subst (λ (l : List Key). HasAsked c.args.share.now c.args.share.now l) (sym (asks_if_open g.N.Work.job c.args.reel.now.ledger.gates c.args.i (sym c.is_acked.ensures.acked ∙ c.if-is_acked.true))) (asked_none c.args.share.now)
 
 pub returns-then-is_acked-clause-none_lost : goal.returns-then-is_acked-clause-none_lost
 returns-then-is_acked-clause-none_lost g c told = kept_itself g.N.Work.job (g.D.Disk.history c.args.reel.now.disk)
@@ -40,11 +41,11 @@ returns-in-Err-clause-run g c told = reel_run_itself g.N.Work.job g.N.Work.files
 pub returns-in-Ok-finish-clause-spares : goal.returns-in-Ok-finish-clause-spares
 returns-in-Ok-finish-clause-spares g c told =
     spares_wider _ _ (IsWrittenFile (file_of g.N.Work.job c.of-hashed.result.index)) (IsRunFile g.N.Work.job c.args.reel.now.ledger.gates)
-    (run_file g.N.Work.job c.args.reel.now.ledger.gates c.args.i c.of-hashed.result.index (ap (λ (f : FrameBytes). f.index) c.of-hashed.ensures ∙ c.in-Ok.ensures.index) c.requires.index (sym c.is_acked.ensures ∙ c.if-is_acked.false)) (c.finish.ensures.spares told)
+    (run_file g.N.Work.job c.args.reel.now.ledger.gates c.args.i c.of-hashed.result.index (ap (λ (f : FrameBytes). f.index) c.of-hashed.ensures ∙ c.in-Ok.ensures.index) c.requires.index (sym c.is_acked.ensures.acked ∙ c.if-is_acked.false)) (c.finish.ensures.spares told)
 
 pub returns-in-Ok-finish-clause-asked : goal.returns-in-Ok-finish-clause-asked
 returns-in-Ok-finish-clause-asked g c =
-    subst (λ (l : List Key). HasAsked c.args.share.now c.make_frame.new.share l) (sym (asks_if_closed g.N.Work.job c.args.reel.now.ledger.gates c.args.i (sym c.is_acked.ensures ∙ c.if-is_acked.false))) c.in-Ok.ensures.asked
+    subst (λ (l : List Key). HasAsked c.args.share.now c.make_frame.new.share l) (sym (asks_if_closed g.N.Work.job c.args.reel.now.ledger.gates c.args.i (sym c.is_acked.ensures.acked ∙ c.if-is_acked.false))) c.in-Ok.ensures.asked
 
 pub returns-in-Err-finish-clause-tried : goal.returns-in-Err-finish-clause-tried
 returns-in-Err-finish-clause-tried g c = asked_is_tried c.args.share.now c.make_frame.new.share (keys_of_need (need_at g.N.Work.job c.args.i)) c.in-Ok.ensures.asked
@@ -52,18 +53,18 @@ returns-in-Err-finish-clause-tried g c = asked_is_tried c.args.share.now c.make_
 pub returns-in-Err-finish-clause-spares : goal.returns-in-Err-finish-clause-spares
 returns-in-Err-finish-clause-spares g c told =
     spares_wider _ _ (IsWrittenFile (file_of g.N.Work.job c.of-hashed.result.index)) (IsRunFile g.N.Work.job c.args.reel.now.ledger.gates)
-    (run_file g.N.Work.job c.args.reel.now.ledger.gates c.args.i c.of-hashed.result.index (ap (λ (f : FrameBytes). f.index) c.of-hashed.ensures ∙ c.in-Ok.ensures.index) c.requires.index (sym c.is_acked.ensures ∙ c.if-is_acked.false)) (c.finish.ensures.spares told)
+    (run_file g.N.Work.job c.args.reel.now.ledger.gates c.args.i c.of-hashed.result.index (ap (λ (f : FrameBytes). f.index) c.of-hashed.ensures ∙ c.in-Ok.ensures.index) c.requires.index (sym c.is_acked.ensures.acked ∙ c.if-is_acked.false)) (c.finish.ensures.spares told)
 
 -- the gate was closed
 pub finish-requires-clause-fresh : goal.finish-requires-clause-fresh
 finish-requires-clause-fresh g c =
-    ap (λ (n : ℕ). get_or c.args.reel.now.ledger.gates n false) (ap (λ (f : FrameBytes). f.index) c.of-hashed.ensures ∙ c.in-Ok.ensures.index) ∙ sym c.is_acked.ensures ∙ c.if-is_acked.false
+    ap (λ (n : ℕ). get_or c.args.reel.now.ledger.gates n false) (ap (λ (f : FrameBytes). f.index) c.of-hashed.ensures ∙ c.in-Ok.ensures.index) ∙ sym c.is_acked.ensures.acked ∙ c.if-is_acked.false
 
 pub returns-in-Err-clause-shut : goal.returns-in-Err-clause-shut
-returns-in-Err-clause-shut g c = sym c.is_acked.ensures ∙ c.if-is_acked.false
+returns-in-Err-clause-shut g c = sym c.is_acked.ensures.acked ∙ c.if-is_acked.false
 
 pub returns-in-Err-finish-clause-shut : goal.returns-in-Err-finish-clause-shut
-returns-in-Err-finish-clause-shut g c = sym c.is_acked.ensures ∙ c.if-is_acked.false
+returns-in-Err-finish-clause-shut g c = sym c.is_acked.ensures.acked ∙ c.if-is_acked.false
 
 -- and is open once the frame is finished
 pub returns-in-Ok-finish-clause-past : goal.returns-in-Ok-finish-clause-past
@@ -74,7 +75,15 @@ returns-in-Ok-finish-clause-past g c =
     let within = c.requires.index in
     let size = c.requires.size in
     subst (λ (r : ReelView _). IsPast c.args.i old r) (sym c.in-Ok-finish.ensures.finished)
-    (subst (λ (n : ℕ). IsPast c.args.i old (after_finish old n disk)) (sym same) (past_finish old c.args.i disk (sym c.is_acked.ensures ∙ c.if-is_acked.false) (omega (arith, within, size)) c.requires.is_open))
+    (subst (λ (n : ℕ). IsPast c.args.i old (after_finish old n disk)) (sym same) (past_finish old c.args.i disk (sym c.is_acked.ensures.acked ∙ c.if-is_acked.false) (omega (arith, within, size)) c.requires.is_open))
+
+-- where its finish failed, all other frames are acknowledged as their gates say
+pub returns-in-Err-finish-clause-failed : goal.returns-in-Err-finish-clause-failed
+returns-in-Err-finish-clause-failed g c told failed k other =
+    let of = c.is_acked.ensures.reel in
+    let same = ap (λ (f : FrameBytes). f.index) c.of-hashed.ensures ∙ c.in-Ok.ensures.index in
+    others_acked g.N.Work.job g.D.Disk.tells g.D.Disk.history c.args.reel.now of (of.agrees c.requires.is_open told) c.of-hashed.result.index (g.D.Disk.history c.finish.new.self.disk) (c.finish.ensures.run told).extends.later (c.finish.ensures.others told) k
+    (λ is. other (is ∙ same))
 
 -- nothing is said of these where the disk failed
 pub returns-in-Err-finish-clause-past : goal.returns-in-Err-finish-clause-past

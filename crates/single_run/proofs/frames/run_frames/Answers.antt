@@ -4,12 +4,12 @@ use Rattle.frame_render.specs.Frame.{frame_size}
 use Rattle.reel_disk.proofs.Sparing.{spares_itself, spares_along, spares_wider}
 use Rattle.reel_writer.specs.Reel.{frames_of}
 use Rattle.reel_writer.proofs.ReelLaws.{reel_run_itself, reel_run_along}
-use Rattle.single_run.specs.Asks.{IsRunFile, asks_of_frames, closed_frames}
+use Rattle.single_run.specs.Asks.{IsNext, IsRunFile, asks_of_frames, closed_frames}
 use Rattle.single_run.specs.Ran.{ArePast, WereFinished}
 use Rattle.single_run.specs.Sharing.{IsPaired, asks_of}
 use Rattle.single_run.specs.declared.run_end.RunEnd.TheVariants as end
 use Rattle.single_run.proofs.Logs.{asks_along, paired_along}
-use Rattle.single_run.proofs.Running.{acks_are, all_finished, asks_more, asks_first, taken, stopped, unbegun, gates_are, run_file_along, acks_then, gates_then, kept_then, err_same, not_done}
+use Rattle.single_run.proofs.Running.{acked_then, acks_are, is_next, all_finished, asks_more, asks_first, taken, stopped, unbegun, gates_are, run_file_along, acks_then, gates_then, kept_then, err_same, not_done}
 use Rattle.single_run.proofs.Scanning.{scanned_itself, scanned_as, scanned_along}
 use Rattle.single_run.proofs.Stepping.{past_none, past_more, gate_still, if_still}
 use Rattle.single_run.proofs.frames.run_frames.Goals as goal
@@ -94,6 +94,17 @@ returns-in-Err-run_frame-clause-acks g c =
 
 pub returns-in-Err-run_frame-clause-gates : goal.returns-in-Err-run_frame-clause-gates
 returns-in-Err-run_frame-clause-gates g c = gates_then c.args.reel.now c.loop-i.reel c.loop-i.i c.requires.none c.loop-i.invariant.past c.run_frame.new.reel c.in-Err-run_frame.ensures.unfinished
+
+pub returns-in-Err-run_frame-clause-failed : goal.returns-in-Err-run_frame-clause-failed
+returns-in-Err-run_frame-clause-failed g c told failed k other =
+    let inv = c.loop-i.invariant in
+    let lt : c.loop-i.i < c.count-i-end.result = c.loop-i-test.true in
+    let all = inv.ending in
+    let unfinished = c.in-Err-run_frame.ensures.unfinished in
+    let shut = sym (gate_still c.args.reel.now c.loop-i.reel c.loop-i.i inv.past) ∙ c.in-Err-run_frame.ensures.shut in
+    let next = is_next c.args.reel.now.ledger.gates (frames_of g.N.Work.job) c.loop-i.i (length c.run_frame.new.reel.acks) (omega (arith, lt, all)) shut (ap length (acks_then c.args.reel.now c.loop-i.reel c.loop-i.i c.requires.none inv.past c.run_frame.new.reel unfinished)) in
+    acked_then c.args.reel.now c.loop-i.reel c.loop-i.i c.requires.none inv.past c.run_frame.new.reel unfinished _ k
+    (c.in-Err-run_frame.ensures.failed told (ap Err failed) k (λ is. other (subst (λ n. IsNext c.args.reel.now.ledger.gates (frames_of g.N.Work.job) (length c.run_frame.new.reel.acks) n) (sym is) next)))
 
 pub returns-in-Err-run_frame-clause-kept : goal.returns-in-Err-run_frame-clause-kept
 returns-in-Err-run_frame-clause-kept g c = kept_then c.args.reel.now c.loop-i.reel c.loop-i.i c.requires.none c.loop-i.invariant.past c.run_frame.new.reel c.in-Err-run_frame.ensures.unfinished
