@@ -1,5 +1,5 @@
 //! The types that the crates of the conform station share: texts, numbers, timing, edit lists, lines and tokens of a
-//! text, names of files, and the sink that takes output.
+//! text, names of files, reading, and the sink that takes output.
 #![tactic(auto)]
 
 mod digits;
@@ -11,6 +11,7 @@ mod inline;
 mod key;
 mod lines;
 mod pixel;
+mod reading;
 mod reel;
 mod sink;
 mod text;
@@ -25,6 +26,7 @@ pub use fixed::{Fixed, FixedFault, read_fixed};
 pub use key::Key;
 pub use lines::{LineSpan, Span, line_at, lines_in_turn};
 pub use pixel::Rgb;
+pub use reading::fill;
 pub use reel::{ReelEntry, ReelRows};
 pub use sink::{MemorySink, Put, Sink, StreamSink};
 pub use text::{Name, PathText, TitleText};

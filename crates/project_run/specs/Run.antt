@@ -4,6 +4,7 @@
 --     IsUnplanned      it came to none, and the folder is as it was
 use Rattle.std.specs.Prelude.{◌≡◌, ◌⊎◌, ℕ, ◌+◌, ◌≤◌, Bool, true, List, [], ◌∷◌, ◌++◌, codes, decimal, slice_get, unwrap_or, Option, Some, IfSome, Ok, Err}
 use Rattle.std.specs.Option.{option_map}
+use Rattle.cf_base.specs.Count.{HasRisen}
 use Rattle.cf_base.specs.declared.reel.ReelEntry.{ReelEntry}
 use Rattle.scan_source.specs.World.{World, file_at}
 use Rattle.frame_share.specs.declared.step.ShareStep.{ShareStep}
@@ -14,6 +15,7 @@ use Rattle.reel_writer.specs.Reel.{frames_of, HasFrameFiles, IsReelRun, IsSoundR
 use Rattle.conform_job.specs.Answers.{count_after}
 use Rattle.conform_job.specs.Job.{JobData}
 use Rattle.conform_job.specs.Keys.{info_at}
+use Rattle.single_run.specs.Ends.{IsChange}
 use Rattle.single_run.specs.Run.{WasOpened, WasRefused, AreAllAcked, HasWhole, IsOwnFile, MayWrite}
 use Rattle.single_run.specs.declared.run_end.Report.{Report}
 use Rattle.single_run.specs.declared.run_end.RunEnd.{RunEnd}
@@ -89,6 +91,8 @@ pub record IsJobRun (job : JobData) (told : Option World) (share : ℕ) (disk di
   -- what it wrote: of the ledger's files those of version 2 alone
   pub writes : disk.tells ≡ true → WritesOnly disk.history disk_after.history (MayWrite job (view_of disk.history))
   pub loaded : loads_after ≡ count_after report.loads loads
+  -- a source file that changed was loaded
+  pub changed : IsChange how → HasRisen loads loads_after
 
 -- The project came to this job, which was run in the folder.
 pub record HasRun (told : Option World) (path : List ℕ) (share : ℕ) (disk disk_after : DiskState) (loads loads_after : ℕ) (reached : Outcome) (output : List ℕ) : Type 0 where
