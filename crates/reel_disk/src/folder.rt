@@ -5,10 +5,10 @@ ghost use Rattle.cf_base.specs.Count.{HasCause};
 use crate::names::{LONGEST_NAME, name_of};
 use crate::{Did, Disk, Got, Length};
 use arrayvec::ArrayString;
-use cf_base::{FileId, PathText};
+use cf_base::{FileId, PathText, fill, is_same_file};
 use std::fmt::Write as _;
 use std::fs::{self, OpenFile, OpenOptions};
-use std::io::{self, ErrorKind, Read, Seek, SeekFrom, Write};
+use std::io::{self, ErrorKind, Seek, SeekFrom, Write};
 use std::path::Path;
 use std::rt::Files;
 
@@ -17,47 +17,24 @@ const LONGEST: usize = 255 + 1 + LONGEST_NAME;
 
 /// The files of one folder of a real file system. It does not tell what they hold.
 ///
-/// The folder is made at the first write, where it is not there, and never before. A sync syncs the file and then the
-/// folder. A file without a name, any answer of the system but "not found", and a folder or another thing in a file's
-/// place are faults.
+/// The folder is made at the first write, where it is not there, and never before. A sync syncs the file, over the very
+/// handle that wrote it last, and then the folder; the first one that finds the folder there syncs the folder that it lies
+/// in, too, so that it isn't lost by itself, whoever made it. A file without a name, any answer of the system but "not
+/// found", and a folder, a pipe or another thing in a file's place are faults; such a thing isn't opened.
 #[derive(Drop)]
 pub struct FolderDisk<R: Files + Drop> {
     rt: R,
     folder: PathText,
     faults: u64,
+    /// The file that was written last, where it wasn't synced since.
+    written: Option<(FileId, R::File)>,
+    /// Whether the folder's own name was synced.
+    is_named: bool,
 }
 
 /// The file has no path.
 fn no_path() -> io::Error {
     io::Error::from(ErrorKind::InvalidInput)
-}
-
-/// Reads as far as the file goes and `into` takes.
-fn fill<F: Read>(file: &mut F, into: &mut [u8]) -> io::Result<usize>
-    ensures { IfOk result (λ n. n ≤ length into.old) }
-{
-    let mut filled = 0;
-    while filled < into.len() {
-        let count = read_some(file, &mut into[filled..])?;
-        if count == 0 {
-            break;
-        }
-        filled += count;
-    }
-    Ok(filled)
-}
-
-/// One read, which is tried again where it is interrupted.
-fn read_some<F: Read>(file: &mut F, into: &mut [u8]) -> io::Result<usize>
-    ensures { IfOk result (λ n. n ≤ length into.new) }
-{
-    for _ in 0..u64::MAX {
-        match file.read(into) {
-            Err(error) if error.kind() == ErrorKind::Interrupted => {}
-            answer => return answer,
-        }
-    }
-    Err(io::Error::from(ErrorKind::Interrupted))
 }
 
 impl<R: Files + Drop> FolderDisk<R> {
@@ -69,6 +46,8 @@ impl<R: Files + Drop> FolderDisk<R> {
             rt,
             folder,
             faults: 0,
+            written: None,
+            is_named: false,
         }
     }
 
@@ -94,12 +73,17 @@ impl<R: Files + Drop> FolderDisk<R> {
     /// Opens a file that is there.
     fn open(&self, id: FileId, write: bool) -> io::Result<R::File> {
         let path = self.path(id)?;
-        let file = OpenOptions::new()
+        self.has_file(path.as_str())?;
+        OpenOptions::new()
             .read(!write)
             .write(write)
-            .open(&self.rt, path.as_str())?;
-        if file.metadata()?.is_file() {
-            Ok(file)
+            .open(&self.rt, path.as_str())
+    }
+
+    /// That a file is there, and nothing else in its place.
+    fn has_file(&self, path: &str) -> io::Result<()> {
+        if fs::metadata(&self.rt, path)?.is_file() {
+            Ok(())
         } else {
             Err(io::Error::from(ErrorKind::IsADirectory))
         }
@@ -110,22 +94,31 @@ impl<R: Files + Drop> FolderDisk<R> {
         opened.sync_all()
     }
 
-    /// Makes the folder, and keeps it in the folder that it lies in.
-    fn make_folder(&self) -> io::Result<()> {
-        let folder = self.folder()?;
-        fs::create_dir(&self.rt, folder)?;
-        match Path::new(folder).parent() {
-            Some(parent) => match parent.to_str() {
-                Some("") | None => self.sync_folder("."),
-                Some(parent) => self.sync_folder(parent),
-            },
-            None => Ok(()),
+    /// Syncs the folder that the folder lies in, unless that is done.
+    fn keep_name(&mut self) -> io::Result<()>
+        ensures { self.new.faults ≡ self.old.faults }
+    {
+        if self.is_named {
+            return Ok(());
         }
+        match Path::new(self.folder()?).parent() {
+            Some(parent) => match parent.to_str() {
+                Some("") | None => self.sync_folder(".")?,
+                Some(parent) => self.sync_folder(parent)?,
+            },
+            None => {}
+        }
+        self.is_named = true;
+        Ok(())
     }
 
     /// Opens a file without its bytes, and makes it where it is not there, and its folder too.
     fn make(&self, id: FileId) -> io::Result<R::File> {
         let path = self.path(id)?;
+        match self.has_file(path.as_str()) {
+            Err(refused) if refused.kind() != ErrorKind::NotFound => return Err(refused),
+            _ => {}
+        }
         let mut options = OpenOptions::new();
         options.write(true).create(true).truncate(true);
         match options.open(&self.rt, path.as_str()) {
@@ -134,7 +127,7 @@ impl<R: Files + Drop> FolderDisk<R> {
                 if refused.kind() != ErrorKind::NotFound {
                     return Err(refused);
                 }
-                self.make_folder()?;
+                fs::create_dir(&self.rt, self.folder()?)?;
                 options.open(&self.rt, path.as_str())
             }
         }
@@ -152,35 +145,48 @@ impl<R: Files + Drop> FolderDisk<R> {
         fill(&mut file, into)
     }
 
-    fn store(&self, id: FileId, bytes: &[u8]) -> io::Result<()> {
+    fn store(&mut self, id: FileId, bytes: &[u8]) -> io::Result<()>
+        ensures { self.new.faults ≡ self.old.faults }
+    {
         let mut file = self.make(id)?;
-        file.write_all(bytes)
+        file.write_all(bytes)?;
+        self.written = Some((id, file));
+        Ok(())
     }
 
-    fn patch(&self, id: FileId, start: u64, bytes: &[u8]) -> io::Result<()> {
+    fn patch(&mut self, id: FileId, start: u64, bytes: &[u8]) -> io::Result<()>
+        ensures { self.new.faults ≡ self.old.faults }
+    {
         let mut file = self.open(id, true)?;
         file.seek(SeekFrom::Start(start))?;
-        file.write_all(bytes)
+        file.write_all(bytes)?;
+        self.written = Some((id, file));
+        Ok(())
     }
 
-    fn keep(&self, id: FileId) -> io::Result<()> {
-        match self.open(id, false) {
-            Ok(file) => file.sync_all()?,
-            Err(refused) => {
-                if refused.kind() != ErrorKind::NotFound {
-                    return Err(refused);
-                }
-            }
+    /// Syncs a file, where it is there.
+    fn keep_file(&mut self, id: FileId) -> io::Result<()>
+        ensures { self.new.faults ≡ self.old.faults }
+    {
+        match self.written.take() {
+            Some((written, file)) if is_same_file(written, id) => return file.sync_all(),
+            _ => {}
         }
+        match self.open(id, false) {
+            Ok(file) => file.sync_all(),
+            Err(refused) if refused.kind() == ErrorKind::NotFound => Ok(()),
+            Err(refused) => Err(refused),
+        }
+    }
+
+    fn keep(&mut self, id: FileId) -> io::Result<()>
+        ensures { self.new.faults ≡ self.old.faults }
+    {
+        self.keep_file(id)?;
         match self.sync_folder(self.folder()?) {
-            Ok(()) => Ok(()),
-            Err(refused) => {
-                if refused.kind() == ErrorKind::NotFound {
-                    Ok(())
-                } else {
-                    Err(refused)
-                }
-            }
+            Ok(()) => self.keep_name(),
+            Err(refused) if refused.kind() == ErrorKind::NotFound => Ok(()),
+            Err(refused) => Err(refused),
         }
     }
 

@@ -2,7 +2,7 @@
 ghost use Rattle.std.specs.Prelude.{◌≡◌, ◌≤◌, [], None, IfOk, IfSome, length, min, vec_len, refl};
 
 use crate::{Head, Loaded, Scans};
-use cf_base::PathText;
+use cf_base::{PathText, fill};
 use std::fs::{self, OpenFile};
 use std::io::{ErrorKind, Read};
 use std::rt::Files;
@@ -50,7 +50,6 @@ impl<R: Files + Drop> Scans for FileScans<R> {
 
     fn load(&mut self, path: &PathText, most: u64, into: &mut Vec<u8>) -> Loaded {
         self.loads = self.loads.saturating_add(1);
-        into.clear();
         let trouble = match load_file(&self.rt, path, most, into) {
             Ok(len) => return Loaded::Got { len },
             Err(trouble) => trouble,
@@ -92,20 +91,24 @@ enum Trouble {
 }
 
 /// Reads the first `most` bytes, and tells the file's length. After an error `into` has some of them.
+///
+/// The bytes are read straight into the buffer, whose old content is overwritten and not cleared before.
 fn load_file<R: Files>(
     rt: &R,
     path: &PathText,
     most: u64,
     into: &mut Vec<u8>,
 ) -> Result<u64, Trouble>
-    requires { into.old.items ≡ [] }
     ensures { IfOk result (λ len. vec_len into.new ≡ min len most) }
 {
     let (mut file, len) = open(rt, path)?;
-    if into.reserve(len.min(most) as usize).is_err() {
+    if into.resize(len.min(most) as usize, 0).is_err() {
         return Err(Trouble::NoMemory);
     }
-    read_front(&mut file, most, into)?;
+    read_told(&mut file, into)?;
+    if into.len() as u64 == len.min(most) {
+        read_more(&mut file, most, into)?;
+    }
     let read = into.len() as u64;
     if read < most {
         Ok(read)
@@ -118,7 +121,7 @@ fn load_file<R: Files>(
 fn load_head<R: Files>(rt: &R, path: &PathText, into: &mut [u8; 2048]) -> Result<u64, Trouble> {
     let (mut file, len) = open(rt, path)?;
     *into = [0; 2048];
-    let read = fill(&mut file, into)?;
+    let read = read_into(&mut file, into)?;
     if read < into.len() {
         Ok(read as u64)
     } else {
@@ -142,15 +145,24 @@ fn open<R: Files>(rt: &R, path: &PathText) -> Result<(R::File, u64), Trouble> {
     }
 }
 
-/// Appends what is left of the file, up to `most` bytes in all.
-fn read_front<F: Read>(file: &mut F, most: u64, into: &mut Vec<u8>) -> Result<(), Trouble>
+/// Reads as many bytes as the buffer has, and makes it as short as the file is where there are fewer.
+fn read_told<F: Read>(file: &mut F, into: &mut Vec<u8>) -> Result<(), Trouble>
+    ensures { vec_len into.new ≤ vec_len into.old }
+{
+    let read = read_into(file, into)?;
+    into.truncate(read);
+    Ok(())
+}
+
+/// Appends what the file has more than the system told, up to `most` bytes in all.
+fn read_more<F: Read>(file: &mut F, most: u64, into: &mut Vec<u8>) -> Result<(), Trouble>
     requires { vec_len into.old ≤ most }
     ensures { vec_len into.new ≤ most }
 {
     let mut piece = [0; PIECE];
     while (into.len() as u64) < most {
         let wanted = (most - into.len() as u64).min(PIECE as u64) as usize;
-        let count = fill(file, &mut piece[..wanted])?;
+        let count = read_into(file, &mut piece[..wanted])?;
         if into.extend_from_slice(&piece[..count]).is_err() {
             return Err(Trouble::NoMemory);
         }
@@ -161,31 +173,12 @@ fn read_front<F: Read>(file: &mut F, most: u64, into: &mut Vec<u8>) -> Result<()
     Ok(())
 }
 
-/// Reads until the buffer is full or the file ends, and tells how many bytes came.
-fn fill<F: Read>(file: &mut F, into: &mut [u8]) -> Result<usize, Trouble>
+/// The next bytes of a file, as many as there are and the buffer takes.
+fn read_into<F: Read>(file: &mut F, into: &mut [u8]) -> Result<usize, Trouble>
     ensures { IfOk result (λ count. count ≤ length into.new) }
 {
-    let mut filled = 0;
-    while filled < into.len() {
-        let count = read_some(file, &mut into[filled..])?;
-        if count == 0 {
-            break;
-        }
-        filled += count;
+    match fill(file, into) {
+        Ok(count) => Ok(count),
+        Err(_) => Err(Trouble::Failed),
     }
-    Ok(filled)
-}
-
-/// One read, which is tried again where it is interrupted.
-fn read_some<F: Read>(file: &mut F, into: &mut [u8]) -> Result<usize, Trouble>
-    ensures { IfOk result (λ count. count ≤ length into.new) }
-{
-    for _ in 0..u64::MAX {
-        match file.read(into) {
-            Ok(count) => return Ok(count),
-            Err(error) if error.kind() == ErrorKind::Interrupted => {}
-            Err(_) => return Err(Trouble::Failed),
-        }
-    }
-    Err(Trouble::Failed)
 }

@@ -1,9 +1,0 @@
--- Each turn fills more.
-use Rattle.std.proofs.Common.{◌-◌, ◌≤◌, length}
-use Rattle.scan_source.proofs.system.fill.Given as goal
-
-abbrev pub invariant-loop-filled : goal.invariant-loop-filled
-invariant-loop-filled g l = l.filled ≤ length l.into
-
-abbrev pub decreases-loop-filled : goal.decreases-loop-filled
-decreases-loop-filled g l = length l.into - l.filled
