@@ -1,13 +1,13 @@
 /* An allocator that refuses one request for memory, for tests/real/memory: preloaded, it stands before the C library's. The
  * variable REFUSE is the number of the request that finds no memory, from 1, and with REFUSE_ALL set all later ones find none
- * either. Where the variable COUNT names a file, the number of requests is written there at the end. Requests that the library
- * makes before the first one of the program are numbered too: they come in the same order each time. */
+ * either. The file that REFUSED names is made at that moment, so that it is known whether there was such a request. */
 #define _GNU_SOURCE
 #include <errno.h>
+#include <fcntl.h>
 #include <stdatomic.h>
 #include <stddef.h>
-#include <stdio.h>
 #include <stdlib.h>
+#include <unistd.h>
 
 extern void *__libc_malloc(size_t);
 extern void *__libc_calloc(size_t, size_t);
@@ -23,19 +23,17 @@ __attribute__((constructor)) static void begin(void) {
     refuse_all = getenv("REFUSE_ALL") != NULL;
 }
 
-__attribute__((destructor)) static void end(void) {
-    const char *path = getenv("COUNT");
-    FILE *file = path ? fopen(path, "w") : NULL;
-    if (file) {
-        fprintf(file, "%lu\n", (unsigned long)requests);
-        fclose(file);
-    }
+static void tell(void) {
+    const char *path = getenv("REFUSED");
+    int file = path ? open(path, O_WRONLY | O_CREAT, 0600) : -1;
+    if (file >= 0) close(file);
 }
 
 static int is_refused(void) {
     unsigned long number = atomic_fetch_add(&requests, 1) + 1;
     if (!refused_at) return 0;
     if (number == refused_at || (refuse_all && number > refused_at)) {
+        if (number == refused_at) tell();
         errno = ENOMEM;
         return 1;
     }

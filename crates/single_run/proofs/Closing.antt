@@ -1,5 +1,5 @@
 -- What the folder acknowledges where a run ends.
-use Rattle.std.proofs.Common.{◌≡◌, ◌≢◌, inl, inr, ℕ, zero, suc, ◌<◌, ◌≤◌, Bool, true, false, List, length, take, get_or, refl, sym, ◌∙◌, ap, subst, arith}
+use Rattle.std.proofs.Common.{◌≡◌, ◌≢◌, inl, inr, ℕ, zero, suc, ◌<◌, ◌≤◌, Bool, true, false, List, [], length, take, get_or, refl, sym, ◌∙◌, ap, subst, arith}
 use Rattle.std.specs.Prelude.{Contains, ◌⊎◌, ◌↔◌, Option, Some, None, IfSome}
 use Rattle.std.proofs.lemmas.List.Sums.{count_by-le-length}
 use Rattle.cf_base.specs.Count.{HasRisen}
@@ -21,9 +21,10 @@ use Rattle.reel_writer.specs.Reel.{frames_of, HasAcked, HasFrameFiles, IsReelRun
 use Rattle.reel_writer.specs.View.{ReelView, IsReelOf}
 use Rattle.single_run.specs.Asks.{IsRunFile, closed_frames}
 use Rattle.single_run.specs.Ends.{refused_by}
-use Rattle.single_run.specs.Run.{AreAllAcked, HasKept, HasRefused, HasWhole, IsOwnFile, IsUnkeptFile, IsWhole, MayWrite}
+use Rattle.single_run.specs.Run.{AreAllAcked, HasKept, HasRefused, HasWhole, IsOwnFile, IsUnkeptFile, IsWhole, MayWrite, WasRefused}
 use Rattle.conform_job.specs.Answers.{count_after}
 use Rattle.single_run.specs.Ran.{WereFinished}
+use Rattle.single_run.specs.declared.run_end.Report.{Report}
 use Rattle.single_run.specs.declared.run_end.RunEnd.{RunEnd}
 use Rattle.single_run.specs.declared.run_end.RunEnd.TheVariants.{Done, OtherJob, BadLedger, Changed, SourceFault, DiskFault, NoMemory}
 use Rattle.single_run.proofs.Running.{taken}
@@ -126,12 +127,23 @@ module _ (job : JobData) (gates : List Bool) (before : Files) (opening : (k : �
   own_written (inr frame) = inr (unkept frame)
 
 -- why a folder was not opened
-pub refused : (job : JobData) (tells : Bool) (old new : History) (fault : OpenFault) → IsRefusalFor job.parts.digest fault → (tells ≡ true → IsRefused job.parts.digest (frames_of job) old new fault) → (tells ≡ true → AddsNone job.parts.digest (frames_of job) old new)
+refused : (job : JobData) (tells : Bool) (old new : History) (fault : OpenFault) → IsRefusalFor job.parts.digest fault → (tells ≡ true → IsRefused job.parts.digest (frames_of job) old new fault) → (tells ≡ true → AddsNone job.parts.digest (frames_of job) old new)
     → HasRefused job tells old new (refused_by fault)
 refused job tells old new (open_fault.OtherJob kept wanted) known is adds = (known.0, known.1, is)
 refused job tells old new (open_fault.BadLedger len) known is adds = is
 refused job tells old new open_fault.DiskFault known is adds = adds
 refused job tells old new open_fault.NoMemory known is adds = is
+
+pub was_refused : (job : JobData) (tells : Bool) (old new : History) (fault : OpenFault) (end : RunEnd) (report : Report) (log : List ShareStep) → end ≡ refused_by fault
+    → IsRefusalFor job.parts.digest fault → (tells ≡ true → IsRefused job.parts.digest (frames_of job) old new fault) → (tells ≡ true → AddsNone job.parts.digest (frames_of job) old new)
+    → (report.kept ≡ 0) × (report.rendered ≡ 0) → (report.loads ≡ 0) × (report.misses ≡ 0) → log ≡ [] → WasRefused job tells old new end report log
+was_refused job tells old new fault end report log ends known is adds none loads unasked = record {
+  why = subst (HasRefused job tells old new) (sym ends) (refused job tells old new fault known is adds);
+  kept = none.0;
+  rendered = none.1;
+  loads = loads;
+  unasked = unasked;
+}
 
 -- a count of loads that went up has risen
 pub loads_rose : (more before : ℕ) → 1 ≤ more → HasRisen before (count_after more before)

@@ -8,10 +8,9 @@ use Rattle.resume_ledger.proofs.Reading.{spares_writes, writes_along}
 use Rattle.reel_writer.proofs.ReelLaws.{reel_run_along}
 use Rattle.single_run.specs.Asks.{IsRunFile}
 use Rattle.single_run.specs.Ends.{refused_by}
-use Rattle.single_run.specs.Run.{HasRefused, IsOwnFile, MayWrite}
-use Rattle.single_run.specs.declared.run_end.RunEnd.{RunEnd}
+use Rattle.single_run.specs.Run.{IsOwnFile, MayWrite}
 use Rattle.single_run.specs.declared.run_end.RunEnd.TheVariants as run_end
-use Rattle.single_run.proofs.Closing.{opened_has, own_file, own_written, refused, whole_reel, writes_wider}
+use Rattle.single_run.proofs.Closing.{opened_has, own_file, own_written, was_refused, whole_reel, writes_wider}
 use Rattle.single_run.proofs.alone.run_owned.Goals as goal
 
 pub returns-in-Ok-clause-ran : goal.returns-in-Ok-clause-ran
@@ -54,14 +53,8 @@ returns-in-Ok-clause-whole g c done told =
     (reel_run_along g.N.Work.job g.N.Work.files _ _ _ (c.in-Ok.ensures.run told) (c.run_opened-end.ensures.run told) ((c.run_opened-end.ensures.run told).keeps opened)) (c.run_opened-end.ensures.acked done told)
 
 pub returns-in-Err-clause-ran : goal.returns-in-Err-clause-ran
-returns-in-Err-clause-ran g c = inr (record {
-  why = subst (λ (e : RunEnd). HasRefused g.N.Work.job g.D.Disk.tells (g.D.Disk.history c.args.disk) (g.D.Disk.history c.in-Err.disk) e) (sym c.end_of_opening.ensures.end)
-      (refused g.N.Work.job g.D.Disk.tells (g.D.Disk.history c.args.disk) (g.D.Disk.history c.in-Err.disk) c.in-Err.fault c.in-Err.ensures.known c.in-Err.ensures.answer c.in-Err.ensures.adds_none);
-  kept = refl;
-  rendered = refl;
-  loads = (refl, refl);
-  unasked = c.requires.unasked;
-})
+returns-in-Err-clause-ran g c =
+    inr (was_refused g.N.Work.job g.D.Disk.tells (g.D.Disk.history c.args.disk) (g.D.Disk.history c.in-Err.disk) c.in-Err.fault _ _ _ c.end_of_opening.ensures.end c.in-Err.ensures.known c.in-Err.ensures.answer c.in-Err.ensures.adds_none (refl, refl) (refl, refl) c.requires.unasked)
 
 pub returns-in-Err-clause-spares : goal.returns-in-Err-clause-spares
 returns-in-Err-clause-spares g c told = spares_wider _ _ IsLedgerFile (IsOwnFile g.N.Work.job (view_of (g.D.Disk.history c.args.disk))) (λ q own. inl own) (c.in-Err.ensures.spares told)

@@ -1,4 +1,5 @@
 use Rattle.std.proofs.Common.{◌≡◌, ◌∙◌, ◌≤◌, Vec, ap, arith, inl, min, refl, sym, subst, vec_len}
+use Rattle.std.specs.Prelude.{MatchOption}
 use Rattle.std.specs.declared.alloc.Global.{Global}
 use Rattle.reel_disk.specs.Disk.{view_of}
 use Rattle.reel_disk.specs.Runs.{Spares}
@@ -7,9 +8,9 @@ use Rattle.render_board.specs.History.{first_why, is_disk, stops_of}
 use Rattle.resume_ledger.specs.Ledger.{IsLedgerFile, IsWrittenLedgerFile}
 use Rattle.resume_ledger.specs.Sound.{WritesOnly}
 use Rattle.station.specs.Crews.{AreWorked, IsCrewRun, IsUnstepped, WasCrewed}
-use Rattle.single_run.specs.Run.{IsOwnFile, MayWrite}
+use Rattle.single_run.specs.Run.{IsOwnFile, MayWrite, WasRefused}
 use Rattle.single_run.specs.declared.run_end.RunEnd.TheVariants as ends
-use Rattle.single_run.proofs.Closing.{whole_reel, writes_wider}
+use Rattle.single_run.proofs.Closing.{was_refused, whole_reel, writes_wider}
 use Rattle.station.proofs.Crewing.{by_steps, crew_run, crew_spares, crew_writes, crewed, with_steps}
 use Rattle.station.proofs.Gathering.{end_disk, unworked}
 use Rattle.shared_station.proofs.Opening.{beginning}
@@ -30,6 +31,14 @@ returns-in-Err-clause-scans g c =
     let met = g.met.S.Scans g.world.𝓛 g.world.𝓜 g.world.𝓡 ((λ s x. x), (λ x. x), (λ x. x), (λ x. x)) in
     unworked g.S.Scans.world g.S.Scans.faults g.S.Scans.loads g.S.Scans.same met.same_refl _ _ _ _ _ (ap (λ (v : Vec _ Global). v.items) c.unmade.ensures.scans) c.unmade.ensures.loads.0
     (λ is. c.end_of_opening.ensures.refused.1 (sym c.unmade.ensures.end ∙ is))
+
+pub returns-in-Err-clause-ran : goal.returns-in-Err-clause-ran
+returns-in-Err-clause-ran g c =
+    let made = c.unmade.ensures in
+    let was = was_refused g.N.Work.job g.D.Disk.tells (g.D.Disk.history c.args.disk) (g.D.Disk.history c.in-Err.disk) c.in-Err.fault _ _ _ (made.end ∙ c.end_of_opening.ensures.end) c.in-Err.ensures.known c.in-Err.ensures.answer c.in-Err.ensures.adds_none made.kept made.loads made.log in
+    let crew = c.unmade.result in
+    subst (λ steps. MatchOption steps (IsUnstepped g.N.Work.job g.D.Disk.tells (g.D.Disk.history c.args.disk) (g.D.Disk.history crew.disk) crew.end crew.report crew.log) (λ all. WasCrewed g.N.Work.job g.N.Work.files g.D.Disk.tells (g.D.Disk.history c.args.disk) (g.D.Disk.history crew.disk) all crew.end crew.report crew.log)) (sym made.history)
+    (inl (subst (λ d. WasRefused g.N.Work.job g.D.Disk.tells (g.D.Disk.history c.args.disk) (g.D.Disk.history d) c.unmade.result.end c.unmade.result.report c.unmade.result.log) (sym made.disk) was))
 
 pub returns-in-Err-clause-sound_has : goal.returns-in-Err-clause-sound_has
 returns-in-Err-clause-sound_has g c = c.in-Err.ensures.sound_has
