@@ -1,10 +1,12 @@
 //! Where the output of a command goes.
-ghost use Rattle.std.specs.Prelude.{◌≡◌, ◌≤◌, ℕ, List, [], Option, Some};
+ghost use Rattle.std.specs.Prelude.{◌≡◌, ◌≤◌, ℕ, true, false, List, [], ◌++◌, take, Option, Some, IfOk};
 ghost use Rattle.cf_base.specs.Count.{HasRisen};
 ghost use Rattle.std.specs.Io.KnownBytes.{Appends};
+ghost use Rattle.cf_base.specs.MemorySink.{plan_of, written_in, faults_in, next_put, fails_next, after_put, IsPut};
 ghost use Rattle.cf_base.specs.Sink.{AppendsPrefix};
 ghost use Rattle.cf_base.specs.declared.sink.Put.TheVariants.{All, Failed};
 
+use crate::{Fail, Never};
 use std::alloc::Global;
 use std::io::Write;
 
@@ -34,23 +36,35 @@ pub trait Sink {
         ensures later { faults self.old ≤ faults self.new };
 }
 
-/// A sink in memory, which tells its bytes. A growth that finds no memory is a fault.
+/// A sink in memory, which tells its bytes. A growth that finds no memory is a fault, and so is each put that fails by its
+/// number.
 #[derive(Drop)]
 pub struct MemorySink {
     bytes: Vec<u8>,
+    fails: Vec<u64>,
+    keep: u64,
+    puts: u64,
     faults: u64,
 }
 
 impl MemorySink {
-    /// An empty sink.
+    /// An empty sink, of which no put fails by its number.
     pub fn new(alloc: Global) -> Self
         ensures written { ⟦<MemorySink as Sink>⟧.written result ≡ Some [] }
         ensures faults { ⟦<MemorySink as Sink>⟧.faults result ≡ 0 }
+        ensures plan { plan_of result ≡ record { puts = 0; fails = []; keep = 0 } }
     {
-        MemorySink {
-            bytes: Vec::new(alloc),
-            faults: 0,
-        }
+        empty_sink(alloc, Vec::new(alloc), 0)
+    }
+
+    /// An empty sink. A put whose number, from 1, is in the list appends the first `keep` bytes of its piece, or the whole
+    /// piece if it is shorter, and fails.
+    pub fn failing(alloc: Global, puts: Vec<u64>, keep: u64) -> Result<MemorySink, Fail<Never>>
+        ensures written { IfOk result (λ sink. ⟦<MemorySink as Sink>⟧.written sink ≡ Some []) }
+        ensures faults { IfOk result (λ sink. ⟦<MemorySink as Sink>⟧.faults sink ≡ 0) }
+        ensures plan { IfOk result (λ sink. plan_of sink ≡ record { puts = 0; fails = puts.items; keep = keep }) }
+    {
+        Ok(empty_sink(alloc, puts, keep))
     }
 
     /// All that was put.
@@ -59,14 +73,64 @@ impl MemorySink {
     {
         &self.bytes
     }
+
+    /// Whether this put is one that fails. It counts the put, and the fault.
+    fn fails_now(&mut self) -> bool
+        ensures planned { result ≡ fails_next (plan_of self.old) }
+        ensures changed { self.new ≡ record self.old { puts = next_put (plan_of self.old); faults = self.new.faults } }
+        ensures failed { result ≡ true → HasRisen self.old.faults self.new.faults }
+        ensures steady { result ≡ false → self.new.faults ≡ self.old.faults }
+        ensures later { self.old.faults ≤ self.new.faults }
+    {
+        self.puts = self.puts.saturating_add(1);
+        let fails = self.fails.contains(&self.puts);
+        if fails {
+            self.faults = self.faults.saturating_add(1);
+        }
+        fails
+    }
+}
+
+fn empty_sink(alloc: Global, fails: Vec<u64>, keep: u64) -> MemorySink
+    ensures written { written_in result ≡ [] }
+    ensures faults { ⟦<MemorySink as Sink>⟧.faults result ≡ 0 }
+    ensures plan { plan_of result ≡ record { puts = 0; fails = fails.items; keep = keep } }
+{
+    MemorySink {
+        bytes: Vec::new(alloc),
+        fails,
+        keep,
+        puts: 0,
+        faults: 0,
+    }
+}
+
+/// The first bytes of a piece, that many, or all where it has fewer.
+fn front_of(piece: &[u8], keep: u64) -> &[u8]
+    ensures { result.now ≡ take keep piece.now }
+{
+    let len = piece.len() as u64;
+    &piece[..keep.min(len) as usize]
 }
 
 impl Sink for MemorySink {
-    ghost written = { λ sink. Some sink.bytes.items };
+    ghost written = { λ sink. Some (written_in sink) };
 
-    ghost faults = { λ sink. sink.faults };
+    ghost faults = { faults_in };
 
-    fn put(&mut self, piece: &[u8]) -> Put {
+    fn put(&mut self, piece: &[u8]) -> Put
+        ensures answer { IsPut (plan_of self.old) (written_in self.old) (written_in self.new) piece.now result }
+        ensures next { plan_of self.new ≡ after_put (plan_of self.old) }
+        ensures all { result ≡ Put.All → written_in self.new ≡ written_in self.old ++ piece.now }
+        ensures prefix { AppendsPrefix (Some (written_in self.old)) (Some (written_in self.new)) piece.now }
+        ensures failed { result ≡ Put.Failed → HasRisen (faults_in self.old) (faults_in self.new) }
+        ensures steady { result ≡ Put.All → faults_in self.new ≡ faults_in self.old }
+        ensures later { faults_in self.old ≤ faults_in self.new }
+    {
+        if self.fails_now() {
+            let _ = self.bytes.extend_from_slice(front_of(piece, self.keep));
+            return Put::Failed;
+        }
         match self.bytes.extend_from_slice(piece) {
             Ok(()) => Put::All,
             Err(_) => {
