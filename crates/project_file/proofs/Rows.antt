@@ -7,7 +7,7 @@ use Rattle.toml.specs.Data.{array, boolean, integer, item, member, no_items, no_
 use Rattle.toml.specs.Parse.{parse_document}
 use Rattle.toml.proofs.OnLiterals.{toml_on_literals}
 use Rattle.project_file.specs.Keys.{fault, seen_as}
-use Rattle.project_file.specs.Projects.{black_at, label_number, mode_at, place, project_of, rate_at, reel_of, top, usual_black, width_in}
+use Rattle.project_file.specs.Projects.{black_at, cuts_at, label_number, mode_at, place, project_of, rate_at, reel_of, top, usual_black, width_in}
 use Rattle.project_file.specs.declared.fault.ProjectKind.TheVariants.{MissingKey, OutOfRange, UnknownKey, WrongType}
 
 -- ---- texts and their tables, whose keys ascend
@@ -46,6 +46,7 @@ defaults : project_of (small no_members) ≡ Ok (record {
   edl = codes "a.edl";
   cube = None;
   reels = [];
+  cuts = [];
 })
 defaults = refl
 
@@ -89,6 +90,29 @@ black_of_two = refl
 -- the type of all members comes before the length
 black_of_text : black_at (array (item (integer (pos 1)) (item (string []) no_items))) ≡ Err (fault WrongType (top 5))
 black_of_text = refl
+
+-- ---- cuts
+
+two_cuts : cuts_at (array (item (string (codes "01:00:00:12")) (item (string (codes "x")) no_items))) ≡ Ok (codes "01:00:00:12" ∷ codes "x" ∷ [])
+two_cuts = refl
+
+-- the type of all members comes before the range of the first
+cut_of_number : cuts_at (array (item (string []) (item (integer (pos 1)) no_items))) ≡ Err (fault WrongType (top 16))
+cut_of_number = refl
+
+empty_cut : cuts_at (array (item (string (codes "x")) (item (string []) no_items))) ≡ Err (fault OutOfRange (top 16))
+empty_cut = refl
+
+no_list_of_cuts : cuts_at (string (codes "01:00:00:12")) ≡ Err (fault WrongType (top 16))
+no_list_of_cuts = refl
+
+-- the cuts are checked after the list of reels, and before the reels
+cuts_after_list : project_of (small (member (codes "reel") (integer (pos 1)) no_members)) ≡ Err (fault WrongType (top 9))
+cuts_after_list = refl
+
+cuts_before_reels : project_of (member (codes "cuts") (integer (pos 1)) (small (member (codes "reel") (array (item (table no_members) no_items)) no_members)))
+    ≡ Err (fault WrongType (top 16))
+cuts_before_reels = refl
 
 -- ---- reels
 

@@ -80,6 +80,9 @@ is_whole d = is_some (as_integer d)
 abbrev pub is_table : Data → Bool
 is_table d = is_some (as_table d)
 
+abbrev pub is_text : Data → Bool
+is_text d = is_some (as_str d)
+
 -- a list whose members all pass the test of their type
 abbrev pub list_at : Place → (Data → Bool) → Data → Result Items ProjectFault
 list_at place test d = do

@@ -1,6 +1,7 @@
 -- What a project file says. All rules here are this project's own; TOML is as the crate `toml` states it.
 --     title_in .. cube_in      the keys at the top, 1 to 8, in the order in which they are checked
 --     reels_in, reel_of      key 9, and a reel's keys: 10, 11, 13, 12, 14, 15
+--     cuts_in      key 16, the cuts of the record, which is checked after key 9
 --     knows_top, knows_reels      that no key is unknown
 --     project_of table      the project of a table, or its first fault
 --     Means text answer      what a text comes to
@@ -29,7 +30,7 @@ use Rattle.cf_timecode.specs.Spelling.{parsed}
 use Rattle.toml.specs.Data.{Data, Items, Members, as_integer, get_member, item, no_items, table}
 use Rattle.toml.specs.Parse.{parse_document}
 use Rattle.project_file.specs.Keys.{◌>>=◌, all_keys, count_items, fault, flag_at}
-use Rattle.project_file.specs.Keys.{is_table, is_whole, list_at, needed, optional}
+use Rattle.project_file.specs.Keys.{is_table, is_text, is_whole, list_at, needed, optional}
 use Rattle.project_file.specs.Keys.{required, text_at, whole_at}
 use Rattle.project_file.specs.declared.fault.Place.{Place}
 use Rattle.project_file.specs.declared.fault.ProjectFault.{ProjectFault}
@@ -136,6 +137,31 @@ reels_at d = do
 abbrev pub reels_in : Members → Result Items ProjectFault
 reels_in ms = optional no_items reels_at (get_member (codes "reel") ms)
 
+-- ---- the cuts
+
+abbrev pub cut_texts_at : Data → Result Items ProjectFault
+cut_texts_at d = do
+  items ← list_at (top 16) is_text d
+  if nat_le (count_items items) 998 then Ok items else Err (fault OutOfRange (top 16))
+
+-- the paths that the texts are
+abbrev pub paths_of : Items → Result (List (List ℕ)) ProjectFault
+paths_of no_items = Ok []
+paths_of (item d ds) = do
+  first ← text_at (top 16) path_text_of d
+  others ← paths_of ds
+  Ok (first ∷ others)
+
+abbrev pub cuts_at : Data → Result (List (List ℕ)) ProjectFault
+cuts_at d = do
+  items ← cut_texts_at d
+  paths_of items
+
+abbrev pub cuts_in : Members → Result (List (List ℕ)) ProjectFault
+cuts_in ms = optional [] cuts_at (get_member (codes "cuts") ms)
+
+-- ---- a reel
+
 -- a name that doesn't mean black
 abbrev pub reel_name_of : List ℕ → Option (List ℕ)
 reel_name_of = kept_if (λ bytes. not (bytes_eq bytes (codes "BL")) && is_name bytes)
@@ -196,7 +222,7 @@ is_among names key = list_any (λ name. bytes_eq name key) names
 
 abbrev pub top_keys : List (List ℕ)
 top_keys = codes "title" ∷ codes "rate" ∷ codes "width" ∷ codes "height" ∷ codes "black"
-    ∷ codes "bands" ∷ codes "edl" ∷ codes "cube" ∷ codes "reel" ∷ []
+    ∷ codes "bands" ∷ codes "edl" ∷ codes "cube" ∷ codes "reel" ∷ codes "cuts" ∷ []
 
 abbrev pub reel_keys : List (List ℕ)
 reel_keys = codes "name" ∷ codes "prefix" ∷ codes "start" ∷ codes "drop" ∷ codes "frames" ∷ codes "file" ∷ []
@@ -219,8 +245,8 @@ knows_reels reel (item d ds) = do
 
 -- ---- the whole
 
-abbrev pub project_with : Settings → List ReelEntry → Project
-project_with s reels = record {
+abbrev pub project_with : Settings → List ReelEntry → List (List ℕ) → Project
+project_with s reels cuts = record {
   title = s.title;
   rate = s.rate;
   width = s.width;
@@ -230,16 +256,18 @@ project_with s reels = record {
   edl = s.edl;
   cube = s.cube;
   reels = reels;
+  cuts = cuts;
 }
 
 abbrev pub project_of : Members → Result Project ProjectFault
 project_of ms = do
   settings ← settings_in ms
   items ← reels_in ms
+  cuts ← cuts_in ms
   reels ← reels_from settings.rate 1 items
   top_known ← knows_top ms
   reels_known ← knows_reels 1 items
-  Ok (project_with settings reels)
+  Ok (project_with settings reels cuts)
 
 -- the bytes are the text of this table
 abbrev pub IsRead : List ℕ → Members → Type 0
@@ -282,4 +310,5 @@ pub record IsInRange (project : Project) : Type 0 where
   pub height : (1 ≤ project.height) × (project.height ≤ 4096)
   pub bands : (1 ≤ project.bands) × (project.bands ≤ 64)
   pub few : length project.reels ≤ 1024
+  pub cuts : length project.cuts ≤ 998
   pub reels : All IsReelInRange project.reels

@@ -15,7 +15,7 @@ pub enum ProjectKind {
     UnknownKey,
 }
 
-/// What is wrong, and at which key: keys have the numbers 1 to 15 of the table at `read_project`, reels count from 1, and
+/// What is wrong, and at which key: keys have the numbers 1 to 16 of the table at `read_project`, reels count from 1, and
 /// reel 0 is the top.
 #[derive(Clone, Copy, Debug, PartialEq, Eq)]
 pub struct ProjectFault {

@@ -2,6 +2,7 @@
 //! project's own rule; what a text comes to as TOML is what the crate `toml` states.
 #![tactic(auto)]
 
+mod cuts;
 mod fault;
 mod keys;
 mod read;
@@ -12,8 +13,10 @@ mod unknown;
 ghost use Rattle.project_file.specs.Projects.{OneMeaning};
 
 use cf_base::{PathText, Rate, ReelRows, Rgb, TitleText};
+pub use cuts::CutRows;
 pub use fault::{ProjectFault, ProjectKind};
 pub use read::read_project;
+pub use reels::label_number;
 
 /// A project.
 #[derive(Drop)]
@@ -36,6 +39,8 @@ pub struct Project {
     pub cube: Option<PathText>,
     /// The source reels, at most 1024.
     pub reels: ReelRows,
+    /// The cuts of the record, at most 998: the labels with which its further reels begin.
+    pub cuts: CutRows,
 }
 
 /// A text comes to one answer.

@@ -6,6 +6,7 @@ ghost use Rattle.project_file.specs.Keys.{fault};
 ghost use Rattle.project_file.specs.Projects.{Answers, IsInRange, IsRead, IsTextFault, project_of};
 
 use crate::Project;
+use crate::cuts::{CutRows, cuts_in};
 use crate::fault::{Place, ProjectFault, ProjectKind};
 use crate::reels::{read_reels, reels_in};
 use crate::settings::settings_in;
@@ -19,7 +20,7 @@ use toml::Table;
 /// A text over 1,048,576 bytes, or one that `toml` doesn't read as a table, is 14.1. Then the keys at the top are checked in
 /// the order of their numbers, then the reels in order, each in the order of its keys but for `drop` before `start`, and
 /// last that no key is unknown (14.5): first at the top, then in the reels in order. A key that has to be there and isn't is
-/// 14.2, another type is 14.3, a value out of range is 14.4.
+/// 14.2, another type is 14.3, a value out of range is 14.4. In a list the type of all members comes first, then its length.
 ///
 /// | No. | Key | Type | Range | If missing |
 /// |---|---|---|---|---|
@@ -37,6 +38,7 @@ use toml::Table;
 /// | 13 | `drop` | true or false | true at rate 30 alone | false |
 /// | 14 | `frames` | whole number | 1 to 2,592,000 | 14.2 |
 /// | 15 | `file` | whole number | 0 to 9,999,999 | the number of `start` |
+/// | 16 | `cuts` | list of texts | at most 998, a PathText each | no cuts |
 pub fn read_project(alloc: Global, text: &[u8]) -> Result<Project, Fail<ProjectFault>>
     ensures project { Answers text.now result }
     ensures range { IfOk result IsInRange }
@@ -72,6 +74,7 @@ fn project_in(alloc: Global, table: &Table) -> Result<Project, Fail<ProjectFault
 {
     let settings = settings_in(table).map_err(Fail::Fault)?;
     let values = reels_in(table).map_err(Fail::Fault)?;
+    let cuts = cuts_in(alloc, table)?;
     let reels = read_reels(alloc, settings.rate, values)?;
     knows_top(table).map_err(Fail::Fault)?;
     knows_reels(values).map_err(Fail::Fault)?;
@@ -85,5 +88,6 @@ fn project_in(alloc: Global, table: &Table) -> Result<Project, Fail<ProjectFault
         edl: settings.edl,
         cube: settings.cube,
         reels: ReelRows::of(reels),
+        cuts: CutRows::of(cuts),
     })
 }

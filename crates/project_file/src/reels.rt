@@ -218,8 +218,8 @@ fn start_in(place: Place, rate: Rate, mode: Mode, table: &Table) -> Result<u32, 
     label_number(rate, mode, text.as_bytes()).ok_or(place.fault(ProjectKind::OutOfRange))
 }
 
-/// The number of the label that the bytes spell.
-fn label_number(rate: Rate, mode: Mode, bytes: &[u8]) -> Option<u32>
+/// The number in its day of the label that the bytes spell (SMPTE ST 12-1).
+pub fn label_number(rate: Rate, mode: Mode, bytes: &[u8]) -> Option<u32>
     requires { CanCount rate mode }
     ensures number { result ≡ label_number rate mode bytes.now }
     ensures day { IfSome result (λ n. n < frames_in_day rate mode) }

@@ -95,7 +95,8 @@ fn bands_in(table: &Table) -> Result<u32, ProjectFault>
     whole_at(Place::top(6), 1, 64, value)
 }
 
-fn path_at(place: Place, value: &Value) -> Result<PathText, ProjectFault>
+/// A text that is a path.
+pub(crate) fn path_at(place: Place, value: &Value) -> Result<PathText, ProjectFault>
     ensures path { result ≡ text_at place path_text_of (view value.now) }
 {
     let Some(text) = value.as_str() else {

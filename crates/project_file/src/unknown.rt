@@ -12,7 +12,7 @@ pub(crate) fn knows_top(table: &Table) -> Result<(), ProjectFault>
     ensures known { result ≡ knows_top (table_view table.now) }
 {
     let names = [
-        "title", "rate", "width", "height", "black", "bands", "edl", "cube", "reel",
+        "title", "rate", "width", "height", "black", "bands", "edl", "cube", "reel", "cuts",
     ];
     if keys_are_among(names.as_slice(), table) {
         Ok(())

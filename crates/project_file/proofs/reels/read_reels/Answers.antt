@@ -1,8 +1,10 @@
-use Rattle.std.proofs.Common.{◌≡◌, ◌+◌, ap, arith, sym, refl, [], get_or, Ok, Err}
+use Rattle.std.proofs.Common.{◌≡◌, ◌+◌, ap, arith, sym, refl, List, [], get_or, Result, Ok, Err}
 use Rattle.std.proofs.lemmas.List.{length_push}
 use Rattle.std.proofs.lemmas.List.Elements.{All-nil, All-push}
 use Rattle.toml.specs.View.{items_view}
+use Rattle.cf_base.specs.declared.reel.ReelEntry.{ReelEntry}
 use Rattle.project_file.specs.Projects.{reels_from, IsReelInRange}
+use Rattle.project_file.specs.declared.fault.ProjectFault.{ProjectFault}
 use Rattle.project_file.proofs.Projects.{prefixed, reel_refused, reel_taken, reels_end}
 use Rattle.project_file.proofs.reels.read_reels.Goals as goal
 
@@ -14,7 +16,7 @@ values-init c = record {
   count = rw c.new-reels.ensures.items refl;
 }
   where
-    same : (r : _) → r ≡ prefixed [] r
+    same : (r : Result (List ReelEntry) ProjectFault) → r ≡ prefixed [] r
     same (Ok others) = refl
     same (Err e) = refl
 
