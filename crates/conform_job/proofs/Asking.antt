@@ -63,6 +63,7 @@ module _ (p : JobParts) (world : Files) where
   pub refused_first : (xs ys : List Ask) (why : JobFault) → IsRefusal why (asks_refusal p world xs) → IsRefusal why (asks_refusal p world (xs ++ ys))
   refused_first xs ys fault.SourceFault h = tt
   refused_first xs ys fault.NoMemory h = tt
+  refused_first xs ys (fault.BadCut cut) h = some_first xs ys _ h
   refused_first xs ys (fault.UnknownReel line) h = some_first xs ys _ h
   refused_first xs ys (fault.MissingFrame line reel source) h = some_first xs ys _ h
   refused_first xs ys (fault.BadFrame line reel source bad) h = some_first xs ys _ h

@@ -1,4 +1,5 @@
 mod Asking
+mod Cutting
 mod Growing
 pub mod Heads
 mod Judging

@@ -19,8 +19,10 @@ use Rattle.dpx_header.specs.Writing.{header_of, header_fields, laid, all_laid, u
 use Rattle.scan_source.specs.Answers.{first_bytes}
 use Rattle.source_reels.specs.Reels.{path_text}
 use Rattle.conform_job.specs.declared.parts.JobParts.{JobParts}
-use Rattle.conform_job.specs.declared.parts.JobFault.TheVariants.{UnknownReel, MissingFrame, BadFrame, Geometry}
+use Rattle.conform_job.specs.declared.parts.JobFault.{JobFault}
+use Rattle.conform_job.specs.declared.parts.JobFault.TheVariants.{BadCut, UnknownReel, MissingFrame, BadFrame, Geometry}
 use Rattle.conform_job.specs.Asks.{asks_of, asks_at}
+use Rattle.conform_job.specs.Cuts.{bad_cut, record_reel, reel_span}
 use Rattle.conform_job.specs.Digest.{sized, sized_cube}
 use Rattle.conform_job.specs.Job.{need_at, JobData}
 use Rattle.conform_job.specs.declared.need.Need.{Need}
@@ -41,14 +43,17 @@ events = event 4 1 (codes "A001") 86400 86410 86400 86410 Cut
     ∷ event 8 3 (codes "B002") 172800 172812 86412 86424 (Dissolve 4)
     ∷ []
 
-abbrev desk : ℕ → List EventRec → JobParts
-desk frames events = record {
+abbrev cut_desk : List (List ℕ) → ℕ → List EventRec → JobParts
+cut_desk cuts frames events = record {
   digest = [];
-  project = record { title = codes "DESK"; rate = R24; width = 2; height = 2; black = record { r = 0; g = 0; b = 0; r_in_range = lit≤ tt; g_in_range = lit≤ tt; b_in_range = lit≤ tt }; bands = 4; edl = codes "desk.edl"; cube = None; reels = reels frames };
+  project = record { title = codes "DESK"; rate = R24; width = 2; height = 2; black = record { r = 0; g = 0; b = 0; r_in_range = lit≤ tt; g_in_range = lit≤ tt; b_in_range = lit≤ tt }; bands = 4; edl = codes "desk.edl"; cube = None; reels = reels frames; cuts = cuts };
   reels = reels frames;
   timeline = record { rate = R24; mode = NonDrop; events = events };
   look = None;
 }
+
+abbrev desk : ℕ → List EventRec → JobParts
+desk frames events = cut_desk [] frames events
 
 asked : length (asks_of (record { rate = R24; mode = NonDrop; events = events })) ≡ 26
 unfolding asks_of
@@ -81,7 +86,61 @@ dissolve : need_at planned 12 ≡ needs (Some (key 0 86410)) (Some (key 1 172800
 dissolve = refl
 
 unknown : (files : Files) → first_refusal (desk 48 (event 4 1 (codes "A001") 0 1 0 1 Cut ∷ event 9 2 (codes "BL") 0 1 1 2 Cut ∷ event 11 2 (codes "C003") 0 1 2 3 Cut ∷ [])) files ≡ Some (UnknownReel 11)
+unfolding bad_cut
 unknown files = refl
+
+-- the record begins at 01:00:00:00 and ends at 01:00:01:00
+abbrev cut_refusal : List (List ℕ) → Option JobFault
+cut_refusal cuts = bad_cut (cut_desk cuts 48 events)
+
+two_reels : cut_refusal (codes "01:00:00:12" ∷ []) ≡ None
+unfolding bad_cut
+two_reels = refl
+
+at_first_frame : cut_refusal (codes "01:00:00:00" ∷ []) ≡ Some (BadCut 1)
+unfolding bad_cut
+at_first_frame = refl
+
+at_end : cut_refusal (codes "01:00:01:00" ∷ []) ≡ Some (BadCut 1)
+unfolding bad_cut
+at_end = refl
+
+no_label : cut_refusal (codes "1" ∷ []) ≡ Some (BadCut 1)
+unfolding bad_cut
+no_label = refl
+
+equal_cuts : cut_refusal (codes "01:00:00:12" ∷ codes "01:00:00:12" ∷ []) ≡ Some (BadCut 2)
+unfolding bad_cut
+equal_cuts = refl
+
+-- the first that isn't in turn is named, though the next falls too
+falls : cut_refusal (codes "01:00:00:12" ∷ codes "01:00:00:10" ∷ codes "x" ∷ []) ≡ Some (BadCut 2)
+unfolding bad_cut
+falls = refl
+
+-- a cut comes before an unknown reel
+cut_first : (files : Files) → first_refusal (cut_desk (codes "1" ∷ []) 48 (event 4 1 (codes "C003") 0 1 0 1 Cut ∷ [])) files ≡ Some (BadCut 1)
+unfolding bad_cut
+cut_first files = refl
+
+abbrev cut : JobParts
+cut = cut_desk (codes "01:00:00:12" ∷ codes "01:00:00:20" ∷ []) 48 events
+
+last_of_first : record_reel cut 11 ≡ 1
+unfolding record_reel
+last_of_first = refl
+
+first_of_second : record_reel cut 12 ≡ 2
+unfolding record_reel
+first_of_second = refl
+
+last_of_third : record_reel cut 23 ≡ 3
+unfolding record_reel
+last_of_third = refl
+
+spans : map (reel_span cut) (1 ∷ 2 ∷ 3 ∷ []) ≡ record { start = 0; end = 12 } ∷ record { start = 12; end = 20 } ∷ record { start = 20; end = 24 } ∷ []
+unfolding reel_span
+spans = refl
 
 abbrev picture : ℕ → List ℕ
 picture width = header_of (record { width = width; height = 2; reel = 1; frame = 86400; position = 0; length = 1; timecode = None; title = [] }) ++ replicate (8 * width) 0
@@ -94,22 +153,22 @@ given all path = lookup (bytes_eq path) all
 
 -- no file at all
 none : first_refusal (desk 48 events) (given []) ≡ Some (MissingFrame 4 (codes "A001") (pos 86400))
-unfolding asks_of path_text first_bytes laid all_laid u16 u32 undefined text frame_file_name header_of header_fields
+unfolding asks_of bad_cut path_text first_bytes laid all_laid u16 u32 undefined text frame_file_name header_of header_fields
 none = refl
 
 -- the first frame has another size
 size : first_refusal (desk 48 events) (given (files 1 3 (reel (codes "A001") (codes "a001/a001.") 86400 48))) ≡ Some (Geometry 4 (codes "A001") (pos 86400))
-unfolding asks_of path_text first_bytes laid all_laid u16 u32 undefined text frame_file_name header_of header_fields
+unfolding asks_of bad_cut path_text first_bytes laid all_laid u16 u32 undefined text frame_file_name header_of header_fields
 size = refl
 
 -- the table has no 14th frame, and the old side runs past its out point
 runs_out : first_refusal (desk 13 events) (given (files 13 2 (reel (codes "A001") (codes "a001/a001.") 86400 48) ++ files 12 2 (reel (codes "B002") (codes "b002/b002.") 172800 48))) ≡ Some (MissingFrame 7 (codes "A001") (pos 86413))
-unfolding asks_of path_text first_bytes laid all_laid u16 u32 undefined text frame_file_name header_of header_fields
+unfolding asks_of bad_cut path_text first_bytes laid all_laid u16 u32 undefined text frame_file_name header_of header_fields
 runs_out = refl
 
 -- byte 803, the bit size, is 8
 depth : first_refusal (desk 48 events) (given ((codes "a001/a001.0086400.dpx", take 803 (picture 2) ++ (8 ∷ drop 804 (picture 2))) ∷ [])) ≡ Some (BadFrame 4 (codes "A001") (pos 86400) Depth)
-unfolding asks_of path_text first_bytes laid all_laid u16 u32 undefined text frame_file_name header_of header_fields
+unfolding asks_of bad_cut path_text first_bytes laid all_laid u16 u32 undefined text frame_file_name header_of header_fields
 depth = refl
 
 sized_text : sized (codes "abc") ≡ 0 ∷ 0 ∷ 0 ∷ 0 ∷ 0 ∷ 0 ∷ 0 ∷ 3 ∷ codes "abc"

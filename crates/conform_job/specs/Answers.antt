@@ -22,6 +22,7 @@ use Rattle.conform_job.specs.declared.parts.JobFault.TheVariants as fault
 abbrev pub IsRefusal : JobFault → Option JobFault → Type 0
 IsRefusal fault.SourceFault first = Unit {0}
 IsRefusal fault.NoMemory first = Unit {0}
+IsRefusal (fault.BadCut cut) first = first ≡ Some (fault.BadCut cut)
 IsRefusal (fault.UnknownReel line) first = first ≡ Some (fault.UnknownReel line)
 IsRefusal (fault.MissingFrame line reel source) first = first ≡ Some (fault.MissingFrame line reel source)
 IsRefusal (fault.BadFrame line reel source bad) first = first ≡ Some (fault.BadFrame line reel source bad)
@@ -31,10 +32,11 @@ abbrev pub IsStep : {A : Type 0} → Result A JobFault → Option JobFault → T
 IsStep (Ok a) first = first ≡ None
 IsStep (Err why) first = IsRefusal why first
 
--- a refusal by its reel comes from the lines alone, whatever the scan tells
+-- a refusal by a cut or by an event's reel comes from the project and the lines alone, whatever the scan tells
 abbrev pub IsOfFrames : JobFault → Type 0
 IsOfFrames fault.SourceFault = Unit {0}
 IsOfFrames fault.NoMemory = Unit {0}
+IsOfFrames (fault.BadCut cut) = ⊥
 IsOfFrames (fault.UnknownReel line) = ⊥
 IsOfFrames (fault.MissingFrame line reel source) = Unit {0}
 IsOfFrames (fault.BadFrame line reel source bad) = Unit {0}

@@ -3,7 +3,8 @@
 --     IsJob p infos      what holds of every job, whatever its scan told
 --     need_at job i      the keys that record frame i needs, with their infos
 --     file_of job i      the file that record frame i is written to
-use Rattle.std.specs.Prelude.{◌≡◌, ℕ, ◌+◌, ◌≤◌, true, List, [], Option, Some, None, IsSome, option_and_then}
+--     IsByLines why first      which answers are told without a scan
+use Rattle.std.specs.Prelude.{◌≡◌, ℕ, ◌+◌, ◌≤◌, true, List, [], length, Option, Some, None, IsSome, option_and_then}
 use Rattle.std.specs.Option.{option_map}
 use Rattle.std.specs.List.{list_any}
 use Rattle.cf_base.specs.declared.file.FileId.{FileId}
@@ -17,6 +18,7 @@ use Rattle.record_timeline.specs.declared.Shot.TheVariants.{Gap, One, Two}
 use Rattle.record_timeline.specs.Accepted.{first_frame}
 use Rattle.conform_job.specs.Answers.{Grows}
 use Rattle.conform_job.specs.Asks.{asks_of, shot_of_frame}
+use Rattle.conform_job.specs.Cuts.{bad_cut, record_reel}
 use Rattle.conform_job.specs.Keys.{key_of_ask, keys_of_asks, is_key, info_at}
 use Rattle.conform_job.specs.Refusals.{unknown_of}
 use Rattle.conform_job.specs.declared.need.Need.{Need}
@@ -38,23 +40,26 @@ pub record ArePlanned (p : JobParts) : Type 0 where
   pub most_height : p.project.height ≤ 4096
   pub some_bands : 1 ≤ p.project.bands
   pub most_bands : p.project.bands ≤ 64
+  pub cuts : length p.project.cuts ≤ 998
 
 pub record IsJob (p : JobParts) (infos : List (Key × FrameInfo)) : Type 0 where
   pub planned : ArePlanned p
+  pub cut : bad_cut p ≡ None
   pub known : unknown_of p.reels p.timeline.events ≡ None
   pub filled : Grows p None (asks_of p.timeline) [] infos
 
--- the file of record frame i: the frame of record reel 1 with the number of the record frame
+-- the file of record frame i: that of its record reel with the number of the record frame
 abbrev pub file_of : JobData → ℕ → FileId
-file_of job i = FrameFile 1 (first_frame job.parts.timeline.events + i)
+file_of job i = FrameFile (record_reel job.parts i) (first_frame job.parts.timeline.events + i)
 
 -- a record frame asks for the key
 abbrev pub IsNeeded : JobParts → Key → Type 0
 IsNeeded p key = list_any (is_key key) (keys_of_asks p.reels p.timeline.events (asks_of p.timeline)) ≡ true
 
--- which of the answers are told by the lines alone
+-- which of the answers are told by the project and the lines alone
 abbrev pub IsByLines : JobFault → Option JobFault → Type 0
 IsByLines fault.NoMemory first = Unit {0}
+IsByLines (fault.BadCut cut) first = first ≡ Some (fault.BadCut cut)
 IsByLines (fault.UnknownReel line) first = first ≡ Some (fault.UnknownReel line)
 IsByLines fault.SourceFault first = first ≡ None
 IsByLines (fault.MissingFrame line reel source) first = first ≡ None

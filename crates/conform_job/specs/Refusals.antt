@@ -1,7 +1,8 @@
 -- Why a job is refused.
 --     unknown_reel p      the first event whose reel is neither black nor in the table
 --     ask_refusal p files ask      what is refused of a source frame, by its file in the files
---     first_refusal p files      the first refusal: an unknown reel, or else that of the first ask that has one
+--     told_refusal p      that of the project and the list alone: a bad cut, or else an unknown reel
+--     first_refusal p files      the first refusal: that, or else that of the first ask that has one
 use Rattle.std.specs.Prelude.{ℕ, ℤ, Bool, not, is_none, ◌&&◌, ◌==◌, if◌then◌else◌, List, slice_get, find, filter_map, Option, Some, None, option_and_then, Result, Ok, Err}
 use Rattle.std.specs.Option.{option_map, option_or}
 use Rattle.cf_base.specs.Events.{is_black_reel}
@@ -14,6 +15,7 @@ use Rattle.source_reels.specs.Reels.{reel_place, path_of_key}
 use Rattle.source_reels.specs.Seen.{info_of_file}
 use Rattle.conform_job.specs.declared.frames.Ask.{Ask}
 use Rattle.conform_job.specs.Asks.{asks_of}
+use Rattle.conform_job.specs.Cuts.{bad_cut}
 use Rattle.conform_job.specs.Keys.{key_of_ask}
 use Rattle.conform_job.specs.declared.frames.Named.{Named}
 use Rattle.conform_job.specs.declared.parts.JobParts.{JobParts}
@@ -59,5 +61,8 @@ ask_refusal p files ask = option_and_then (λ (n : Named). key_refusal p files n
 abbrev pub asks_refusal : JobParts → Files → List Ask → Option JobFault
 asks_refusal p files asks = slice_get (filter_map (ask_refusal p files) asks) 0
 
+abbrev pub told_refusal : JobParts → Option JobFault
+told_refusal p = option_or (bad_cut p) (unknown_of p.reels p.timeline.events)
+
 abbrev pub first_refusal : JobParts → Files → Option JobFault
-first_refusal p files = option_or (unknown_of p.reels p.timeline.events) (asks_refusal p files (asks_of p.timeline))
+first_refusal p files = option_or (told_refusal p) (asks_refusal p files (asks_of p.timeline))

@@ -7,17 +7,19 @@ ghost use Rattle.record_timeline.specs.Shots.{IsShotIn};
 ghost use Rattle.source_reels.specs.Reels.{path_of_key};
 ghost use Rattle.conform_job.specs.Answers.{IsStep, Grows, HeadsGrow};
 ghost use Rattle.conform_job.specs.Asks.{asks_of, shot_of_frame};
+ghost use Rattle.conform_job.specs.Cuts.{record_reel, reel_count, reel_span, HasFramesOf, IsWithin};
 ghost use Rattle.conform_job.specs.Infos.{HasEachOnce};
 ghost use Rattle.conform_job.specs.Job.{ArePlanned, IsByLines, IsNeeded, file_of};
 ghost use Rattle.conform_job.specs.Lines.{places_of, IsPlacedUnless};
-ghost use Rattle.conform_job.specs.Refusals.{first_refusal, unknown_of};
+ghost use Rattle.conform_job.specs.Refusals.{first_refusal, told_refusal, unknown_of};
 
+use crate::cuts::{cut_numbers, record_reel, reel_span};
 use crate::frames::{events_of, frame_of, infos_of, path_of_key, shot_of};
 use crate::infos::Infos;
 use crate::lines::places_of;
 use crate::need::need_of_shot;
 use crate::{JobFault, JobParts, Need};
-use cf_base::{FileId, Key, PathText, Rate};
+use cf_base::{FileId, Key, PathText, Rate, Span};
 use project_file::Project;
 use record_timeline::{Shot, Timeline};
 use scan_source::Scans;
@@ -30,6 +32,8 @@ use tetra_look::Look;
 #[derive(Drop)]
 pub struct Job {
     parts: JobParts,
+    /// The frame numbers of the project's cuts, which ascend.
+    cuts: Vec<u32>,
     /// The place of each event's reel, so that no name is looked up for a frame.
     places: Vec<Option<u16>>,
     infos: Infos,
@@ -38,13 +42,16 @@ pub struct Job {
 impl Model for Job {
     ghost use Rattle.std.specs.Prelude.{◌≡◌};
     ghost use Rattle.conform_job.specs.Job.{JobData, IsJob};
+    ghost use Rattle.conform_job.specs.Cuts.{cut_numbers};
     ghost use Rattle.conform_job.specs.Lines.{places_of};
 
     ghost Value = { JobData };
 
     ghost view = { λ j. record { parts = j.parts; infos = j.infos } };
 
-    ghost invariant = { λ j. IsJob j.parts j.infos × (j.places.items ≡ places_of j.parts.reels j.parts.timeline.events) };
+    ghost invariant = { λ j. IsJob j.parts j.infos
+        × (j.places.items ≡ places_of j.parts.reels j.parts.timeline.events)
+        × (j.cuts.items ≡ cut_numbers j.parts) };
 }
 
 impl Job {
@@ -53,16 +60,17 @@ impl Job {
 
     /// The job of these parts, or the first refusal; the parts are given up on a refusal.
     ///
-    /// First comes 15.1, for the first event whose reel is neither `BL` nor in the table. Then the record frames are taken in
-    /// order, and of a frame the old side before the new. Each source frame is tested where it is first asked for, and
+    /// First comes 15.5, for the first cut that is no label of the record above the cut before it and the record's first
+    /// frame, and below the record's end; then 15.1, for the first event whose reel is neither `BL` nor in the table. Then the
+    /// record frames are taken in order, and of a frame the old side before the new. Each source frame is tested where it is first asked for, and
     /// inspected there, once: 15.2 where the reel doesn't have it or there is no file, 15.3 where the file's header is refused,
     /// 15.4 where its size isn't the project's. `SourceFault` and `NoMemory` end the plan where they come.
     pub fn plan<S: Scans>(alloc: Global, parts: JobParts, scans: &mut S) -> Result<Job, JobFault>
         requires { ArePlanned parts }
 
-        // What is accepted and refused, and 15.1 also where the scan tells nothing.
+        // What is accepted and refused, and 15.5 and 15.1 also where the scan tells nothing.
         ensures told { IfSome (S.world scans.old) (λ world. IsStep result (first_refusal parts (file_at world))) }
-        ensures lines { MatchResult result (λ _. unknown_of parts.reels parts.timeline.events ≡ None) (λ why. IsByLines why (unknown_of parts.reels parts.timeline.events)) }
+        ensures lines { MatchResult result (λ _. told_refusal parts ≡ None) (λ why. IsByLines why (told_refusal parts)) }
 
         // The job has these parts, and one info for each needed key, which was inspected once.
         ensures job { IfOk result (λ job. (job.parts ≡ parts) × Grows parts (S.world scans.old) (asks_of parts.timeline) [] job.infos) }
@@ -77,6 +85,10 @@ impl Job {
         ensures world { S.world scans.new ≡ S.world scans.old }
         ensures same { S.same scans.old scans.new }
     {
+        let cuts = match cut_numbers(alloc, &parts) {
+            Ok(cuts) => cuts,
+            Err(fault) => return Err(fault),
+        };
         let places = match places_in(alloc, &parts) {
             Ok(places) => places,
             Err(fault) => return Err(fault),
@@ -84,6 +96,7 @@ impl Job {
         match infos_of(alloc, &parts, &places, scans) {
             Ok(infos) => Ok(Job {
                 parts,
+                cuts,
                 places,
                 infos,
             }),
@@ -171,13 +184,35 @@ impl Job {
         path_of_needed(&self.parts, key)
     }
 
-    /// The file that record frame `i`, from 0, is written to: record reel 1, and the frame's number.
+    /// The record reel of record frame `i`, from 0: one more than the number of cuts at or below it. Takes no memory.
+    pub fn reel_of(&self, i: u32) -> u16
+        requires { i < frame_count self.now.parts.timeline.events }
+        ensures reel { result ≡ record_reel self.now.parts i }
+        ensures some { 1 ≤ result }
+        ensures most { result ≤ reel_count self.now.parts }
+        ensures few { result ≤ 999 }
+        ensures within { IsWithin i (reel_span self.now.parts result) }
+    {
+        record_reel(&self.parts, &self.cuts, i)
+    }
+
+    /// The indexes of a reel's record frames, the end excluded. Takes no memory.
+    pub fn reel_span(&self, reel: u16) -> Span
+        requires some { 1 ≤ reel }
+        requires most { reel ≤ reel_count self.now.parts }
+        ensures span { result ≡ reel_span self.now.parts reel }
+        ensures frames { HasFramesOf self.now.parts reel result }
+    {
+        reel_span(&self.parts, &self.cuts, reel)
+    }
+
+    /// The file that record frame `i`, from 0, is written to: its record reel, and the frame's number.
     pub fn file_of(&self, i: u32) -> FileId
         requires { i < frame_count self.now.parts.timeline.events }
         ensures { result ≡ file_of self.now i }
     {
         FileId::Frame {
-            reel: 1,
+            reel: self.reel_of(i),
             frame: frame_of(&self.parts.timeline, i).0,
         }
     }

@@ -2,6 +2,7 @@
 //! contracts. The rules are this project's own.
 #![tactic(auto)]
 
+mod cuts;
 mod digest;
 mod frames;
 mod infos;

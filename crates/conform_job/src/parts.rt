@@ -25,6 +25,11 @@ pub struct JobParts {
 /// number of that reel, which may be negative or past the day.
 #[derive(Clone, Copy, Debug, PartialEq, Eq)]
 pub enum JobFault {
+    /// 15.5: the text of a cut, counted from 1, is no label of the record (SMPTE ST 12-1), or its frame isn't above the cut
+    /// before it and the record's first frame, or isn't below the record's end.
+    BadCut {
+        cut: u32,
+    },
     /// 15.1: the event's reel is neither `BL` nor in the table.
     UnknownReel {
         line: u32,
