@@ -24,6 +24,7 @@ use Rattle.record_timeline.specs.declared.Shot.TheVariants.{Gap, One, Two}
 use Rattle.conform_job.specs.Asks.{shot_of_frame}
 use Rattle.conform_job.specs.Job.{JobData}
 use Rattle.conform_job.specs.Refusals.{Files}
+use Rattle.conform_job.specs.Cuts.{record_reel, reel_span}
 use Rattle.frame_render.specs.Frame.{line_words, new_words, old_words, out_head, timecode_of, words_of_key}
 use Rattle.record_timeline.proofs.Samples.{desk}
 
@@ -36,18 +37,21 @@ a001 = reel (codes "A001") (codes "a001/a001.") 86400
 abbrev b002 : ReelEntry
 b002 = reel (codes "B002") (codes "b002/b002.") 172800
 
--- the desk's timeline over pictures of this size, with black 7, 8, 9
-abbrev job : (w h : ℕ) → Option Lattice → JobData
-job w h look = record {
+-- the desk's timeline over pictures of this size, with black 7, 8, 9, cut so
+abbrev cut_job : (w h : ℕ) → Option Lattice → List (List ℕ) → JobData
+cut_job w h look cuts = record {
   parts = record {
     digest = [];
-    project = record { title = codes "DESK"; rate = R24; width = w; height = h; black = record { r = 7; g = 8; b = 9; r_in_range = lit≤ tt; g_in_range = lit≤ tt; b_in_range = lit≤ tt }; bands = 4; edl = codes "desk.edl"; cube = None; reels = a001 ∷ b002 ∷ [] };
+    project = record { title = codes "DESK"; rate = R24; width = w; height = h; black = record { r = 7; g = 8; b = 9; r_in_range = lit≤ tt; g_in_range = lit≤ tt; b_in_range = lit≤ tt }; bands = 4; edl = codes "desk.edl"; cube = None; reels = a001 ∷ b002 ∷ []; cuts = cuts };
     reels = a001 ∷ b002 ∷ [];
     timeline = record { rate = R24; mode = NonDrop; events = desk (codes "A001") (codes "B002") };
     look = look;
   };
   infos = [];
 }
+
+abbrev job : (w h : ℕ) → Option Lattice → JobData
+job w h look = cut_job w h look []
 
 abbrev grey : ℕ → ℕ
 grey code = colour_word (code ∷ code ∷ code ∷ [])
@@ -132,14 +136,40 @@ number : (out_head (job 1 1 None) 12).frame ≡ 86412
 number = refl
 
 position : (out_head (job 1 1 None) 12).position ≡ 12
+unfolding record_reel reel_span
 position = refl
 
 frames : (out_head (job 1 1 None) 12).length ≡ 24
+unfolding record_reel reel_span
 frames = refl
 
 name : frame_file_name (out_head (job 1 1 None) 12).reel (out_head (job 1 1 None) 12).frame ≡ codes "r001.0086412.dpx"
-unfolding frame_file_name
+unfolding record_reel frame_file_name
 name = refl
+
+-- the same where frame 12 begins the second reel
+abbrev two_reels : JobData
+two_reels = cut_job 1 1 None (codes "01:00:00:12" ∷ [])
+
+first_reel : (out_head two_reels 11).reel ≡ 1
+unfolding record_reel
+first_reel = refl
+
+first_end : (out_head two_reels 11).position ≡ 11
+unfolding record_reel reel_span
+first_end = refl
+
+second_start : (out_head two_reels 12).position ≡ 0
+unfolding record_reel reel_span
+second_start = refl
+
+second_length : (out_head two_reels 12).length ≡ 12
+unfolding record_reel reel_span
+second_length = refl
+
+second_name : frame_file_name (out_head two_reels 12).reel (out_head two_reels 12).frame ≡ codes "r002.0086412.dpx"
+unfolding record_reel frame_file_name
+second_name = refl
 
 -- 01:00:00:12, that is 01000012 hexadecimal
 timecode : timecode_of (job 1 1 None) 86412 ≡ 16777234

@@ -5,7 +5,7 @@
 --     shot_colour job shot old new x y      what a shot shows at a pixel, before the look
 --     frame_file job files i      the file of record frame i: its header, then its picture
 -- Colours are lists of codes by channel: red, green, blue.
-use Rattle.std.specs.Prelude.{◌≡◌, ℕ, ◌+◌, ◌*◌, List, take, [], ◌++◌, length, map, flat_map, slice_index, Option, Some, None, IfSome, IsSomeAnd, Result, Ok, Err, if◌then◌else◌}
+use Rattle.std.specs.Prelude.{◌≡◌, ℕ, ◌+◌, ◌-◌, ◌*◌, List, take, [], ◌++◌, length, map, flat_map, slice_index, Option, Some, None, IfSome, IsSomeAnd, Result, Ok, Err, if◌then◌else◌}
 use Rattle.std.specs.Option.{option_map}
 use Rattle.std.specs.List.{range_with_len}
 use Rattle.byteorder.specs.Endian.{big_bytes}
@@ -13,6 +13,7 @@ use Rattle.cf_base.specs.declared.event.Transition.{Transition}
 use Rattle.cf_base.specs.declared.event.Transition.TheVariants.{Cut, Dissolve, Wipe}
 use Rattle.cf_base.specs.declared.file.FileId.{FileId}
 use Rattle.cf_base.specs.declared.key.Key.{Key}
+use Rattle.cf_base.specs.declared.lines.Span.{Span}
 use Rattle.cf_base.specs.Rgb.{codes_of}
 use Rattle.cf_timecode.specs.Counting.{label_after}
 use Rattle.cf_timecode.specs.Spelling.{bcd_of}
@@ -30,8 +31,9 @@ use Rattle.record_timeline.specs.declared.Side.{Side}
 use Rattle.record_timeline.specs.declared.Side.TheVariants.{Black, Frame}
 use Rattle.record_timeline.specs.declared.Shot.{Shot}
 use Rattle.record_timeline.specs.declared.Shot.TheVariants.{Gap, One, Two}
-use Rattle.record_timeline.specs.Accepted.{first_frame, frame_count}
+use Rattle.record_timeline.specs.Accepted.{first_frame}
 use Rattle.conform_job.specs.Asks.{shot_of_frame}
+use Rattle.conform_job.specs.Cuts.{record_reel, reel_span}
 use Rattle.conform_job.specs.Job.{JobData}
 use Rattle.conform_job.specs.Keys.{key_of_ask}
 use Rattle.conform_job.specs.Refusals.{Files, file_of_key}
@@ -122,15 +124,19 @@ number_of job i = first_frame job.parts.timeline.events + i
 abbrev pub timecode_of : JobData → ℕ → ℕ
 timecode_of job number = bcd_of (label_after job.parts.timeline.rate job.parts.timeline.mode number)
 
--- the header of frame i
+-- the span of the record reel that frame i is of
+abbrev pub own_span : JobData → ℕ → Span
+own_span job i = reel_span job.parts (record_reel job.parts i)
+
+-- the header of frame i: its place among the frames of its record reel, and how many these are
 abbrev pub out_head : JobData → ℕ → OutHead
 out_head job i = record {
   width = job.parts.project.width;
   height = job.parts.project.height;
-  reel = 1;
+  reel = record_reel job.parts i;
   frame = number_of job i;
-  position = i;
-  length = frame_count job.parts.timeline.events;
+  position = i - (own_span job i).start;
+  length = (own_span job i).end - (own_span job i).start;
   timecode = Some (timecode_of job (number_of job i));
   title = job.parts.project.title;
 }

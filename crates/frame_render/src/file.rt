@@ -146,21 +146,25 @@ fn put_header(job: &Job, i: u32, out: &mut [u8])
     out[..2048].copy_from_slice(&header);
 }
 
-/// The header of record frame `i`.
+/// The header of record frame `i`: its place in its record reel, and how many frames that has.
 fn out_head(job: &Job, i: u32) -> OutHead
     requires { i < frame_count job.now.parts.timeline.events }
     ensures head { result ≡ out_head job.now i }
     ensures valid { IsOutHead result }
     ensures planned { ArePlanned job.now.parts }
 {
+    // The job says with its count what holds of every job.
+    let _ = job.count();
     let number = job.timeline().first().0 + i;
+    let reel = job.reel_of(i);
+    let span = job.reel_span(reel);
     OutHead {
         width: job.width(),
         height: job.height(),
-        reel: 1,
+        reel,
         frame: number,
-        position: i,
-        length: job.count(),
+        position: i - span.start,
+        length: span.end - span.start,
         timecode: Some(timecode_of(job, number)),
         title: job.project().title,
     }
