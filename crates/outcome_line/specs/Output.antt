@@ -140,8 +140,13 @@ abbrev pub source_line : List ℕ → ℕ → List ℕ → ℤ → Option (List 
 source_line number at reel source fault =
     ended (codes "refused " ++ number ++ codes " line " ++ decimal at ++ codes " reel " ++ reel ++ codes " frame " ++ signed_decimal source ++ fault_text fault)
 
+-- a cut of the project, counted from 1
+abbrev pub cut_line : ℕ → List ℕ
+cut_line cut = ended (codes "refused 15.5 cut " ++ decimal cut)
+
 -- a fault of the scan and want of memory are no refusals
 abbrev pub job_line : JobFault → List ℕ
+job_line (job.BadCut cut) = cut_line cut
 job_line (job.UnknownReel at) = numbered_line (codes "15.1") at
 job_line (job.MissingFrame at reel source) = source_line (codes "15.2") at reel source None
 job_line (job.BadFrame at reel source fault) = source_line (codes "15.3") at reel source (Some (header_number fault))

@@ -1,7 +1,7 @@
 //! The lines that are put for outcomes.
 ghost use Rattle.std.specs.Prelude.{◌≡◌, ◌++◌, IfOk, OnOk, MatchOption};
 ghost use Rattle.std.specs.Option.{option_copied};
-ghost use Rattle.outcome_line.specs.Output.{plain_line, refused_line, absent_line, numbered_line, timeline_line, reels_line, project_line, job_line, source_line, fault_text, line_of, other_job_line, bad_ledger_line, damaged_line, changed_line, IsMade};
+ghost use Rattle.outcome_line.specs.Output.{plain_line, refused_line, absent_line, numbered_line, timeline_line, reels_line, project_line, cut_line, job_line, source_line, fault_text, line_of, other_job_line, bad_ledger_line, damaged_line, changed_line, IsMade};
 
 use crate::outcome::{
     Outcome, Refused, Which, cube_number, header_number, list_number, project_number, reels_number,
@@ -196,11 +196,23 @@ fn overlap_line(alloc: Global, line: u32, with: u32) -> Result<Vec<u8>, AllocErr
     Ok(text)
 }
 
-/// The line of a source frame that can't be had. A fault of the scan and want of memory have none here.
+/// The line of a cut that is refused.
+fn cut_line(alloc: Global, cut: u32) -> Result<Vec<u8>, AllocError>
+    ensures { IfOk result (λ text. text.items ≡ cut_line cut) }
+{
+    let mut text = Vec::new(alloc);
+    put_bytes(&mut text, b"refused 15.5 cut ")?;
+    put_number(&mut text, cut)?;
+    put_bytes(&mut text, b"\n")?;
+    Ok(text)
+}
+
+/// The line of a cut, or of a source frame that can't be had. A fault of the scan and want of memory have none here.
 fn job_line(alloc: Global, fault: &JobFault) -> Result<Vec<u8>, AllocError>
     ensures { IfOk result (λ text. text.items ≡ job_line fault.now) }
 {
     match fault {
+        JobFault::BadCut { cut } => cut_line(alloc, *cut),
         JobFault::UnknownReel { line } => numbered_line(alloc, "15.1", *line),
         JobFault::MissingFrame { line, reel, source } => {
             source_line(alloc, "15.2", *line, reel, *source, None)

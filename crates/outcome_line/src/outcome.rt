@@ -72,7 +72,7 @@ pub enum Refused {
     Timeline(TimelineFault),
     /// 10.1 to 10.8: the cube's text has a fault.
     Cube(CubeFault),
-    /// 15.1 to 15.4: a source frame can't be had.
+    /// 15.1 to 15.5: a source frame can't be had, or a cut is none.
     Job(JobFault),
     /// 8.1 to 8.13: the frame's file has a header that isn't taken.
     Frame(DpxFault),
