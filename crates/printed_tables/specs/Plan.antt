@@ -1,7 +1,8 @@
 -- The plan of a job, as it is printed: what each record frame shows, and from which source frames. The text is this project's
 -- own rule.
---     plan_of parts      one line for each record frame, and the line of their number
-use Rattle.std.specs.Prelude.{ℕ, ◌+◌, List, [], ◌∷◌, ◌++◌, codes, decimal, slice_get, unwrap_or}
+--     plan_of parts      one line for each record frame, and the line of their number; where the record is cut, a line before
+--       each reel's first frame
+use Rattle.std.specs.Prelude.{ℕ, ◌+◌, ◌&&◌, ◌==◌, nat_lt, Bool, if◌then◌else◌, length, List, [], ◌∷◌, ◌++◌, codes, decimal, slice_get, unwrap_or}
 use Rattle.std.specs.Fmt.{signed_decimal}
 use Rattle.std.specs.List.{flat_map, range_with_len}
 use Rattle.std.specs.Option.{option_map}
@@ -15,6 +16,8 @@ use Rattle.record_timeline.specs.declared.Side.TheVariants.{Black, Frame}
 use Rattle.record_timeline.specs.declared.Shot.{Shot}
 use Rattle.record_timeline.specs.declared.Shot.TheVariants.{Gap, One, Two}
 use Rattle.conform_job.specs.Asks.{shot_of_frame}
+use Rattle.conform_job.specs.Cuts.{record_reel, reel_span}
+use Rattle.conform_job.specs.declared.parts.JobParts.{JobParts}
 use Rattle.printed_text.specs.Text.{ended, spaced, spaced_line}
 use Rattle.printed_tables.specs.Table.{label_word}
 
@@ -41,8 +44,21 @@ shot_text events (Two old new transition k d) =
     spaced (kind_word transition ∷ (decimal k ++ codes "/" ++ decimal d) ∷ side_text events old ∷ side_text events new ∷ [])
 
 -- the record label of frame i (SMPTE ST 12-1), and what it shows
-unfoldable pub plan_line : RecordReel → ℕ → List ℕ
-plan_line t i = spaced_line (label_word t.rate t.mode (first_frame t.events + i) ∷ shot_text t.events (shot_of_frame t i) ∷ [])
+unfoldable pub frame_line : RecordReel → ℕ → List ℕ
+frame_line t i = spaced_line (label_word t.rate t.mode (first_frame t.events + i) ∷ shot_text t.events (shot_of_frame t i) ∷ [])
 
-unfoldable pub plan_of : RecordReel → List ℕ
-plan_of t = flat_map (plan_line t) (range_with_len 0 (frame_count t.events)) ++ ended (codes "frames " ++ decimal (frame_count t.events))
+-- the record is cut, and frame i is the first of its reel
+abbrev pub begins_reel : JobParts → ℕ → Bool
+begins_reel p i = nat_lt 0 (length p.project.cuts) && i == (reel_span p (record_reel p i)).start
+
+abbrev pub reel_text : JobParts → ℕ → List ℕ
+reel_text p i = spaced_line (codes "reel" ∷ decimal (record_reel p i) ∷ [])
+
+unfoldable pub reel_line : JobParts → ℕ → List ℕ
+reel_line p i = if begins_reel p i then reel_text p i else []
+
+unfoldable pub plan_line : JobParts → ℕ → List ℕ
+plan_line p i = reel_line p i ++ frame_line p.timeline i
+
+unfoldable pub plan_of : JobParts → List ℕ
+plan_of p = flat_map (plan_line p) (range_with_len 0 (frame_count p.timeline.events)) ++ ended (codes "frames " ++ decimal (frame_count p.timeline.events))

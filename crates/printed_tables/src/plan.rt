@@ -1,9 +1,10 @@
 //! The plan of a job, as text.
-ghost use Rattle.std.specs.Prelude.{◌≡◌, ◌<◌, ◌++◌, ◌∷◌, [], codes, OnOk, IfOk};
+ghost use Rattle.std.specs.Prelude.{◌≡◌, ◌<◌, ◌≤◌, ◌++◌, ◌∷◌, [], codes, OnOk, IfOk};
 ghost use Rattle.std.specs.Fmt.{signed_decimal};
 ghost use Rattle.record_timeline.specs.Accepted.{frame_count};
 ghost use Rattle.record_timeline.specs.Shots.{IsSideIn, IsShotIn};
-ghost use Rattle.printed_tables.specs.Plan.{plan_of, plan_line, side_text, shot_text, kind_word};
+ghost use Rattle.conform_job.specs.Cuts.{record_reel, reel_count};
+ghost use Rattle.printed_tables.specs.Plan.{plan_of, begins_reel, frame_line, reel_line, side_text, shot_text, kind_word};
 
 use crate::table::put_label;
 use cf_base::{EventRec, Transition, last_digits};
@@ -12,13 +13,15 @@ use printed_text::{put_bytes, put_number};
 use record_timeline::{Shot, Side};
 use std::alloc::{AllocError, Global};
 
-/// One line for each record frame, and the line of their number.
+/// One line for each record frame, and the line of their number; where the record is cut, a line before each reel's first
+/// frame.
 pub fn plan_of(alloc: Global, job: &Job) -> Result<Vec<u8>, AllocError>
-    ensures { IfOk result (λ text. text.items ≡ plan_of job.now.parts.timeline) }
+    ensures { IfOk result (λ text. text.items ≡ plan_of job.now.parts) }
 {
     let mut text = Vec::new(alloc);
     let count = job.count();
     for i in 0..count {
+        put_reel(&mut text, job, i)?;
         put_frame(&mut text, job, i)?;
     }
     put_bytes(&mut text, b"frames ")?;
@@ -27,10 +30,36 @@ pub fn plan_of(alloc: Global, job: &Job) -> Result<Vec<u8>, AllocError>
     Ok(text)
 }
 
+/// The line of a reel, where the record is cut and record frame `i` is the reel's first.
+#[tactic(auto, unfolding(crate::specs::Plan::reel_line))]
+fn put_reel(text: &mut Vec<u8>, job: &Job, i: u32) -> Result<(), AllocError>
+    requires { i < frame_count job.now.parts.timeline.events }
+    ensures { OnOk result (text.new.items ≡ text.old.items ++ reel_line job.now.parts i) }
+{
+    let reel = job.reel_of(i);
+    if !begins_reel(job, reel, i) {
+        return Ok(());
+    }
+    put_bytes(text, b"reel ")?;
+    put_number(text, reel)?;
+    put_bytes(text, b"\n")?;
+    Ok(())
+}
+
+/// Whether the record is cut, and record frame `i`, which is one of this reel, the reel's first.
+fn begins_reel(job: &Job, reel: u16, i: u32) -> bool
+    requires some { 1 ≤ reel }
+    requires most { reel ≤ reel_count job.now.parts }
+    requires own { reel ≡ record_reel job.now.parts i }
+    ensures { result ≡ begins_reel job.now.parts i }
+{
+    !job.project().cuts.items().is_empty() && i == job.reel_span(reel).start
+}
+
 /// The line of record frame `i`.
 fn put_frame(text: &mut Vec<u8>, job: &Job, i: u32) -> Result<(), AllocError>
     requires { i < frame_count job.now.parts.timeline.events }
-    ensures { OnOk result (text.new.items ≡ text.old.items ++ plan_line job.now.parts.timeline i) }
+    ensures { OnOk result (text.new.items ≡ text.old.items ++ frame_line job.now.parts.timeline i) }
 {
     let timeline = job.timeline();
     let number = timeline.first().0 + i;

@@ -5,4 +5,4 @@ use Rattle.printed_tables.proofs.plan.plan_of.Given as goal
 
 -- the lines of the first frames
 abbrev pub invariant-loop-i : goal.invariant-loop-i
-invariant-loop-i l = l.text.items ≡ flat_map (plan_line l.job.parts.timeline) (range_with_len 0 l.i)
+invariant-loop-i l = l.text.items ≡ flat_map (plan_line l.job.parts) (range_with_len 0 l.i)
