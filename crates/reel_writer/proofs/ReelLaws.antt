@@ -5,6 +5,7 @@ use Rattle.cf_base.specs.declared.file.FileId.{FileId}
 use Rattle.cf_base.specs.declared.file.FileId.TheVariants.{Frame}
 use Rattle.scan_source.specs.World.{World, file_at}
 use Rattle.record_timeline.specs.Accepted.{first_frame}
+use Rattle.conform_job.specs.Cuts.{record_reel}
 use Rattle.conform_job.specs.Job.{JobData, file_of}
 use Rattle.conform_job.specs.Refusals as sources
 use Rattle.frame_render.specs.Frame.{frame_file, frame_size}
@@ -20,10 +21,10 @@ use Rattle.reel_writer.specs.Reel.{frames_of, reel_of, HasAcked, HasFrameFiles, 
 
 module _ (job : JobData) where
   pub is_reel : (world : World) → IsReel (frames_of job) (reel_of job (file_at world))
-  is_reel world i lt = (1, first_frame job.parts.timeline.events + i, refl)
+  is_reel world i lt = (record_reel job.parts i, first_frame job.parts.timeline.events + i, refl)
 
   pub is_frame_file : (i : ℕ) → IsFrameFile (file_of job i)
-  is_frame_file i = (1, first_frame job.parts.timeline.events + i, refl)
+  is_frame_file i = (record_reel job.parts i, first_frame job.parts.timeline.events + i, refl)
 
   -- no two frames have one file
   pub files_apart : (k i : ℕ) → k ≢ i → file_of job k ≢ file_of job i
