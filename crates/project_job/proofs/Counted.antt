@@ -12,7 +12,7 @@ use Rattle.conform_job.specs.Job.{ArePlanned}
 use Rattle.conform_job.specs.declared.parts.JobParts.{JobParts}
 use Rattle.toml.specs.Data.{Data, Items, Members, get_member, item, no_items, table}
 use Rattle.project_file.specs.Keys.{◌>>=◌, fault, flag_at, needed, optional, text_at, whole_at}
-use Rattle.project_file.specs.Projects.{Means, counts, knows_reels, knows_top, label_number, mode_at, mode_of, place, prefix_of, project_of, reel_at, reel_name_of, reel_of, reels_from, reels_in, settings_in}
+use Rattle.project_file.specs.Projects.{Means, counts, cuts_in, knows_reels, knows_top, label_number, mode_at, mode_of, place, prefix_of, project_of, reel_at, reel_name_of, reel_of, reels_from, reels_in, settings_in}
 use Rattle.project_file.specs.declared.Project.{Project}
 use Rattle.project_file.specs.declared.fault.ProjectFault.{ProjectFault}
 use Rattle.project_file.specs.declared.fault.ProjectKind.TheVariants.{OutOfRange}
@@ -79,7 +79,8 @@ members_counted : (ms : Members) (project : Project) → project_of ms ≡ Ok pr
 members_counted ms project h =
     let settings = bound (settings_in ms) _ project h in
     let items = bound (reels_in ms) _ project settings.1 in
-    let reels = kept (reels_from settings.0.rate 1 items.0) _ project items.1 in
+    let cuts = bound (cuts_in ms) _ project items.1 in
+    let reels = kept (reels_from settings.0.rate 1 items.0) _ project cuts.1 in
     let top = bound (knows_top ms) _ project reels.2 in
     let known = bound (knows_reels 1 items.0) _ project top.1 in
     subst (λ (p : Project). AreCounted p.rate p.reels) (same_ok _ project known.1) (reels_counted settings.0.rate 1 items.0 reels.0 reels.1)

@@ -356,6 +356,7 @@ planned_whole : (files : Files) (text : List ℕ) (project : Project) (parts : J
     → IsRefusal fault (first_refusal parts files) → FileHasPlanned files (Some text) (Err (outcome_of_fault fault))
 planned_whole files text project parts faults.SourceFault means is first = tt
 planned_whole files text project parts faults.NoMemory means is first = tt
+planned_whole files text project parts (faults.BadCut cut) means is first = (Ok project, means, rw (is, first) refl)
 planned_whole files text project parts (faults.UnknownReel line) means is first = (Ok project, means, rw (is, first) refl)
 planned_whole files text project parts (faults.MissingFrame line reel source) means is first = (Ok project, means, rw (is, first) refl)
 planned_whole files text project parts (faults.BadFrame line reel source bad) means is first = (Ok project, means, rw (is, first) refl)
@@ -365,6 +366,7 @@ planned_whole files text project parts (faults.Geometry line reel source) means 
 fault_is : (fault : JobFault) → outcome_of_fault fault ≡ outcomes.SourceFault → fault ≡ faults.SourceFault
 fault_is faults.SourceFault is = refl
 fault_is faults.NoMemory is = cc
+fault_is (faults.BadCut cut) is = cc
 fault_is (faults.UnknownReel line) is = cc
 fault_is (faults.MissingFrame line reel source) is = cc
 fault_is (faults.BadFrame line reel source bad) is = cc

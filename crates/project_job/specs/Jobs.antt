@@ -78,7 +78,7 @@ abbrev pub look_in : Files → Option (List ℕ) → Result (Option (List ℕ) �
 look_in files None = Ok (None, None)
 look_in files (Some path) = cube_in (files path)
 
--- 15.1 to 15.4
+-- 15.5, then 15.1 to 15.4
 abbrev pub unless_job : JobParts → Option JobFault → Result JobParts Refused
 unless_job parts None = Ok parts
 unless_job parts (Some fault) = Err (refused.Job fault)
