@@ -1,0 +1,4 @@
+mod Cutting
+mod Lines
+mod Reading
+mod Rows

@@ -1,0 +1,16 @@
+use Rattle.std.proofs.Common.{◌≡◌, ◌≤◌, length, map, true}
+use Rattle.std.specs.List.{range_with_len}
+use Rattle.reel_disk.specs.Disk.{view_of, IsStill}
+use Rattle.reel_qc.specs.Table.{HasRows, acked_of}
+use Rattle.reel_qc.proofs.table.put_rows.Given as goal
+
+-- the lines of the frames below i
+abbrev pub invariant-loop-i : goal.invariant-loop-i
+invariant-loop-i g l = record {
+  still : g.D.Disk.tells ≡ true → IsStill (g.D.Disk.history l.fn.disk) (g.D.Disk.history l.disk);
+  rows : HasRows (map (λ p. p.kind) l.probes) l.job (g.D.Disk.tells ≡ true) (view_of (g.D.Disk.history l.fn.disk)) (acked_of l.view (range_with_len 0 l.i)) l.fn.text.items l.text.items l.frames;
+  few : l.frames ≤ l.i;
+  piece : length l.buffers.piece.items ≡ 65536;
+  same : g.D.Disk.same l.fn.disk l.disk;
+  faults : g.D.Disk.faults l.disk ≡ g.D.Disk.faults l.fn.disk;
+}

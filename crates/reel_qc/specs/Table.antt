@@ -1,0 +1,73 @@
+-- The quality table: a line for each acknowledged frame, with the counts over its file. The text is this project's own rule.
+--     quality_table kinds job view files      the table of what a view acknowledges, over these files
+--     defined_table kinds job world view      the same over the definition's files
+--     IsTable kinds view text      a table of some words for each of these frames: what is known over a disk that doesn't tell
+use Rattle.std.specs.Prelude.{◌≡◌, ℕ, false, List, [], ◌∷◌, ◌++◌, length, map, filter, slice_index_or, codes, decimal, Some}
+use Rattle.std.specs.List.{flat_map, range_with_len}
+use Rattle.conform_job.specs.Job.{JobData, file_of}
+use Rattle.printed_text.specs.Text.{spaced_line}
+use Rattle.reel_disk.specs.Disk.{Files}
+use Rattle.scan_source.specs.World.{World, file_at}
+use Rattle.frame_render.specs.Frame.{frame_file}
+use Rattle.resume_ledger.specs.Look.{ViewState}
+use Rattle.reel_qc.specs.Counts.{count_of}
+use Rattle.reel_qc.specs.Words.{frame_words}
+use Rattle.reel_qc.specs.declared.probe.ProbeKind.{ProbeKind}
+use Rattle.reel_qc.specs.declared.probe.ProbeKind.TheVariants.{High, Low, Sum}
+
+-- a frame, and the words of its file
+pub record Row : Type 0 where
+  pub frame : ℕ
+  pub words : List ℕ
+
+abbrev pub kind_word : ProbeKind → List ℕ
+kind_word High = codes "high"
+kind_word Low = codes "low"
+kind_word Sum = codes "sum"
+
+-- the frame's number, and the count of each kind
+unfoldable pub row_line : List ProbeKind → Row → List ℕ
+row_line kinds row = spaced_line (decimal row.frame ∷ map (λ kind. decimal (count_of kind row.words)) kinds)
+
+-- the kinds, the lines, and how many these are
+unfoldable pub table_of : List ProbeKind → List Row → List ℕ
+table_of kinds rows = spaced_line (codes "qc" ∷ map kind_word kinds)
+    ++ flat_map (row_line kinds) rows
+    ++ spaced_line (codes "frames" ∷ decimal (length rows) ∷ [])
+
+-- those of the frames that are acknowledged
+abbrev pub acked_of : ViewState → List ℕ → List ℕ
+acked_of view frames = filter (λ i. slice_index_or view.gates i false) frames
+
+-- all of them, in order
+abbrev pub acked_frames : ViewState → List ℕ
+acked_frames view = acked_of view (range_with_len 0 (length view.gates))
+
+abbrev pub row_of : JobData → Files → ℕ → Row
+row_of job files i = record { frame = i; words = frame_words job (files (file_of job i)) }
+
+abbrev pub quality_table : List ProbeKind → JobData → ViewState → Files → List ℕ
+quality_table kinds job view files = table_of kinds (map (row_of job files) (acked_frames view))
+
+-- over the files of the job's frames by their definition
+abbrev pub defined_row : JobData → World → ℕ → Row
+defined_row job world i = record { frame = i; words = frame_words job (Some (frame_file job (file_at world) i)) }
+
+abbrev pub defined_table : List ProbeKind → JobData → World → ViewState → List ℕ
+defined_table kinds job world view = table_of kinds (map (defined_row job world) (acked_frames view))
+
+pub record IsTable (kinds : List ProbeKind) (view : ViewState) (text : List ℕ) : Type 0 where
+  pub rows : List Row
+  pub frames : map (λ (row : Row). row.frame) rows ≡ acked_frames view
+  pub form : text ≡ table_of kinds rows
+
+-- The rest is said of a part of the table.
+
+-- The lines of those frames, some number of them, stand behind the text. Where the files are told, they are those of the files.
+pub record HasRows (kinds : List ProbeKind) (job : JobData) (Told : Type 0) (files : Files) (frames : List ℕ)
+    (old new : List ℕ) (number : ℕ) : Type 0 where
+  pub rows : List Row
+  pub frames_are : map (λ (row : Row). row.frame) rows ≡ frames
+  pub rows_are : Told → rows ≡ map (row_of job files) frames
+  pub text : new ≡ old ++ flat_map (row_line kinds) rows
+  pub number_is : number ≡ length rows

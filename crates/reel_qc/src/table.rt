@@ -1,0 +1,216 @@
+//! The quality table, as text.
+ghost use Rattle.std.specs.Prelude.{◌≡◌, ◌≢◌, ◌∷◌, [], ◌++◌, ◌<◌, ◌≤◌, true, length, map, codes, decimal, OnOk, IfOk, MatchResult, IsErrOf, Err};
+ghost use Rattle.cf_base.specs.Count.{HasCause};
+ghost use Rattle.printed_text.specs.Text.{spaced_line};
+ghost use Rattle.reel_disk.specs.Disk.{view_of, IsStill};
+ghost use Rattle.reel_writer.specs.Reel.{frames_of, IsSoundReel};
+ghost use Rattle.resume_ledger.specs.Look.{IsViewOf};
+ghost use Rattle.scan_source.specs.World.{World};
+ghost use Rattle.reel_qc.specs.Table.{HasRows, IsTable, acked_frames, acked_of, defined_table, kind_word, quality_table, row_line};
+
+use crate::counter::Counter;
+use crate::probe::{Probe, ProbeKind};
+use crate::words::{Buffers, read_frame};
+use conform_job::Job;
+use printed_text::{put_bytes, put_number};
+use reel_disk::Disk;
+use resume_ledger::LedgerView;
+use std::alloc::{AllocError, Global};
+
+/// Why there is no table.
+#[derive(Clone, Copy, Debug, PartialEq, Eq)]
+pub enum QcFault {
+    /// The disk failed.
+    DiskFault,
+    /// No memory was left.
+    NoMemory,
+}
+
+/// The quality table of a reel: the line `qc` and the kinds of the probes; a line for each frame that the view acknowledges,
+/// in order, with its number and the count of each probe over the words of its file, of which an absent one has none; last
+/// `frames` and how many lines these are. It only reads, and holds one file at a time.
+///
+/// `DiskFault` comes only where the disk's count of faults rose.
+pub fn quality_table<D: Disk, C: Counter>(
+    alloc: Global,
+    counter: &C,
+    probes: &[Probe],
+    disk: &mut D,
+    job: &Job,
+    view: &LedgerView,
+) -> Result<Vec<u8>, QcFault>
+    requires ready { C.ready }
+    requires size { length view.now.gates ≡ frames_of job.now }
+    ensures table { IfOk result (λ text. D.tells ≡ true
+        → text.items ≡ quality_table (map (λ p. p.kind) probes.now) job.now view.now (view_of (D.history disk.old))) }
+
+    // Where the folder is sound, and the view is what it acknowledges, these are the files of the definition.
+    ensures sound { IfOk result (λ text. D.tells ≡ true → (world : World)
+        → IsViewOf job.now.parts.digest (frames_of job.now) (view_of (D.history disk.old)) view.now
+        → IsSoundReel job.now world (view_of (D.history disk.old))
+        → text.items ≡ defined_table (map (λ p. p.kind) probes.now) job.now world view.now) }
+
+    // Which frames have a line is known over every disk.
+    ensures known { IfOk result (λ text. IsTable (map (λ p. p.kind) probes.now) view.now text.items) }
+
+    // What the disk holds stays as it is, at every moment and whatever the answer is.
+    ensures still { D.tells ≡ true → IsStill (D.history disk.old) (D.history disk.new) }
+    ensures same { D.same disk.old disk.new }
+    ensures cause { HasCause (D.faults disk.old) (D.faults disk.new)
+        (IsErrOf result QcFault.DiskFault) }
+    ensures steady { result ≢ Err QcFault.DiskFault → D.faults disk.new ≡ D.faults disk.old }
+{
+    let Ok(mut buffers) = Buffers::new(alloc, job) else {
+        return Err(QcFault::NoMemory);
+    };
+    let mut text = Vec::new(alloc);
+    let Ok(()) = put_kinds(&mut text, probes) else {
+        return Err(QcFault::NoMemory);
+    };
+    let frames = match put_rows(counter, probes, disk, job, view, &mut buffers, &mut text) {
+        Ok(frames) => frames,
+        Err(fault) => return Err(fault),
+    };
+    match put_frames(&mut text, frames) {
+        Ok(()) => Ok(text),
+        Err(_) => Err(QcFault::NoMemory),
+    }
+}
+
+/// The first line.
+fn put_kinds(text: &mut Vec<u8>, probes: &[Probe]) -> Result<(), AllocError>
+    ensures { OnOk result (text.new.items
+        ≡ text.old.items ++ spaced_line (codes "qc" ∷ map kind_word (map (λ p. p.kind) probes.now))) }
+{
+    put_bytes(text, b"qc")?;
+    for probe in probes {
+        put_word(text, word_of(probe.kind()))?;
+    }
+    put_bytes(text, b"\n")?;
+    Ok(())
+}
+
+/// Appends a blank and a word.
+fn put_word(text: &mut Vec<u8>, word: &[u8]) -> Result<(), AllocError>
+    ensures { OnOk result (text.new.items ≡ text.old.items ++ (32 ∷ word.now)) }
+{
+    put_bytes(text, b" ")?;
+    put_bytes(text, word)
+}
+
+/// Appends a blank and a count.
+fn put_count(text: &mut Vec<u8>, count: u64) -> Result<(), AllocError>
+    ensures { OnOk result (text.new.items ≡ text.old.items ++ (32 ∷ decimal count)) }
+{
+    put_bytes(text, b" ")?;
+    put_number(text, count)
+}
+
+/// The word of a kind.
+fn word_of(kind: ProbeKind) -> &'static [u8]
+    ensures { result.now ≡ kind_word kind }
+{
+    match kind {
+        ProbeKind::High => b"high",
+        ProbeKind::Low => b"low",
+        ProbeKind::Sum => b"sum",
+    }
+}
+
+/// The last line.
+fn put_frames(text: &mut Vec<u8>, frames: u32) -> Result<(), AllocError>
+    ensures { OnOk result (text.new.items
+        ≡ text.old.items ++ spaced_line (codes "frames" ∷ decimal frames ∷ [])) }
+{
+    put_bytes(text, b"frames ")?;
+    put_number(text, frames)?;
+    put_bytes(text, b"\n")
+}
+
+/// The lines of all frames that are acknowledged, and how many these are.
+fn put_rows<D: Disk, C: Counter>(
+    counter: &C,
+    probes: &[Probe],
+    disk: &mut D,
+    job: &Job,
+    view: &LedgerView,
+    buffers: &mut Buffers,
+    text: &mut Vec<u8>,
+) -> Result<u32, QcFault>
+    requires ready { C.ready }
+    requires size { length view.now.gates ≡ frames_of job.now }
+    requires piece { length buffers.old.piece.items ≡ 65536 }
+    ensures rows { IfOk result (HasRows (map (λ p. p.kind) probes.now) job.now (D.tells ≡ true) (view_of (D.history disk.old)) (acked_frames view.now) text.old.items text.new.items) }
+    ensures still { D.tells ≡ true → IsStill (D.history disk.old) (D.history disk.new) }
+    ensures same { D.same disk.old disk.new }
+    ensures cause { HasCause (D.faults disk.old) (D.faults disk.new)
+        (IsErrOf result QcFault.DiskFault) }
+    ensures steady { result ≢ Err QcFault.DiskFault → D.faults disk.new ≡ D.faults disk.old }
+{
+    let mut frames = 0;
+    for i in 0..job.count() {
+        match put_frame(counter, probes, disk, job, view, i, buffers, text) {
+            Ok(more) => frames += more,
+            Err(fault) => return Err(fault),
+        }
+    }
+    Ok(frames)
+}
+
+/// The line of a frame, where it is acknowledged: whether it has one, 1 or 0.
+fn put_frame<D: Disk, C: Counter>(
+    counter: &C,
+    probes: &[Probe],
+    disk: &mut D,
+    job: &Job,
+    view: &LedgerView,
+    i: u32,
+    buffers: &mut Buffers,
+    text: &mut Vec<u8>,
+) -> Result<u32, QcFault>
+    requires ready { C.ready }
+    requires size { length view.now.gates ≡ frames_of job.now }
+    requires within { i < frames_of job.now }
+    requires piece { length buffers.old.piece.items ≡ 65536 }
+    ensures rows { IfOk result (HasRows (map (λ p. p.kind) probes.now) job.now (D.tells ≡ true) (view_of (D.history disk.old)) (acked_of view.now (i ∷ [])) text.old.items text.new.items) }
+    ensures few { IfOk result (λ more. more ≤ 1) }
+    ensures piece { length buffers.new.piece.items ≡ 65536 }
+    ensures still { D.tells ≡ true → IsStill (D.history disk.old) (D.history disk.new) }
+    ensures same { D.same disk.old disk.new }
+    ensures cause { HasCause (D.faults disk.old) (D.faults disk.new)
+        (IsErrOf result QcFault.DiskFault) }
+    ensures steady { result ≢ Err QcFault.DiskFault → D.faults disk.new ≡ D.faults disk.old }
+{
+    if !view.is_acked(i) {
+        return Ok(0);
+    }
+    match read_frame(disk, job, i, buffers) {
+        Ok(()) => {}
+        Err(fault) => return Err(fault),
+    }
+    match put_row(counter, probes, i, &buffers.words, text) {
+        Ok(()) => Ok(1),
+        Err(_) => Err(QcFault::NoMemory),
+    }
+}
+
+/// The line of a frame with these words.
+fn put_row<C: Counter>(
+    counter: &C,
+    probes: &[Probe],
+    frame: u32,
+    words: &[u32],
+    text: &mut Vec<u8>,
+) -> Result<(), AllocError>
+    requires ready { C.ready }
+    requires words { length words.now ≤ 16777216 }
+    ensures { OnOk result (text.new.items
+        ≡ text.old.items ++ row_line (map (λ p. p.kind) probes.now) (record { frame = frame; words = words.now })) }
+{
+    put_number(text, frame)?;
+    for probe in probes {
+        put_count(text, counter.count(probe, words))?;
+    }
+    put_bytes(text, b"\n")?;
+    Ok(())
+}
