@@ -33,17 +33,19 @@ pub none_given : (line : LineText)
     → ((project : List ℕ) (workers share : ℕ) → Gives line (commands.Run project workers share) → ⊥)
     → ((path : List ℕ) → IsRow line (codes "status") None → IsPath line.subject path → ⊥)
     → ((path : List ℕ) → IsRow line (codes "verify") None → IsPath line.subject path → ⊥)
+    → ((path : List ℕ) → IsRow line (codes "qc") None → IsPath line.subject path → ⊥)
     → ((project : List ℕ) (margin : ℕ) → Gives line (commands.Pull project margin) → ⊥)
     → ((count : ℕ) → IsRow line (codes "demo") None → IsCount line.subject count → ⊥)
     → (command : Command) → Gives line command → ⊥
-none_given line frame list plan run status verify pull demo (commands.Frame path) h = frame path h.0 h.1
-none_given line frame list plan run status verify pull demo (commands.List file rate) h = list file rate h
-none_given line frame list plan run status verify pull demo (commands.Plan project) h = plan project h.0 h.1
-none_given line frame list plan run status verify pull demo (commands.Run project workers share) h = run project workers share h
-none_given line frame list plan run status verify pull demo (commands.Status project) h = status project h.0 h.1
-none_given line frame list plan run status verify pull demo (commands.Verify project) h = verify project h.0 h.1
-none_given line frame list plan run status verify pull demo (commands.Pull project margin) h = pull project margin h
-none_given line frame list plan run status verify pull demo (commands.Demo count) h = demo count h.0 h.1
+none_given line frame list plan run status verify qc pull demo (commands.Frame path) h = frame path h.0 h.1
+none_given line frame list plan run status verify qc pull demo (commands.List file rate) h = list file rate h
+none_given line frame list plan run status verify qc pull demo (commands.Plan project) h = plan project h.0 h.1
+none_given line frame list plan run status verify qc pull demo (commands.Run project workers share) h = run project workers share h
+none_given line frame list plan run status verify qc pull demo (commands.Status project) h = status project h.0 h.1
+none_given line frame list plan run status verify qc pull demo (commands.Verify project) h = verify project h.0 h.1
+none_given line frame list plan run status verify qc pull demo (commands.Qc project) h = qc project h.0 h.1
+none_given line frame list plan run status verify qc pull demo (commands.Pull project margin) h = pull project margin h
+none_given line frame list plan run status verify qc pull demo (commands.Demo count) h = demo count h.0 h.1
 
 pub one_found : (words : List Text) (found : Option Line) (line : Line) → found ≡ Some line
     → MatchOption found (HasNoLine words) (λ l. MakesLine words (text_of_line l)) → MakesLine words (text_of_line line)
@@ -91,6 +93,7 @@ named line =
     else if bytes_eq line.command (codes "run") then run_named line (path_text_of line.subject)
     else if bytes_eq line.command (codes "status") then path_named (λ p. commands.Status p) line
     else if bytes_eq line.command (codes "verify") then path_named (λ p. commands.Verify p) line
+    else if bytes_eq line.command (codes "qc") then path_named (λ p. commands.Qc p) line
     else if bytes_eq line.command (codes "pull") then pull_named (option_map (digits_value 10) line.extra) (path_text_of line.subject)
     else if bytes_eq line.command (codes "demo") then option_map (λ s. commands.Demo (digits_value 10 s)) (alone line)
     else None
@@ -115,6 +118,7 @@ given_is_named line (commands.Plan project) h = rw (h.0.command, h.0.extra, h.0.
 given_is_named line (commands.Run project workers share) h = rw (h.0.command, h.1, h.2, h.3) refl
 given_is_named line (commands.Status project) h = rw (h.0.command, h.0.extra, h.0.options, h.1) refl
 given_is_named line (commands.Verify project) h = rw (h.0.command, h.0.extra, h.0.options, h.1) refl
+given_is_named line (commands.Qc project) h = rw (h.0.command, h.0.extra, h.0.options, h.1) refl
 given_is_named line (commands.Pull project margin) h = rw (h.0.command, margin_named line.extra margin h.0.extra, h.1) refl
 given_is_named line (commands.Demo count) h = rw (h.0.command, h.0.extra, h.0.options, h.1.0.2) refl
 
@@ -135,6 +139,7 @@ counts_spelled words (commands.Run project workers share) h =
     (subst HasCount (sym h.2.2) (number_counts _ _ h.1.1.workers), subst HasCount (sym h.2.3) (number_counts _ _ h.1.1.share))
 counts_spelled words (commands.Status project) h = tt
 counts_spelled words (commands.Verify project) h = tt
+counts_spelled words (commands.Qc project) h = tt
 counts_spelled words (commands.Pull project margin) h = margin_small _ margin h.2.0.extra
 counts_spelled words (commands.Demo count) h = (h.2.1.1, h.2.1.0.3)
 

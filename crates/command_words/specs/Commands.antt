@@ -58,6 +58,7 @@ Gives line (commands.Plan project) = IsRow line (codes "plan") None × IsPath li
 Gives line (commands.Run project workers share) = IsRun line × IsPath line.subject project × (workers ≡ line.workers) × (share ≡ line.share)
 Gives line (commands.Status project) = IsRow line (codes "status") None × IsPath line.subject project
 Gives line (commands.Verify project) = IsRow line (codes "verify") None × IsPath line.subject project
+Gives line (commands.Qc project) = IsRow line (codes "qc") None × IsPath line.subject project
 Gives line (commands.Pull project margin) = IsPull line margin × IsPath line.subject project
 Gives line (commands.Demo count) = IsRow line (codes "demo") None × IsCount line.subject count
 

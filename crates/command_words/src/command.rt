@@ -28,6 +28,8 @@ pub enum Command {
     Status(PathText),
     /// `verify PROJECT`: whether what is rendered of a project's reel still is what was written.
     Verify(PathText),
+    /// `qc PROJECT`: counts over the frames that are rendered of a project's reel.
+    Qc(PathText),
     /// `pull PROJECT MARGIN`: the ranges of source frames that a project's job needs, with a margin of 0 to 1000 frames on
     /// both sides, in one to four digits.
     Pull {
@@ -76,6 +78,9 @@ fn command_on(line: &Line<'_>) -> Option<Command>
     }
     if let Some(project) = path_after(line, "verify") {
         return Some(Command::Verify(project));
+    }
+    if let Some(project) = path_after(line, "qc") {
+        return Some(Command::Qc(project));
     }
     if let Some(pull) = pull_on(line) {
         return Some(pull);
