@@ -1,6 +1,5 @@
 -- From a crew to the reply of its command.
-use Rattle.std.proofs.Common.{◌≡◌, ℕ, zero, suc, ◌+◌, ◌<◌, ◌≤◌, min, List, [], ◌∷◌, All, AllPairs, ◌≢◌, drop, set, length, get_or, slice_get, Option, Some, None, IfSome, Result, Ok, Err, MatchOption, MatchResult, true, refl, sym, ◌∙◌, ap, subst, arith, inl, inr, length-set}
-use Rattle.std.proofs.lemmas.List.{get_or-set_same, get_or-set_other}
+use Rattle.std.proofs.Common.{◌≡◌, ℕ, zero, suc, ◌+◌, ◌<◌, ◌≤◌, min, List, [], ◌∷◌, All, AllPairs, ◌≢◌, set, length, get_or, Option, IfSome, Result, Ok, Err, MatchOption, true, refl, sym, ◌∙◌, ap, subst, arith, inl, inr}
 use Rattle.cf_base.specs.Count.{HasRisen}
 use Rattle.scan_source.specs.World.{World, file_at}
 use Rattle.conform_job.specs.Answers.{count_after}
@@ -20,7 +19,7 @@ use Rattle.single_run.specs.declared.run_end.RunEnd.TheVariants as ends
 use Rattle.project_job.specs.Jobs.{HasPlanned, IsOfJob, AreLoaded, cube_count}
 use Rattle.outcome_line.specs.declared.outcome.Outcome.{Outcome}
 use Rattle.outcome_line.specs.declared.outcome.Outcome.TheVariants as outcomes
-use Rattle.project_run.specs.Crew.{HasFailed, HasFirstLoaded, IsCrewJobRun, IsCrewReply, IsUncrewed, told_by}
+use Rattle.project_run.specs.Crew.{HasFailed, HasFirstLoaded, IsCrewJobRun, IsCrewReply, told_by}
 use Rattle.project_run.specs.Run.{DiskState, IsReplyOf}
 
 -- an error is the same error of another result

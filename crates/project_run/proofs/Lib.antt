@@ -1,3 +1,3 @@
 pub mod Crews
+pub mod Looking
 pub mod Runs
-pub mod Verifying

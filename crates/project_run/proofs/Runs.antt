@@ -18,8 +18,8 @@ use Rattle.single_run.specs.declared.run_end.RunEnd.{RunEnd}
 use Rattle.single_run.specs.declared.run_end.RunEnd.TheVariants as ends
 use Rattle.project_job.specs.Jobs.{HasPlanned, IsOfJob, cube_count}
 use Rattle.project_run.specs.Run.{DiskState, IsKnown, IsOfRun, IsJobRun, IsRunReply}
-use Rattle.project_run.specs.Status.{IsOfLook, IsStatus, IsStatusReply}
-use Rattle.project_run.specs.Verify.{IsOfVerify, IsVerified, IsVerifyReply}
+use Rattle.project_run.specs.Look.{IsLookReply, IsOfLook}
+use Rattle.project_run.specs.Verify.{IsOfVerify}
 use Rattle.outcome_line.specs.declared.outcome.Outcome.{Outcome}
 use Rattle.outcome_line.specs.declared.outcome.Outcome.TheVariants as outcomes
 
@@ -78,7 +78,7 @@ of_job outcomes.SourceFault kind = tt
 of_job outcomes.DiskFault kind = absurd kind
 of_job outcomes.NoMemory kind = tt
 
--- the same of a look at the folder, and of a check of its files
+-- the same of a look at the folder
 pub job_looks : (outcome : Outcome) → IsOfJob outcome → IsOfLook outcome
 job_looks outcomes.Done kind = absurd kind
 job_looks outcomes.Usage kind = absurd kind
@@ -92,18 +92,13 @@ job_looks outcomes.SourceFault kind = tt
 job_looks outcomes.DiskFault kind = absurd kind
 job_looks outcomes.NoMemory kind = tt
 
+-- what a look may come to, a check of the files may come to
+look_verifies : (outcome : Outcome) → IsOfLook outcome → IsOfVerify outcome
+look_verifies (outcomes.Damaged frame kept found) kind = tt
+look_verifies other kind = kind
+
 pub job_verifies : (outcome : Outcome) → IsOfJob outcome → IsOfVerify outcome
-job_verifies outcomes.Done kind = absurd kind
-job_verifies outcomes.Usage kind = absurd kind
-job_verifies (outcomes.SinkFault instead) kind = absurd kind
-job_verifies (outcomes.Refused refusal) kind = tt
-job_verifies (outcomes.OtherJob kept wanted) kind = absurd kind
-job_verifies (outcomes.BadLedger len) kind = absurd kind
-job_verifies (outcomes.Damaged frame kept found) kind = absurd kind
-job_verifies (outcomes.Changed reel key was now) kind = absurd kind
-job_verifies outcomes.SourceFault kind = tt
-job_verifies outcomes.DiskFault kind = absurd kind
-job_verifies outcomes.NoMemory kind = tt
+job_verifies outcome kind = look_verifies outcome (job_looks outcome kind)
 
 pub run_in : {share : ℕ} (job : JobData) (here told : Option World) (path : List ℕ) (disk disk_after : DiskState) (loads between loads_after : ℕ) (reached : Outcome) (output : List ℕ) → here ≡ told
     → IfSome told (λ world. HasPlanned (file_at world) path (Ok job)) → between ≡ count_after (2 + cube_count job.parts.project.cube) loads
@@ -116,22 +111,12 @@ run_in {share = share} job here told path disk disk_after loads between loads_af
   ran = subst (λ told. IsJobRun job told share disk disk_after between loads_after reached output) same ran;
 })
 
-pub status_in : (job : JobData) (told : Option World) (path : List ℕ) (disk disk_after : DiskState) (loads loads_after : ℕ) (reached : Outcome) (output : List ℕ)
+pub looked_in : (Looked : JobData → Type 0) (job : JobData) (told : Option World) (path : List ℕ) (disk disk_after : DiskState) (loads loads_after : ℕ) (reached : Outcome)
     → IfSome told (λ world. HasPlanned (file_at world) path (Ok job)) → loads_after ≡ count_after (2 + cube_count job.parts.project.cube) loads
-    → IsStatus job disk disk_after reached output → IsStatusReply told path disk disk_after loads loads_after reached output
-status_in job told path disk disk_after loads loads_after reached output comes texts status = inl (record {
+    → Looked job → IsLookReply told path disk disk_after loads loads_after reached Looked
+looked_in Looked job told path disk disk_after loads loads_after reached comes texts looked = inl (record {
   job = job;
   comes = comes;
   texts = texts;
-  status = status;
-})
-
-pub verified_in : (job : JobData) (told : Option World) (path : List ℕ) (disk disk_after : DiskState) (loads loads_after : ℕ) (reached : Outcome) (output : List ℕ)
-    → IfSome told (λ world. HasPlanned (file_at world) path (Ok job)) → loads_after ≡ count_after (2 + cube_count job.parts.project.cube) loads
-    → IsVerified job disk disk_after reached output → IsVerifyReply told path disk disk_after loads loads_after reached output
-verified_in job told path disk disk_after loads loads_after reached output comes texts verified = inl (record {
-  job = job;
-  comes = comes;
-  texts = texts;
-  verified = verified;
+  looked = looked;
 })

@@ -1,4 +1,6 @@
 pub mod Crew
+pub mod Look
+pub mod Quality
 pub mod Run
 pub mod Status
 pub mod Verify

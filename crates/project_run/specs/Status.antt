@@ -1,32 +1,23 @@
 -- The command `status`: how many frames of a project's reel the reel folder acknowledges. All of it is this project's own rule.
---     HasStatus      the project came to a job, and the folder was looked at
-use Rattle.std.specs.Prelude.{◌≡◌, ◌⊎◌, ℕ, ◌+◌, true, List, [], ◌∷◌, ◌++◌, codes, decimal, Option, IfSome, Result, Ok, Err}
-use Rattle.scan_source.specs.World.{World, file_at}
+--     IsStatusReply      the project came to a job, and the folder was looked at, or it came to none
+use Rattle.std.specs.Prelude.{◌≡◌, ◌⊎◌, ℕ, true, List, [], ◌∷◌, ◌++◌, codes, decimal, Option, Result, Ok, Err}
+use Rattle.scan_source.specs.World.{World}
 use Rattle.reel_disk.specs.Disk.{IsStill}
 use Rattle.reel_writer.specs.Reel.{frames_of}
-use Rattle.conform_job.specs.Answers.{count_after}
 use Rattle.conform_job.specs.Job.{JobData}
 use Rattle.resume_ledger.specs.Peek.{HasPeeked, IsPeekFor}
 use Rattle.resume_ledger.specs.declared.attach.OpenFault.{OpenFault}
-use Rattle.resume_ledger.specs.declared.attach.OpenFault.TheVariants as faults
-use Rattle.project_job.specs.Jobs.{ComesTo, cube_count}
 use Rattle.printed_text.specs.Text.{spaced_line}
 use Rattle.outcome_line.specs.declared.outcome.Outcome.{Outcome}
 use Rattle.outcome_line.specs.declared.outcome.Outcome.TheVariants as outcome
-use Rattle.project_run.specs.Run.{DiskState, IsOfRun, IsUnplanned}
+use Rattle.project_run.specs.Look.{IsLookReply, outcome_of_fault}
+use Rattle.project_run.specs.Run.{DiskState}
 
 -- the frames of the reel, and those that the folder acknowledges
 abbrev pub status_text : (frames acked : ℕ) → List ℕ
 status_text frames acked =
     spaced_line (codes "frames" ∷ decimal frames ∷ [])
     ++ spaced_line (codes "acknowledged" ∷ decimal acked ∷ [])
-
--- the outcome of a ledger that can't be had
-abbrev pub outcome_of_fault : OpenFault → Outcome
-outcome_of_fault (faults.OtherJob kept wanted) = outcome.OtherJob kept wanted
-outcome_of_fault (faults.BadLedger len) = outcome.BadLedger len
-outcome_of_fault faults.DiskFault = outcome.DiskFault
-outcome_of_fault faults.NoMemory = outcome.NoMemory
 
 -- the outcome of a look at the folder
 abbrev pub outcome_of_peek : Result ℕ OpenFault → Outcome
@@ -42,18 +33,6 @@ pub record IsStatus (job : JobData) (disk disk_after : DiskState) (reached : Out
   pub known : IsPeekFor job.parts.digest (frames_of job) answer
   pub still : disk.tells ≡ true → IsStill disk.history disk_after.history
 
--- The project came to this job, and the folder was looked at.
-pub record HasStatus (told : Option World) (path : List ℕ) (disk disk_after : DiskState) (loads loads_after : ℕ) (reached : Outcome) (output : List ℕ) : Type 0 where
-  pub job : JobData
-  pub comes : IfSome told (λ world. ComesTo (file_at world) path (Ok job.parts))
-  pub texts : loads_after ≡ count_after (2 + cube_count job.parts.project.cube) loads
-  pub status : IsStatus job disk disk_after reached output
-
 abbrev pub IsStatusReply : Option World → List ℕ → DiskState → DiskState → ℕ → ℕ → Outcome → List ℕ → Type 0
 IsStatusReply told path disk disk_after loads loads_after reached output =
-    HasStatus told path disk disk_after loads loads_after reached output ⊎ IsUnplanned told path disk disk_after loads loads_after reached
-
--- the outcomes that a look at the folder may come to in place of Done: no source file is loaded, and none changes
-abbrev pub IsOfLook : Outcome → Type 0
-IsOfLook (outcome.Changed reel key was now) = ⊥
-IsOfLook other = IsOfRun other
+    IsLookReply told path disk disk_after loads loads_after reached (λ job. IsStatus job disk disk_after reached output)

@@ -1,23 +1,20 @@
 -- The command `verify`: whether the file of each frame that the reel folder acknowledges is still the one of which the ledger
 -- keeps the SHA-256. All of it is this project's own rule.
---     HasVerified      the project came to a job, and the folder was checked
-use Rattle.std.specs.Prelude.{◌≡◌, ◌≢◌, ◌⊎◌, ℕ, ◌+◌, true, List, [], ◌∷◌, ◌++◌, codes, decimal, count_by, Option, IfSome, Result, Ok, Err, MatchResult}
-use Rattle.scan_source.specs.World.{World, file_at}
-use Rattle.reel_disk.specs.Disk.{view_of, IsStill}
-use Rattle.conform_job.specs.Answers.{count_after}
+--     IsVerifyReply      the project came to a job, and the folder was checked, or it came to none
+use Rattle.std.specs.Prelude.{◌≡◌, ◌≢◌, ◌⊎◌, ℕ, true, List, [], ◌∷◌, ◌++◌, codes, decimal, count_by, Option, Result, Ok, Err}
+use Rattle.scan_source.specs.World.{World}
+use Rattle.reel_disk.specs.Disk.{view_of}
 use Rattle.conform_job.specs.Job.{JobData}
-use Rattle.resume_ledger.specs.Look.{ViewState, HasLooked, IsLookFor}
-use Rattle.resume_ledger.specs.declared.attach.OpenFault.{OpenFault}
+use Rattle.resume_ledger.specs.Look.{ViewState}
 use Rattle.reel_writer.specs.Reel.{frames_of, IsSoundReel}
 use Rattle.reel_writer.specs.Damage.{HasChecked, IsCheckFor, record_count}
 use Rattle.reel_writer.specs.declared.damage.CheckFault.{CheckFault}
 use Rattle.reel_writer.specs.declared.damage.CheckFault.TheVariants as faults
-use Rattle.project_job.specs.Jobs.{ComesTo, cube_count}
 use Rattle.printed_text.specs.Text.{spaced_line}
 use Rattle.outcome_line.specs.declared.outcome.Outcome.{Outcome}
 use Rattle.outcome_line.specs.declared.outcome.Outcome.TheVariants as outcome
-use Rattle.project_run.specs.Run.{DiskState, IsUnplanned}
-use Rattle.project_run.specs.Status.{IsOfLook, outcome_of_fault}
+use Rattle.project_run.specs.Look.{HasSeen, IsLookReply, IsOfLook}
+use Rattle.project_run.specs.Run.{DiskState}
 
 -- the frames of the reel, those that the folder acknowledges, and those whose files were compared with their records
 abbrev pub verify_text : (frames acked verified : ℕ) → List ℕ
@@ -45,24 +42,12 @@ pub record IsChecked (job : JobData) (view : ViewState) (disk : DiskState) (reac
       → (frame : ℕ) (kept found : List ℕ) → reached ≢ outcome.Damaged frame kept found
 
 -- The ledger was looked at and the files were checked, and at no moment was the folder changed.
-pub record IsVerified (job : JobData) (disk disk_after : DiskState) (reached : Outcome) (output : List ℕ) : Type 0 where
-  pub ledger : Result ViewState OpenFault
-  pub looked : disk.tells ≡ true → HasLooked job.parts.digest (frames_of job) disk.history disk_after.history ledger
-  pub known : IsLookFor job.parts.digest (frames_of job) ledger
-  pub checked : MatchResult ledger (λ view. IsChecked job view disk reached output)
-      (λ fault. (reached ≡ outcome_of_fault fault) ⊎ (reached ≡ outcome.NoMemory))
-  pub still : disk.tells ≡ true → IsStill disk.history disk_after.history
-
--- The project came to this job, and the folder was checked.
-pub record HasVerified (told : Option World) (path : List ℕ) (disk disk_after : DiskState) (loads loads_after : ℕ) (reached : Outcome) (output : List ℕ) : Type 0 where
-  pub job : JobData
-  pub comes : IfSome told (λ world. ComesTo (file_at world) path (Ok job.parts))
-  pub texts : loads_after ≡ count_after (2 + cube_count job.parts.project.cube) loads
-  pub verified : IsVerified job disk disk_after reached output
+abbrev pub IsVerified : JobData → DiskState → DiskState → Outcome → List ℕ → Type 0
+IsVerified job disk disk_after reached output = HasSeen job disk disk_after reached (λ view. IsChecked job view disk reached output)
 
 abbrev pub IsVerifyReply : Option World → List ℕ → DiskState → DiskState → ℕ → ℕ → Outcome → List ℕ → Type 0
 IsVerifyReply told path disk disk_after loads loads_after reached output =
-    HasVerified told path disk disk_after loads loads_after reached output ⊎ IsUnplanned told path disk disk_after loads loads_after reached
+    IsLookReply told path disk disk_after loads loads_after reached (λ job. IsVerified job disk disk_after reached output)
 
 -- the outcomes that it may come to in place of Done
 abbrev pub IsOfVerify : Outcome → Type 0

@@ -1,15 +1,17 @@
 //! The reel of a project's job in the reel folder: a run on one thread (`run`) or by a crew (`run_crewed`), how far it is
-//! (`status`), and whether what is done is still whole (`verify`), as the text that the command puts, or the outcome that it
-//! comes to.
+//! (`status`), whether what is done is still whole (`verify`), and counts over it (`qc`), as the text that the command puts, or
+//! the outcome that it comes to.
 #![tactic(auto)]
 
 mod alone;
 mod check;
 mod crew;
 mod progress;
+mod quality;
 mod report;
 
 pub use alone::run;
 pub use check::verify;
 pub use crew::{CrewEnded, run_crewed};
 pub use progress::status;
+pub use quality::qc;

@@ -2,8 +2,9 @@
 ghost use Rattle.std.specs.Prelude.{◌≡◌, ◌≢◌, ◌≤◌, Ok, Err, IfOk, MatchResult};
 ghost use Rattle.cf_base.specs.Count.{HasRisen};
 ghost use Rattle.outcome_line.specs.Output.{line_of};
+ghost use Rattle.project_run.specs.Look.{IsOfLook, outcome_of_fault};
 ghost use Rattle.project_run.specs.Run.{disk_state};
-ghost use Rattle.project_run.specs.Status.{IsOfLook, IsStatus, IsStatusReply, outcome_of_fault, status_text};
+ghost use Rattle.project_run.specs.Status.{IsStatus, IsStatusReply, status_text};
 
 use crate::report::put_count;
 use cf_base::PathText;

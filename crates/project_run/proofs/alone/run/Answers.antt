@@ -1,5 +1,5 @@
 -- The project comes to its job, which is run in the folder.
-use Rattle.std.proofs.Common.{◌∙◌, inr, refl, arith}
+use Rattle.std.proofs.Common.{inr, refl}
 use Rattle.project_run.proofs.Runs.{match_each, of_job, run_in}
 use Rattle.project_run.proofs.alone.run.Goals as goal
 

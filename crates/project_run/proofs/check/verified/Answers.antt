@@ -2,7 +2,7 @@
 use Rattle.std.proofs.Common.{refl}
 use Rattle.project_run.specs.Run.{disk_state}
 use Rattle.project_run.proofs.Runs.{match_each}
-use Rattle.project_run.proofs.Verifying.{verified_by}
+use Rattle.project_run.proofs.Looking.{verified_by}
 use Rattle.project_run.proofs.check.verified.Goals as goal
 
 pub returns-in-Ok-clause-verified : goal.returns-in-Ok-clause-verified

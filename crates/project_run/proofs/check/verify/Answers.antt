@@ -1,13 +1,12 @@
 -- The project comes to its job, and the folder is checked.
 use Rattle.std.proofs.Common.{refl, inr}
-use Rattle.project_run.proofs.Runs.{match_each, job_verifies, verified_in}
+use Rattle.project_run.proofs.Runs.{match_each, job_verifies, looked_in}
 use Rattle.project_run.proofs.check.verify.Goals as goal
 
 pub returns-clause-folder : goal.returns-clause-folder
 returns-clause-folder g c =
     let job = c.in-Ok.ensures in
-    let reply = verified_in c.in-Ok.job (g.S.Scans.world c.args.scan.now) c.args.path.now _ _ (g.S.Scans.loads c.args.scan.now) (g.S.Scans.loads c.planned.new.scan) in
-    match_each _ _ _ _ _ c.verified-reply.ensures.verified (λ text verified. reply _ _ job.told job.loaded verified) (λ outcome verified. reply _ _ job.told job.loaded verified)
+    match_each _ _ _ _ _ c.verified-reply.ensures.verified (λ text verified. looked_in _ c.in-Ok.job _ _ _ _ _ _ _ job.told job.loaded verified) (λ outcome verified. looked_in _ c.in-Ok.job _ _ _ _ _ _ _ job.told job.loaded verified)
 
 pub returns-in-Err-clause-folder : goal.returns-in-Err-clause-folder
 returns-in-Err-clause-folder g c =

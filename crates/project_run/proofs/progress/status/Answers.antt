@@ -1,13 +1,12 @@
 -- The project comes to its job, and the folder is looked at.
 use Rattle.std.proofs.Common.{refl, inr}
-use Rattle.project_run.proofs.Runs.{match_each, job_looks, status_in}
+use Rattle.project_run.proofs.Runs.{match_each, job_looks, looked_in}
 use Rattle.project_run.proofs.progress.status.Goals as goal
 
 pub returns-clause-folder : goal.returns-clause-folder
 returns-clause-folder g c =
     let job = c.in-Ok.ensures in
-    let reply = status_in c.in-Ok.job (g.S.Scans.world c.args.scan.now) c.args.path.now _ _ (g.S.Scans.loads c.args.scan.now) (g.S.Scans.loads c.planned.new.scan) in
-    match_each _ _ _ _ _ c.status_of-reply.ensures.status (λ text status. reply _ _ job.told job.loaded status) (λ outcome status. reply _ _ job.told job.loaded status)
+    match_each _ _ _ _ _ c.status_of-reply.ensures.status (λ text status. looked_in _ c.in-Ok.job _ _ _ _ _ _ _ job.told job.loaded status) (λ outcome status. looked_in _ c.in-Ok.job _ _ _ _ _ _ _ job.told job.loaded status)
 
 pub returns-in-Err-clause-folder : goal.returns-in-Err-clause-folder
 returns-in-Err-clause-folder g c =

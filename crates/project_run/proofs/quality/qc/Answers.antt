@@ -1,0 +1,17 @@
+-- The project comes to its job, and the frames are counted.
+use Rattle.std.proofs.Common.{refl, inr}
+use Rattle.project_run.proofs.Runs.{match_each, job_looks, looked_in}
+use Rattle.project_run.proofs.quality.qc.Goals as goal
+
+pub returns-clause-folder : goal.returns-clause-folder
+returns-clause-folder g c =
+    let job = c.in-Ok.ensures in
+    match_each _ _ _ _ _ c.tabled-reply.ensures.tabled (λ text tabled. looked_in _ c.in-Ok.job _ _ _ _ _ _ _ job.told job.loaded tabled) (λ outcome tabled. looked_in _ c.in-Ok.job _ _ _ _ _ _ _ job.told job.loaded tabled)
+
+pub returns-in-Err-clause-folder : goal.returns-in-Err-clause-folder
+returns-in-Err-clause-folder g c =
+    let job = c.in-Err.ensures in
+    inr (record { why = job.told; kind = job.kind; untouched = refl; texts = job.loads })
+
+pub returns-in-Err-clause-kind : goal.returns-in-Err-clause-kind
+returns-in-Err-clause-kind g c = job_looks _ c.in-Err.ensures.kind

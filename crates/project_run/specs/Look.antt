@@ -1,0 +1,48 @@
+-- A command that looks at the reel folder of a project, and never changes it: `status`, `verify` and `qc`. All of it is this
+-- project's own rule.
+--     IsLookReply      the project came to a job, and the folder was looked at, or it came to none
+--     HasSeen      the ledger was looked at, and of what it has this was found
+use Rattle.std.specs.Prelude.{◌≡◌, ◌⊎◌, ℕ, ◌+◌, true, List, Option, IfSome, Result, Ok, MatchResult}
+use Rattle.scan_source.specs.World.{World, file_at}
+use Rattle.reel_disk.specs.Disk.{IsStill}
+use Rattle.reel_writer.specs.Reel.{frames_of}
+use Rattle.conform_job.specs.Answers.{count_after}
+use Rattle.conform_job.specs.Job.{JobData}
+use Rattle.resume_ledger.specs.Look.{ViewState, HasLooked, IsLookFor}
+use Rattle.resume_ledger.specs.declared.attach.OpenFault.{OpenFault}
+use Rattle.resume_ledger.specs.declared.attach.OpenFault.TheVariants as faults
+use Rattle.project_job.specs.Jobs.{ComesTo, cube_count}
+use Rattle.outcome_line.specs.declared.outcome.Outcome.{Outcome}
+use Rattle.outcome_line.specs.declared.outcome.Outcome.TheVariants as outcome
+use Rattle.project_run.specs.Run.{DiskState, IsOfRun, IsUnplanned}
+
+-- the outcome of a ledger that can't be had
+abbrev pub outcome_of_fault : OpenFault → Outcome
+outcome_of_fault (faults.OtherJob kept wanted) = outcome.OtherJob kept wanted
+outcome_of_fault (faults.BadLedger len) = outcome.BadLedger len
+outcome_of_fault faults.DiskFault = outcome.DiskFault
+outcome_of_fault faults.NoMemory = outcome.NoMemory
+
+-- The ledger was looked at, and of what it has this was found, or it can't be had. At no moment was the folder changed.
+pub record HasSeen (job : JobData) (disk disk_after : DiskState) (reached : Outcome) (Found : ViewState → Type 0) : Type 0 where
+  pub ledger : Result ViewState OpenFault
+  pub looked : disk.tells ≡ true → HasLooked job.parts.digest (frames_of job) disk.history disk_after.history ledger
+  pub known : IsLookFor job.parts.digest (frames_of job) ledger
+  pub found : MatchResult ledger Found (λ fault. (reached ≡ outcome_of_fault fault) ⊎ (reached ≡ outcome.NoMemory))
+  pub still : disk.tells ≡ true → IsStill disk.history disk_after.history
+
+-- The project came to this job, and its folder was looked at so.
+pub record HasLookedAt (told : Option World) (path : List ℕ) (loads loads_after : ℕ) (Looked : JobData → Type 0) : Type 0 where
+  pub job : JobData
+  pub comes : IfSome told (λ world. ComesTo (file_at world) path (Ok job.parts))
+  pub texts : loads_after ≡ count_after (2 + cube_count job.parts.project.cube) loads
+  pub looked : Looked job
+
+abbrev pub IsLookReply : Option World → List ℕ → DiskState → DiskState → ℕ → ℕ → Outcome → (JobData → Type 0) → Type 0
+IsLookReply told path disk disk_after loads loads_after reached Looked =
+    HasLookedAt told path loads loads_after Looked ⊎ IsUnplanned told path disk disk_after loads loads_after reached
+
+-- the outcomes that a look at the folder may come to in place of Done: no source file is loaded, and none changes
+abbrev pub IsOfLook : Outcome → Type 0
+IsOfLook (outcome.Changed reel key was now) = ⊥
+IsOfLook other = IsOfRun other

@@ -1,0 +1,39 @@
+-- The command `qc`: counts over the file of each frame that the reel folder acknowledges. All of it is this project's own rule.
+--     IsQcReply      the project came to a job, and the folder's frames were counted, or it came to none
+use Rattle.std.specs.Prelude.{◌≡◌, ℕ, true, List, Option}
+use Rattle.scan_source.specs.World.{World}
+use Rattle.reel_disk.specs.Disk.{view_of}
+use Rattle.conform_job.specs.Job.{JobData}
+use Rattle.resume_ledger.specs.Look.{ViewState}
+use Rattle.reel_writer.specs.Reel.{IsSoundReel}
+use Rattle.reel_qc.specs.Table.{IsTable, defined_table, quality_table}
+use Rattle.reel_qc.specs.declared.probe.ProbeKind.{ProbeKind}
+use Rattle.outcome_line.specs.declared.outcome.Outcome.{Outcome}
+use Rattle.outcome_line.specs.declared.outcome.Outcome.TheVariants as outcome
+use Rattle.project_run.specs.Look.{HasSeen, IsLookReply}
+use Rattle.project_run.specs.Run.{DiskState}
+
+-- there is a table, the disk failed, or no memory was left
+abbrev pub IsOfCount : Outcome → Type 0
+IsOfCount outcome.Done = Unit {0}
+IsOfCount outcome.DiskFault = Unit {0}
+IsOfCount outcome.NoMemory = Unit {0}
+IsOfCount other = ⊥
+
+-- The frames of what the ledger has were counted, each kind in its column: it came to their table, over the files of the folder.
+pub record IsCounted (kinds : List ProbeKind) (job : JobData) (view : ViewState) (disk : DiskState) (reached : Outcome) (output : List ℕ) : Type 0 where
+  pub kind : IsOfCount reached
+  pub form : reached ≡ outcome.Done → disk.tells ≡ true → output ≡ quality_table kinds job view (view_of disk.history)
+  -- of a folder that is sound it is the table over the definition's files
+  pub sound : reached ≡ outcome.Done → disk.tells ≡ true → (world : World) → IsSoundReel job world (view_of disk.history)
+      → output ≡ defined_table kinds job world view
+  -- which frames have a line is known over every disk
+  pub known : reached ≡ outcome.Done → IsTable kinds view output
+
+-- The ledger was looked at and the frames were counted, and at no moment was the folder changed.
+abbrev pub IsTabled : List ProbeKind → JobData → DiskState → DiskState → Outcome → List ℕ → Type 0
+IsTabled kinds job disk disk_after reached output = HasSeen job disk disk_after reached (λ view. IsCounted kinds job view disk reached output)
+
+abbrev pub IsQcReply : List ProbeKind → Option World → List ℕ → DiskState → DiskState → ℕ → ℕ → Outcome → List ℕ → Type 0
+IsQcReply kinds told path disk disk_after loads loads_after reached output =
+    IsLookReply told path disk disk_after loads loads_after reached (λ job. IsTabled kinds job disk disk_after reached output)

@@ -1,0 +1,120 @@
+//! The command `qc`.
+ghost use Rattle.std.specs.Prelude.{◌≡◌, ◌≢◌, ◌≤◌, true, length, map, Err, MatchResult};
+ghost use Rattle.cf_base.specs.Count.{HasRisen};
+ghost use Rattle.reel_disk.specs.Disk.{view_of, IsStill};
+ghost use Rattle.reel_writer.specs.Reel.{frames_of};
+ghost use Rattle.resume_ledger.specs.Look.{IsViewOf};
+ghost use Rattle.outcome_line.specs.Output.{line_of};
+ghost use Rattle.project_run.specs.Look.{IsOfLook};
+ghost use Rattle.project_run.specs.Quality.{IsCounted, IsQcReply, IsTabled};
+ghost use Rattle.project_run.specs.Run.{disk_state};
+
+use crate::progress::outcome_of_fault;
+use cf_base::PathText;
+use conform_job::Job;
+use outcome_line::Outcome;
+use project_job::planned;
+use reel_disk::Disk;
+use reel_qc::{Counter, Probe, QcFault, quality_table};
+use resume_ledger::{Ledger, LedgerView};
+use scan_source::Scans;
+use std::alloc::Global;
+
+/// The quality table of the reel of the project at a path: for each frame that the reel folder acknowledges the counts of the
+/// probes over its file, or the outcome that was reached. The folder is looked at alone: no call but a length and a read is
+/// made on it, and none at all where the project is refused.
+///
+/// A file is counted as it lies there, also where it is damaged, and an absent one as no words. `OtherJob`, `BadLedger` and
+/// `DiskFault` come as they do for `status`.
+pub fn qc<S: Scans, D: Disk, C: Counter>(
+    alloc: Global,
+    counter: &C,
+    path: &PathText,
+    scan: &mut S,
+    disk: &mut D,
+    probes: &[Probe],
+) -> Result<Vec<u8>, Outcome>
+    requires ready { C.ready }
+    ensures folder { MatchResult result
+        (λ text. IsQcReply (map (λ p. p.kind) probes.now) (S.world scan.old) path.now (disk_state D.tells D.history D.faults disk.old) (disk_state D.tells D.history D.faults disk.new) (S.loads scan.old) (S.loads scan.new) Outcome.Done text.items)
+        (λ outcome. IsQcReply (map (λ p. p.kind) probes.now) (S.world scan.old) path.now (disk_state D.tells D.history D.faults disk.old) (disk_state D.tells D.history D.faults disk.new) (S.loads scan.old) (S.loads scan.new) outcome (line_of outcome)) }
+    ensures kind { MatchResult result (λ text. Unit {0}) IsOfLook }
+
+    ensures failed { result ≡ Err Outcome.SourceFault → HasRisen (S.faults scan.old) (S.faults scan.new) }
+    ensures steady { result ≢ Err Outcome.SourceFault → S.faults scan.new ≡ S.faults scan.old }
+    ensures later { S.faults scan.old ≤ S.faults scan.new }
+    ensures world { S.world scan.new ≡ S.world scan.old }
+    ensures same { S.same scan.old scan.new }
+
+    ensures disk_fault { result ≡ Err Outcome.DiskFault → HasRisen (D.faults disk.old) (D.faults disk.new) }
+    ensures disk_steady { result ≢ Err Outcome.DiskFault → D.faults disk.new ≡ D.faults disk.old }
+    ensures disk_later { D.faults disk.old ≤ D.faults disk.new }
+{
+    let job = match planned(alloc, path, scan) {
+        Ok(job) => job,
+        Err(outcome) => return Err(outcome),
+    };
+    let reply = tabled(alloc, counter, &job, disk, probes);
+    // By a call, as in a run.
+    drop(job);
+    reply
+}
+
+/// The table of what the ledger of a job's reel has, or the outcome that was reached.
+fn tabled<D: Disk, C: Counter>(
+    alloc: Global,
+    counter: &C,
+    job: &Job,
+    disk: &mut D,
+    probes: &[Probe],
+) -> Result<Vec<u8>, Outcome>
+    requires ready { C.ready }
+    ensures tabled { MatchResult result
+        (λ text. IsTabled (map (λ p. p.kind) probes.now) job.now (disk_state D.tells D.history D.faults disk.old) (disk_state D.tells D.history D.faults disk.new) Outcome.Done text.items)
+        (λ outcome. IsTabled (map (λ p. p.kind) probes.now) job.now (disk_state D.tells D.history D.faults disk.old) (disk_state D.tells D.history D.faults disk.new) outcome (line_of outcome)) }
+    ensures kind { MatchResult result (λ text. Unit {0}) IsOfLook }
+    ensures never { result ≢ Err Outcome.SourceFault }
+
+    ensures disk_fault { result ≡ Err Outcome.DiskFault → HasRisen (D.faults disk.old) (D.faults disk.new) }
+    ensures disk_steady { result ≢ Err Outcome.DiskFault → D.faults disk.new ≡ D.faults disk.old }
+    ensures disk_later { D.faults disk.old ≤ D.faults disk.new }
+{
+    match Ledger::look(alloc, disk, job.digest(), job.timeline().count()) {
+        Ok(view) => {
+            let reply = counted(alloc, counter, job, &view, disk, probes);
+            drop(view);
+            reply
+        }
+        Err(fault) => Err(outcome_of_fault(fault)),
+    }
+}
+
+/// The table of a view, or the outcome that was reached.
+fn counted<D: Disk, C: Counter>(
+    alloc: Global,
+    counter: &C,
+    job: &Job,
+    view: &LedgerView,
+    disk: &mut D,
+    probes: &[Probe],
+) -> Result<Vec<u8>, Outcome>
+    requires ready { C.ready }
+    requires size { length view.now.gates ≡ frames_of job.now }
+    requires view { D.tells ≡ true → IsViewOf job.now.parts.digest (frames_of job.now) (view_of (D.history disk.old)) view.now }
+    ensures counted { MatchResult result
+        (λ text. IsCounted (map (λ p. p.kind) probes.now) job.now view.now (disk_state D.tells D.history D.faults disk.old) Outcome.Done text.items)
+        (λ outcome. IsCounted (map (λ p. p.kind) probes.now) job.now view.now (disk_state D.tells D.history D.faults disk.old) outcome (line_of outcome)) }
+    ensures still { D.tells ≡ true → IsStill (D.history disk.old) (D.history disk.new) }
+    ensures kind { MatchResult result (λ text. Unit {0}) IsOfLook }
+    ensures never { result ≢ Err Outcome.SourceFault }
+
+    ensures disk_fault { result ≡ Err Outcome.DiskFault → HasRisen (D.faults disk.old) (D.faults disk.new) }
+    ensures disk_steady { result ≢ Err Outcome.DiskFault → D.faults disk.new ≡ D.faults disk.old }
+    ensures disk_later { D.faults disk.old ≤ D.faults disk.new }
+{
+    match quality_table(alloc, counter, probes, disk, job, view) {
+        Ok(text) => Ok(text),
+        Err(QcFault::DiskFault) => Err(Outcome::DiskFault),
+        Err(QcFault::NoMemory) => Err(Outcome::NoMemory),
+    }
+}
