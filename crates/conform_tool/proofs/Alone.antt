@@ -10,6 +10,7 @@ use Rattle.project_run.specs.Run.{DiskState}
 use Rattle.command_words.specs.Commands.{Spells}
 use Rattle.command_words.specs.declared.command.Command.{Command}
 use Rattle.outcome_line.specs.declared.outcome.Outcome.{Outcome}
+use Rattle.reel_qc.specs.declared.probe.ProbeKind.{ProbeKind}
 use Rattle.conform_tool.specs.Reply.{scan_state}
 use Rattle.conform_tool.specs.Answer.{SinkState, Answered}
 use Rattle.conform_tool.specs.Complete.{IsAccepted, HasNotRisen, IsComplete, IsUnfailed}
@@ -17,17 +18,17 @@ use Rattle.conform_tool.specs.Headline.{RunsJob, KeepsItsPromise, HasEnded}
 use Rattle.conform_tool.proofs.Completes.{answered_complete, answered_unfailed}
 use Rattle.conform_tool.proofs.Headlines.{answered_promise}
 
-module _ {S : Type 0} (world_of : S → Option World) (faults loads heads : S → ℕ) (same : S → S → Type 0) (words : List (List ℕ)) (disk disk_after : DiskState) (sink sink_after : SinkState) (result : Outcome) where
+module _ (kinds : List ProbeKind) {S : Type 0} (world_of : S → Option World) (faults loads heads : S → ℕ) (same : S → S → Type 0) (words : List (List ℕ)) (disk disk_after : DiskState) (sink sink_after : SinkState) (result : Outcome) where
   -- the answer is that of the first scan, which tells what all tell, and whose fault is one of a scan
   pub record FirstAnswered (scans scans_after : List S) : Type 0 where
     pub first : S
     pub last : S
     pub tells : told_by world_of scans ≡ world_of first
-    pub answered : Answered words (scan_state world_of faults loads heads first) (scan_state world_of faults loads heads last) disk disk_after sink sink_after result
+    pub answered : Answered kinds words (scan_state world_of faults loads heads first) (scan_state world_of faults loads heads last) disk disk_after sink sink_after result
     pub failed : HasRisen (faults first) (faults last) → HasFailed world_of faults loads same scans scans_after
 
   pub first_answered : (scans scans_after : List S) → 1 ≤ length scans → length scans_after ≡ length scans
-      → ((first last : S) → slice_get scans 0 ≡ Some first → slice_get scans_after 0 ≡ Some last → Answered words (scan_state world_of faults loads heads first) (scan_state world_of faults loads heads last) disk disk_after sink sink_after result)
+      → ((first last : S) → slice_get scans 0 ≡ Some first → slice_get scans_after 0 ≡ Some last → Answered kinds words (scan_state world_of faults loads heads first) (scan_state world_of faults loads heads last) disk disk_after sink sink_after result)
       → FirstAnswered scans scans_after
   first_answered [] scans_after some size answered = absurd (omega (arith, some))
   first_answered (first ∷ rest) [] some size answered = absurd (omega (arith, size))

@@ -34,7 +34,10 @@ use Rattle.project_job.specs.Jobs.{ComesTo, HasPlanned, IsOfJob}
 use Rattle.project_job.specs.Laws.{OneJob}
 use Rattle.project_run.specs.Crew.{HasFailed, IsCrewReply, told_by}
 use Rattle.project_run.specs.Run.{DiskState, IsOfRun, IsRunReply, outcome_of_end}
-use Rattle.project_run.specs.Status.{IsStatusReply, outcome_of_fault, outcome_of_peek}
+use Rattle.project_run.specs.Look.{HasSeen, outcome_of_fault}
+use Rattle.project_run.specs.Quality.{IsOfCount, IsQcReply}
+use Rattle.project_run.specs.Status.{IsStatusReply, outcome_of_peek}
+use Rattle.reel_qc.specs.declared.probe.ProbeKind.{ProbeKind}
 use Rattle.project_run.specs.Verify.{IsChecked, IsVerifyReply, outcome_of_check}
 use Rattle.demo_job.specs.Files.{project_path}
 use Rattle.demo_run.specs.Demo.{demo_world}
@@ -195,29 +198,50 @@ module _ (laws : OneJob) (world : World) (path : List ℕ) (disk : DiskState) (p
 
   status_complete : (disk_after : DiskState) (loads loads_after : ℕ) (reached : Outcome) (output : List ℕ) → IsStatusReply told path disk disk_after loads loads_after reached output
       → reached ≢ outcomes.SourceFault → reached ≢ outcomes.DiskFault → IsThrough reached
-  status_complete disk_after loads loads_after reached output (inl has) no_source no_disk = elim has.status.reached_is [
+  status_complete disk_after loads loads_after reached output (inl has) no_source no_disk = elim has.looked.reached_is [
     | inl reached_is ↦ subst IsThrough (sym reached_is)
-        (peek_complete has.job.parts.digest (frames_of has.job) disk.history disk_after.history has.status.answer (fit_for has.job has.comes) (has.status.peeked place.tells) (λ failed. no_disk (reached_is ∙ failed)))
+        (peek_complete has.job.parts.digest (frames_of has.job) disk.history disk_after.history has.looked.answer (fit_for has.job has.comes) (has.looked.peeked place.tells) (λ failed. no_disk (reached_is ∙ failed)))
     | inr memory ↦ inr memory
   ]
   status_complete disk_after loads loads_after reached output (inr none) no_source no_disk = planned_complete laws told world path reached is (place.job, place.comes) none.why none.kind no_source
 
+  -- what was found of the ledger, or that it can't be had
+  seen_complete : (command : Command) (Found : ViewState → Type 0) (job : JobData) (disk_after : DiskState) (reached : Outcome) → IfSome told (λ files. ComesTo (file_at files) path (Ok job.parts))
+      → HasSeen job disk disk_after reached Found → ((view : ViewState) → Found view → IsComplete command reached) → reached ≢ outcomes.DiskFault → IsComplete command reached
+  seen_complete command Found job disk_after reached comes seen each no_disk = by seen.ledger (seen.looked place.tells) seen.found
+    where
+      by : (ledger : Result ViewState OpenFault) → HasLooked job.parts.digest (frames_of job) disk.history disk_after.history ledger
+          → MatchResult ledger Found (λ fault. (reached ≡ outcome_of_fault fault) ⊎ (reached ≡ outcomes.NoMemory))
+          → IsComplete command reached
+      by (Ok view) looked found = each view found
+      by (Err fault) looked (inl reached_is) = subst (IsComplete command) (sym reached_is) (through command (outcome_of_fault fault)
+          (fault_complete job.parts.digest (frames_of job) disk.history disk_after.history fault (fit_for job comes) looked (λ failed. no_disk (reached_is ∙ failed))))
+      by (Err fault) looked (inr memory) = through command reached (inr memory)
+
+  checked_complete : (job : JobData) (view : ViewState) (reached : Outcome) (output : List ℕ) → reached ≢ outcomes.DiskFault → IsChecked job view disk reached output → IsComplete (commands.Verify path) reached
+  checked_complete job view reached output no_disk checked = elim checked.reached_is [
+    | inl reached_is ↦ subst (IsComplete (commands.Verify path)) (sym reached_is) (check_complete path checked.answer (λ failed. no_disk (reached_is ∙ failed)))
+    | inr memory ↦ through (commands.Verify path) reached (inr memory)
+  ]
+
   verify_complete : (disk_after : DiskState) (loads loads_after : ℕ) (reached : Outcome) (output : List ℕ) → IsVerifyReply told path disk disk_after loads loads_after reached output
       → reached ≢ outcomes.SourceFault → reached ≢ outcomes.DiskFault → IsComplete (commands.Verify path) reached
-  verify_complete disk_after loads loads_after reached output (inl has) no_source no_disk = by has.verified.ledger (has.verified.looked place.tells) has.verified.checked
-    where
-      by : (ledger : Result ViewState OpenFault) → HasLooked has.job.parts.digest (frames_of has.job) disk.history disk_after.history ledger
-          → MatchResult ledger (λ view. IsChecked has.job view disk reached output) (λ fault. (reached ≡ outcome_of_fault fault) ⊎ (reached ≡ outcomes.NoMemory))
-          → IsComplete (commands.Verify path) reached
-      by (Ok view) looked checked = elim checked.reached_is [
-        | inl reached_is ↦ subst (IsComplete (commands.Verify path)) (sym reached_is) (check_complete path checked.answer (λ failed. no_disk (reached_is ∙ failed)))
-        | inr memory ↦ through (commands.Verify path) reached (inr memory)
-      ]
-      by (Err fault) looked (inl reached_is) = subst (IsComplete (commands.Verify path)) (sym reached_is) (through (commands.Verify path) (outcome_of_fault fault)
-          (fault_complete has.job.parts.digest (frames_of has.job) disk.history disk_after.history fault (fit_for has.job has.comes) looked (λ failed. no_disk (reached_is ∙ failed))))
-      by (Err fault) looked (inr memory) = through (commands.Verify path) reached (inr memory)
+  verify_complete disk_after loads loads_after reached output (inl has) no_source no_disk =
+      seen_complete (commands.Verify path) _ has.job disk_after reached has.comes has.looked (λ view checked. checked_complete has.job view reached output no_disk checked) no_disk
   verify_complete disk_after loads loads_after reached output (inr none) no_source no_disk =
       through (commands.Verify path) reached (planned_complete laws told world path reached is (place.job, place.comes) none.why none.kind no_source)
+
+  counted_complete : (reached : Outcome) → reached ≢ outcomes.DiskFault → IsOfCount reached → IsThrough reached
+  counted_complete outcomes.Done no_disk kind = inl refl
+  counted_complete outcomes.DiskFault no_disk kind = absurd (no_disk refl)
+  counted_complete outcomes.NoMemory no_disk kind = inr refl
+  counted_complete other no_disk kind = absurd kind
+
+  qc_complete : {kinds : List ProbeKind} (disk_after : DiskState) (loads loads_after : ℕ) (reached : Outcome) (output : List ℕ) → IsQcReply kinds told path disk disk_after loads loads_after reached output
+      → reached ≢ outcomes.SourceFault → reached ≢ outcomes.DiskFault → IsThrough reached
+  qc_complete disk_after loads loads_after reached output (inl has) no_source no_disk =
+      seen_complete (commands.Qc path) _ has.job disk_after reached has.comes has.looked (λ view counted. counted_complete reached no_disk counted.kind) no_disk
+  qc_complete disk_after loads loads_after reached output (inr none) no_source no_disk = planned_complete laws told world path reached is (place.job, place.comes) none.why none.kind no_source
 
   -- the same of a crew's run
   steps_complete : (log : List ShareStep) (job : JobData) (old new : History) (how : RunEnd) (report : Report) (tells : Bool) (steps : Option (List Step)) → tells ≡ true → IsFit job.parts.digest (frames_of job) (view_of old)
@@ -229,8 +253,8 @@ module _ (laws : OneJob) (world : World) (path : List ℕ) (disk : DiskState) (p
 
 -- ---- one thread
 
-reply_complete : OneJob → (command : Command) (world : World) (scan scan_after : ScanState) (disk disk_after : DiskState) (reached : Outcome) (output : List ℕ) → scan.world ≡ Some world → IsAccepted command world disk
-    → IsWholeReply command scan scan_after disk disk_after reached output → reached ≢ outcomes.SourceFault → reached ≢ outcomes.DiskFault → IsComplete command reached
+reply_complete : {kinds : List ProbeKind} → OneJob → (command : Command) (world : World) (scan scan_after : ScanState) (disk disk_after : DiskState) (reached : Outcome) (output : List ℕ) → scan.world ≡ Some world → IsAccepted command world disk
+    → IsWholeReply kinds command scan scan_after disk disk_after reached output → reached ≢ outcomes.SourceFault → reached ≢ outcomes.DiskFault → IsComplete command reached
 reply_complete laws (commands.Frame path) world scan scan_after disk disk_after reached output is accepted whole no_source no_disk =
     let right = whole.reply.right in
     let file = at_world scan.world world (λ files. right.0 ≡ file_at files path) is right.1 in
@@ -248,6 +272,8 @@ reply_complete laws (commands.Status path) world scan scan_after disk disk_after
     status_complete laws world path disk accepted scan.world is disk_after scan.loads scan_after.loads reached output whole.folder no_source no_disk
 reply_complete laws (commands.Verify path) world scan scan_after disk disk_after reached output is accepted whole no_source no_disk =
     verify_complete laws world path disk accepted scan.world is disk_after scan.loads scan_after.loads reached output whole.folder no_source no_disk
+reply_complete laws (commands.Qc path) world scan scan_after disk disk_after reached output is accepted whole no_source no_disk =
+    qc_complete laws world path disk accepted scan.world is disk_after scan.loads scan_after.loads reached output whole.folder no_source no_disk
 reply_complete laws (commands.Pull path margin) world scan scan_after disk disk_after reached output is accepted whole no_source no_disk =
     job_complete laws (IsPullForm margin) world path output scan scan_after reached accepted
     (at_world scan.world world (λ files. IsJobReply (IsPullForm margin) (file_at files) path reached output scan scan_after) is whole.reply.right) no_source
@@ -258,8 +284,8 @@ put_complete : (command : Command) (sink sink_after : SinkState) (reached : Outc
 put_complete command sink sink_after reached output result (inl put) steady complete = subst (IsComplete command) (sym put.0) complete
 put_complete command sink sink_after reached output result (inr put) steady complete = absurd (steady put.2)
 
-pub answered_complete : OneJob → (words : List (List ℕ)) (scan scan_after : ScanState) (disk disk_after : DiskState) (sink sink_after : SinkState) (result : Outcome)
-    → Answered words scan scan_after disk disk_after sink sink_after result
+pub answered_complete : {kinds : List ProbeKind} → OneJob → (words : List (List ℕ)) (scan scan_after : ScanState) (disk disk_after : DiskState) (sink sink_after : SinkState) (result : Outcome)
+    → Answered kinds words scan scan_after disk disk_after sink sink_after result
     → (command : Command) (world : World) → Spells words command → scan.world ≡ Some world → IsAccepted command world disk
     → HasNotRisen scan.faults scan_after.faults → HasNotRisen disk.faults disk_after.faults → HasNotRisen sink.faults sink_after.faults → IsComplete command result
 answered_complete laws words scan scan_after disk disk_after sink sink_after result answered command world spells is accepted scans_steady disk_steady sink_steady =
@@ -317,8 +343,8 @@ put_unfailed : (command : Command) (sink sink_after : SinkState) (reached : Outc
 put_unfailed command sink sink_after reached output result (inl put) steady is = subst (IsUnfailed command) (sym put.0) is
 put_unfailed command sink sink_after reached output result (inr put) steady is = absurd (steady put.2)
 
-pub answered_unfailed : (words : List (List ℕ)) (scan scan_after : ScanState) (disk disk_after : DiskState) (sink sink_after : SinkState) (result : Outcome)
-    → Answered words scan scan_after disk disk_after sink sink_after result
+pub answered_unfailed : {kinds : List ProbeKind} (words : List (List ℕ)) (scan scan_after : ScanState) (disk disk_after : DiskState) (sink sink_after : SinkState) (result : Outcome)
+    → Answered kinds words scan scan_after disk disk_after sink sink_after result
     → (command : Command) → Spells words command
     → HasNotRisen scan.faults scan_after.faults → HasNotRisen disk.faults disk_after.faults → HasNotRisen sink.faults sink_after.faults → IsUnfailed command result
 answered_unfailed words scan scan_after disk disk_after sink sink_after result answered command spells scans_steady disk_steady sink_steady =

@@ -9,12 +9,13 @@ use Rattle.command_words.specs.declared.command.Command.{Command}
 use Rattle.command_words.specs.declared.command.Command.TheVariants as commands
 use Rattle.outcome_line.specs.declared.outcome.Outcome.{Outcome}
 use Rattle.outcome_line.specs.declared.outcome.Outcome.TheVariants as outcomes
+use Rattle.reel_qc.specs.declared.probe.ProbeKind.{ProbeKind}
 use Rattle.conform_tool.specs.Reply.{ScanState, IsDemoReply, IsKindOf, IsReply, IsWholeReply}
 use Rattle.conform_tool.proofs.Replies.{reply_of}
 
 -- with no call on either, nothing failed
-untouched : (count : ℕ) (scan : ScanState) (disk : DiskState) (reached : Outcome) (output : List ℕ)
-    → IsReply (commands.Demo count) scan scan reached output → (reached ≢ outcomes.DiskFault) → IsWholeReply (commands.Demo count) scan scan disk disk reached output
+untouched : {kinds : List ProbeKind} (count : ℕ) (scan : ScanState) (disk : DiskState) (reached : Outcome) (output : List ℕ)
+    → IsReply (commands.Demo count) scan scan reached output → (reached ≢ outcomes.DiskFault) → IsWholeReply kinds (commands.Demo count) scan scan disk disk reached output
 untouched count scan disk reached output reply works = record {
   reply = reply;
   folder = refl;
@@ -42,22 +43,22 @@ instead_replied count outcomes.DiskFault output is = absurd is
 instead_replied count (outcomes.SinkFault instead) output is = absurd is
 instead_replied count outcomes.NoMemory output is = (tt, is, λ same. cc, λ same. cc)
 
-instead : (count : ℕ) (scan : ScanState) (disk : DiskState) (outcome : Outcome) → IsInstead (file_at (demo_world count)) outcome
-    → IsWholeReply (commands.Demo count) scan scan disk disk outcome (line_of outcome)
+instead : {kinds : List ProbeKind} (count : ℕ) (scan : ScanState) (disk : DiskState) (outcome : Outcome) → IsInstead (file_at (demo_world count)) outcome
+    → IsWholeReply kinds (commands.Demo count) scan scan disk disk outcome (line_of outcome)
 instead count scan disk outcome is =
     let replied = instead_replied count outcome (line_of outcome) is in
     untouched count scan disk outcome (line_of outcome)
     (reply_of (commands.Demo count) scan scan outcome (line_of outcome) replied.0 replied.1 (λ _. refl) (λ same. absurd (replied.2 same)) (λ _. refl) (omega arith) refl refl refl)
     replied.3
 
-by_result : (count : ℕ) (scan : ScanState) (disk : DiskState) (result : Result (Vec ℕ Global) Outcome)
+by_result : (kinds : List ProbeKind) (count : ℕ) (scan : ScanState) (disk : DiskState) (result : Result (Vec ℕ Global) Outcome)
     → MatchResult result (λ text. IsShown (file_at (demo_world count)) text.items) (IsInstead (file_at (demo_world count)))
-    → MatchResult result (λ text. IsWholeReply (commands.Demo count) scan scan disk disk outcomes.Done text.items) (λ outcome. IsWholeReply (commands.Demo count) scan scan disk disk outcome (line_of outcome))
-by_result count scan disk (Ok text) is = untouched count scan disk outcomes.Done text.items (shown count scan text.items is) (λ same. cc)
-by_result count scan disk (Err outcome) is = instead count scan disk outcome is
+    → MatchResult result (λ text. IsWholeReply kinds (commands.Demo count) scan scan disk disk outcomes.Done text.items) (λ outcome. IsWholeReply kinds (commands.Demo count) scan scan disk disk outcome (line_of outcome))
+by_result kinds count scan disk (Ok text) is = untouched count scan disk outcomes.Done text.items (shown count scan text.items is) (λ same. cc)
+by_result kinds count scan disk (Err outcome) is = instead count scan disk outcome is
 
-pub demo_replied : (command : Command) (count : ℕ) (scan : ScanState) (disk : DiskState) (result : Result (Vec ℕ Global) Outcome) → command ≡ commands.Demo count
+pub demo_replied : (kinds : List ProbeKind) (command : Command) (count : ℕ) (scan : ScanState) (disk : DiskState) (result : Result (Vec ℕ Global) Outcome) → command ≡ commands.Demo count
     → MatchResult result (λ text. IsShown (file_at (demo_world count)) text.items) (IsInstead (file_at (demo_world count)))
-    → MatchResult result (λ text. IsWholeReply command scan scan disk disk outcomes.Done text.items) (λ outcome. IsWholeReply command scan scan disk disk outcome (line_of outcome))
-demo_replied command count scan disk result same is =
-    subst (λ c. MatchResult result (λ text. IsWholeReply c scan scan disk disk outcomes.Done text.items) (λ outcome. IsWholeReply c scan scan disk disk outcome (line_of outcome))) (sym same) (by_result count scan disk result is)
+    → MatchResult result (λ text. IsWholeReply kinds command scan scan disk disk outcomes.Done text.items) (λ outcome. IsWholeReply kinds command scan scan disk disk outcome (line_of outcome))
+demo_replied kinds command count scan disk result same is =
+    subst (λ c. MatchResult result (λ text. IsWholeReply kinds c scan scan disk disk outcomes.Done text.items) (λ outcome. IsWholeReply kinds c scan scan disk disk outcome (line_of outcome))) (sym same) (by_result kinds count scan disk result is)

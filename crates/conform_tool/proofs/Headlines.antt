@@ -26,6 +26,7 @@ use Rattle.command_words.specs.declared.command.Command.TheVariants as commands
 use Rattle.outcome_line.specs.Output.{status_of}
 use Rattle.outcome_line.specs.declared.outcome.Outcome.{Outcome}
 use Rattle.outcome_line.specs.declared.outcome.Outcome.TheVariants as outcomes
+use Rattle.reel_qc.specs.declared.probe.ProbeKind.{ProbeKind}
 use Rattle.conform_tool.specs.Reply.{ScanState, IsKindOf}
 use Rattle.conform_tool.specs.Answer.{SinkState, IsPut, Answered}
 use Rattle.conform_tool.specs.Conform.{CrewAnswered}
@@ -192,8 +193,8 @@ module _ (laws : OneJob) (job : JobData) (world : World) (path : List ℕ) (come
       (still_promise job world disk.history Ended (λ ended. job_not_done reached none.kind (done ended)))
 
 -- by the answer of one thread
-pub answered_promise : (laws : OneJob) (words : List (List ℕ)) (scan scan_after : ScanState) (disk disk_after : DiskState) (sink sink_after : SinkState) (result : Outcome)
-    → Answered words scan scan_after disk disk_after sink sink_after result
+pub answered_promise : {kinds : List ProbeKind} (laws : OneJob) (words : List (List ℕ)) (scan scan_after : ScanState) (disk disk_after : DiskState) (sink sink_after : SinkState) (result : Outcome)
+    → Answered kinds words scan scan_after disk disk_after sink sink_after result
     → (world : World) (job : JobData) → RunsJob words scan.world disk.tells world job → KeepsItsPromise job world disk.history disk_after.history (HasEnded result)
 answered_promise laws words scan scan_after disk disk_after sink sink_after result answered world job runs = elim (answered.reply (commands.Run runs.path runs.workers runs.share) runs.spells) [
   | inl whole ↦ reply_promise laws job world runs.path runs.comes scan.world disk disk_after scan.loads scan_after.loads answered.reached answered.output (HasEnded result) runs.scans_tell runs.disk_tells

@@ -19,7 +19,7 @@ use Rattle.outcome_line.specs.declared.outcome.Which.TheVariants as which
 use Rattle.conform_tool.specs.Faults.{IfFault}
 use Rattle.outcome_line.specs.Output.{line_of}
 use Rattle.project_run.specs.Run.{IsOfRun}
-use Rattle.project_run.specs.Status.{IsOfLook}
+use Rattle.project_run.specs.Look.{IsOfLook}
 use Rattle.project_run.specs.Verify.{IsOfVerify}
 use Rattle.conform_tool.specs.Reply.{ScanState, ByFile, IsRight, IsRightBy, HasLoaded, LooksAtHeads, IsKindOf, IsReply}
 use Rattle.command_words.specs.declared.command.Command.{Command}
@@ -143,6 +143,7 @@ memory_right (commands.Plan path) output before after = told_any before.world (�
 memory_right (commands.Run path workers share) output before after = tt
 memory_right (commands.Status path) output before after = tt
 memory_right (commands.Verify path) output before after = tt
+memory_right (commands.Qc path) output before after = tt
 memory_right (commands.Pull path margin) output before after = told_any before.world (λ world. tt)
 memory_right (commands.Demo count) output before after = tt
 
@@ -170,7 +171,7 @@ replied_load command absent NoMemory kind = tt
 pub load_isnt_done : (absent : Which) (outcome : Outcome) → IsOfLoad absent outcome → outcome ≢ Done
 load_isnt_done absent outcome kind same = subst (IsOfLoad absent) same kind
 
--- the outcomes of a run, of a look at the folder and of a check of its files are those of their commands
+-- the outcomes of a run, of a look at the folder, of a check of its files and of counts over them are those of their commands
 pub replied_run : (path : List ℕ) (workers share : ℕ) (outcome : Outcome) → IsOfRun outcome → IsKindOf (commands.Run path workers share) outcome
 replied_run path workers share Done kind = absurd kind
 replied_run path workers share Usage kind = absurd kind
@@ -192,3 +193,11 @@ replied_verify path Usage kind = absurd kind
 replied_verify path (SinkFault instead) kind = absurd kind
 replied_verify path (outcomes.Changed reel key was now) kind = absurd kind
 replied_verify path other kind = tt
+
+pub replied_qc : (path : List ℕ) (outcome : Outcome) → IsOfLook outcome → IsKindOf (commands.Qc path) outcome
+replied_qc path Done kind = absurd kind
+replied_qc path Usage kind = absurd kind
+replied_qc path (SinkFault instead) kind = absurd kind
+replied_qc path (outcomes.Damaged frame kept found) kind = absurd kind
+replied_qc path (outcomes.Changed reel key was now) kind = absurd kind
+replied_qc path other kind = tt

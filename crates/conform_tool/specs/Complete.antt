@@ -43,6 +43,7 @@ IsAccepted (commands.Plan path) world disk = HasJob world path
 IsAccepted (commands.Run path workers share) world disk = HasFitFolder world path disk
 IsAccepted (commands.Status path) world disk = HasFitFolder world path disk
 IsAccepted (commands.Verify path) world disk = HasFitFolder world path disk
+IsAccepted (commands.Qc path) world disk = HasFitFolder world path disk
 IsAccepted (commands.Pull path margin) world disk = HasJob world path
 IsAccepted (commands.Demo count) world disk = HasJob (demo_world count) project_path
 
@@ -56,7 +57,7 @@ IsComplete (commands.Verify path) (Damaged frame kept found) = Unit {0}
 IsComplete command result = (result ≡ Done) ⊎ (result ≡ NoMemory)
 
 -- The outcomes of a command of which no call failed, also where scan or disk don't tell. Besides these two there are refusals,
--- and for `run`, `status` and `verify` the folder's state, for `run` a source file that changed, and for `verify` a damaged frame.
+-- and for `run`, `status`, `verify` and `qc` the folder's state, for `run` a source file that changed, and for `verify` a damaged frame.
 abbrev pub IsUnfailed : Command → Outcome → Type 0
 IsUnfailed command SourceFault = ⊥
 IsUnfailed command DiskFault = ⊥

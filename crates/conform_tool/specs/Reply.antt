@@ -1,7 +1,7 @@
 -- What a command that was spelled comes to.
 --     ScanState, scan_state      what a scan tells at a moment, and its counts
 --     IsReply command before after reached output      the command came to this outcome with this output
---     IsWholeReply      the same, with what it did to the disk
+--     IsWholeReply kinds      the same, with what it did to the disk, where these kinds are counted
 use Rattle.std.specs.Prelude.{◌≡◌, ◌≢◌, ◌≤◌, ℕ, List, [], length, Option, IfSome, Ok, Err}
 use Rattle.cf_base.specs.Count.{HasRisen}
 use Rattle.scan_source.specs.Plan.{one_more}
@@ -19,7 +19,9 @@ use Rattle.printed_tables.specs.Pull.{pull_of}
 use Rattle.pull_list.specs.Pull.{IsPullList}
 use Rattle.pull_list.specs.declared.range.PullRange.{PullRange}
 use Rattle.outcome_line.specs.Output.{line_of}
+use Rattle.reel_qc.specs.declared.probe.ProbeKind.{ProbeKind}
 use Rattle.demo_run.specs.Demo.{demo_world, IsShown, IsInstead}
+use Rattle.project_run.specs.Quality.{IsQcReply}
 use Rattle.project_run.specs.Run.{DiskState, IsRunReply}
 use Rattle.project_run.specs.Status.{IsStatusReply}
 use Rattle.project_run.specs.Verify.{IsVerifyReply}
@@ -84,7 +86,7 @@ IsDemoReply count Done output = IsShown (file_at (demo_world count)) output
 IsDemoReply count other output = IsInstead (file_at (demo_world count)) other
 
 -- By the file at the path, or by all files that the scan tells: they may be others at each load where it tells none. `run`,
--- `status` and `verify` are right by the folder, which is said with the disk, and `demo` by its count alone.
+-- `status`, `verify` and `qc` are right by the folder, which is said with the disk, and `demo` by its count alone.
 abbrev pub IsRight : Command → Outcome → List ℕ → ScanState → ScanState → Type 0
 IsRight (commands.Frame path) reached output before after = ByFile before.world path (λ file. IsRightBy (IsFrameCase file) (IsFrameForm file) reached output)
 IsRight (commands.List path rate) reached output before after = ByFile before.world path (λ file. IsRightBy (IsListCase rate file) (IsListForm rate file) reached output)
@@ -92,11 +94,12 @@ IsRight (commands.Plan path) reached output before after = IfSome before.world (
 IsRight (commands.Run path workers share) reached output before after = Unit {0}
 IsRight (commands.Status path) reached output before after = Unit {0}
 IsRight (commands.Verify path) reached output before after = Unit {0}
+IsRight (commands.Qc path) reached output before after = Unit {0}
 IsRight (commands.Pull path margin) reached output before after = IfSome before.world (λ world. IsJobReply (IsPullForm margin) (file_at world) path reached output before after)
 IsRight (commands.Demo count) reached output before after = IsDemoReply count reached output
 
--- What a command loads: the one file, or a project, its list and its cube, or nothing. What `run`, `status` and `verify` load
--- is said with the disk.
+-- What a command loads: the one file, or a project, its list and its cube, or nothing. What `run`, `status`, `verify` and `qc`
+-- load is said with the disk.
 abbrev pub HasLoaded : Command → ℕ → ℕ → Type 0
 HasLoaded (commands.Frame path) before after = after ≡ one_more before
 HasLoaded (commands.List path rate) before after = after ≡ one_more before
@@ -104,6 +107,7 @@ HasLoaded (commands.Plan path) before after = AreLoaded 1 3 before after
 HasLoaded (commands.Run path workers share) before after = Unit {0}
 HasLoaded (commands.Status path) before after = Unit {0}
 HasLoaded (commands.Verify path) before after = Unit {0}
+HasLoaded (commands.Qc path) before after = Unit {0}
 HasLoaded (commands.Pull path margin) before after = AreLoaded 1 3 before after
 HasLoaded (commands.Demo count) before after = after ≡ before
 
@@ -115,6 +119,7 @@ LooksAtHeads (commands.Plan path) before after = Unit {0}
 LooksAtHeads (commands.Run path workers share) before after = Unit {0}
 LooksAtHeads (commands.Status path) before after = Unit {0}
 LooksAtHeads (commands.Verify path) before after = Unit {0}
+LooksAtHeads (commands.Qc path) before after = Unit {0}
 LooksAtHeads (commands.Pull path margin) before after = Unit {0}
 LooksAtHeads (commands.Demo count) before after = after ≡ before
 
@@ -123,6 +128,7 @@ abbrev pub CallsDisk : Command → Type 0
 CallsDisk (commands.Run path workers share) = Unit {0}
 CallsDisk (commands.Status path) = Unit {0}
 CallsDisk (commands.Verify path) = Unit {0}
+CallsDisk (commands.Qc path) = Unit {0}
 CallsDisk other = ⊥
 
 -- it loads source frames, which may have changed since they were planned
@@ -161,17 +167,19 @@ pub record IsReply (command : Command) (before after : ScanState) (reached : Out
   pub heads : LooksAtHeads command before.heads after.heads
   pub world : after.world ≡ before.world
 
--- A run did to the disk what it is to do, and `status` and `verify` looked at it; no other command made a call on it.
-abbrev pub UsesDisk : Command → ScanState → ScanState → DiskState → DiskState → Outcome → List ℕ → Type 0
-UsesDisk (commands.Run path workers share) before after disk disk_after reached output = IsRunReply before.world path share disk disk_after before.loads after.loads reached output
-UsesDisk (commands.Status path) before after disk disk_after reached output = IsStatusReply before.world path disk disk_after before.loads after.loads reached output
-UsesDisk (commands.Verify path) before after disk disk_after reached output = IsVerifyReply before.world path disk disk_after before.loads after.loads reached output
-UsesDisk other before after disk disk_after reached output = disk_after ≡ disk
+-- A run did to the disk what it is to do, and `status`, `verify` and `qc` looked at it, which counts these kinds; no other command
+-- made a call on it.
+abbrev pub UsesDisk : List ProbeKind → Command → ScanState → ScanState → DiskState → DiskState → Outcome → List ℕ → Type 0
+UsesDisk kinds (commands.Run path workers share) before after disk disk_after reached output = IsRunReply before.world path share disk disk_after before.loads after.loads reached output
+UsesDisk kinds (commands.Status path) before after disk disk_after reached output = IsStatusReply before.world path disk disk_after before.loads after.loads reached output
+UsesDisk kinds (commands.Verify path) before after disk disk_after reached output = IsVerifyReply before.world path disk disk_after before.loads after.loads reached output
+UsesDisk kinds (commands.Qc path) before after disk disk_after reached output = IsQcReply kinds before.world path disk disk_after before.loads after.loads reached output
+UsesDisk kinds other before after disk disk_after reached output = disk_after ≡ disk
 
 -- The reply of a command, with what it did to the disk, whose fault has its cause.
-pub record IsWholeReply (command : Command) (before after : ScanState) (disk disk_after : DiskState) (reached : Outcome) (output : List ℕ) : Type 0 where
+pub record IsWholeReply (kinds : List ProbeKind) (command : Command) (before after : ScanState) (disk disk_after : DiskState) (reached : Outcome) (output : List ℕ) : Type 0 where
   pub reply : IsReply command before after reached output
-  pub folder : UsesDisk command before after disk disk_after reached output
+  pub folder : UsesDisk kinds command before after disk disk_after reached output
   pub disk_fault : reached ≡ DiskFault → HasRisen disk.faults disk_after.faults
   pub disk_steady : reached ≢ DiskFault → disk_after.faults ≡ disk.faults
   pub disk_later : disk.faults ≤ disk_after.faults

@@ -3,8 +3,8 @@
 //! `conform` does all that the program does, and `answer` does it on one thread. `frame PATH` reads one DPX file and puts the
 //! same pixels under the station's own header; `list FILE RATE` reads an edit list and puts its event table; `plan PROJECT`
 //! reads a project and puts what each record frame shows; `run PROJECT` renders its reel; `status PROJECT` puts how much of it
-//! is rendered, and `verify PROJECT` whether that is still whole; `pull PROJECT MARGIN` puts which ranges of source frames it
-//! needs; `demo N` renders a job of N events that is made in memory. The words become a `Command`, the command a reply, and the
+//! is rendered, `verify PROJECT` whether that is still whole, and `qc PROJECT` counts over it by the functions that were handed
+//! in; `pull PROJECT MARGIN` puts which ranges of source frames it needs; `demo N` renders a job of N events that is made in memory. The words become a `Command`, the command a reply, and the
 //! reply is put on the output in one piece.
 #![tactic(auto)]
 
@@ -13,6 +13,7 @@ mod list;
 mod one_thread;
 mod plan;
 mod pull;
+mod quality;
 mod run;
 mod status;
 mod top;

@@ -1,5 +1,5 @@
 //! A command on one thread, and what is put for it.
-ghost use Rattle.std.specs.Prelude.{◌≡◌, ◌≤◌, ℕ, List, map, Some, IfSome, MatchResult};
+ghost use Rattle.std.specs.Prelude.{◌≡◌, ◌≤◌, ℕ, List, length, map, Some, IfSome, MatchResult};
 ghost use Rattle.conform_job.specs.Job.{JobData};
 ghost use Rattle.scan_source.specs.World.{World};
 ghost use Rattle.conform_tool.specs.Answer.{Answered, IsFoundIn, IsPut, IsLinePut, sink_state};
@@ -14,6 +14,7 @@ use crate::frame::frame;
 use crate::list::list;
 use crate::plan::plan;
 use crate::pull::pull;
+use crate::quality::qc;
 use crate::run::run;
 use crate::status::status;
 use crate::verify::verify;
@@ -23,11 +24,12 @@ use demo_run::demo;
 use outcome_line::{Outcome, made_line, plain_line};
 use project_job::job_laws;
 use reel_disk::Disk;
+use reel_qc::{Counter, OneThread, Probe};
 use scan_source::Scans;
 use std::alloc::Global;
 
 /// Does the command that the words spell, on one thread, and puts its output or its line. `run` renders into the disk and
-/// `status` and `verify` look at it; no other command makes a call on it. Words of no command come to `Usage`, and words for which no
+/// `status`, `verify` and `qc` look at it; no other command makes a call on it. Words of no command come to `Usage`, and words for which no
 /// memory is left to `NoMemory`, before anything is read. A run keeps the headline's promise, wherever it is stopped and
 /// whatever it answers.
 pub fn answer<S: Scans, D: Disk, K: Sink>(
@@ -36,8 +38,10 @@ pub fn answer<S: Scans, D: Disk, K: Sink>(
     scan: &mut S,
     disk: &mut D,
     out: &mut K,
+    probes: &[Probe],
 ) -> Outcome
-    ensures answered { Answered (map (λ w. w.now) words.now)
+    requires few { length probes.now ≤ 16 }
+    ensures answered { Answered (map (λ p. p.kind) probes.now) (map (λ w. w.now) words.now)
         (scan_state S.world S.faults S.loads S.heads scan.old) (scan_state S.world S.faults S.loads S.heads scan.new)
         (disk_state D.tells D.history D.faults disk.old) (disk_state D.tells D.history D.faults disk.new)
         (sink_state K.written K.faults out.old) (sink_state K.written K.faults out.new) result }
@@ -61,19 +65,22 @@ pub fn answer<S: Scans, D: Disk, K: Sink>(
     let Ok(found) = command_of(alloc, words) else {
         return put_line(alloc, &Outcome::NoMemory, out);
     };
-    answer_found(alloc, found, scan, disk, out)
+    answer_found(alloc, &OneThread, found, scan, disk, out, probes)
 }
 
-/// Does the command that was found in some words, on one thread, and puts its output or its line.
-pub(crate) fn answer_found<S: Scans, D: Disk, K: Sink>(
+/// Does the command that was found in some words, on one thread but for the counts, and puts its output or its line.
+pub(crate) fn answer_found<S: Scans, D: Disk, K: Sink, C: Counter>(
     alloc: Global,
+    counter: &C,
     found: Option<Command>,
     scan: &mut S,
     disk: &mut D,
     out: &mut K,
+    probes: &[Probe],
 ) -> Outcome
+    requires ready { C.ready }
     requires counts { IfSome found HasCounts }
-    ensures answered { (words : List (List ℕ)) → IsFoundIn words found → Answered words
+    ensures answered { (words : List (List ℕ)) → IsFoundIn words found → Answered (map (λ p. p.kind) probes.now) words
         (scan_state S.world S.faults S.loads S.heads scan.old) (scan_state S.world S.faults S.loads S.heads scan.new)
         (disk_state D.tells D.history D.faults disk.old) (disk_state D.tells D.history D.faults disk.new)
         (sink_state K.written K.faults out.old) (sink_state K.written K.faults out.new) result }
@@ -83,23 +90,26 @@ pub(crate) fn answer_found<S: Scans, D: Disk, K: Sink>(
     let Some(command) = found else {
         return put_line(alloc, &Outcome::Usage, out);
     };
-    match carried_out(alloc, &command, scan, disk) {
+    match carried_out(alloc, counter, &command, scan, disk, probes) {
         Ok(output) => put(&output, &Outcome::Done, out),
         Err(outcome) => put_line(alloc, &outcome, out),
     }
 }
 
 /// The output of a command, or the outcome that was reached in its place.
-fn carried_out<S: Scans, D: Disk>(
+fn carried_out<S: Scans, D: Disk, C: Counter>(
     alloc: Global,
+    counter: &C,
     command: &Command,
     scan: &mut S,
     disk: &mut D,
+    probes: &[Probe],
 ) -> Result<Vec<u8>, Outcome>
-    requires { HasCounts command.now }
+    requires ready { C.ready }
+    requires counts { HasCounts command.now }
     ensures reply { MatchResult result
-        (λ output. IsWholeReply command.now (scan_state S.world S.faults S.loads S.heads scan.old) (scan_state S.world S.faults S.loads S.heads scan.new) (disk_state D.tells D.history D.faults disk.old) (disk_state D.tells D.history D.faults disk.new) Outcome.Done output.items)
-        (λ outcome. IsWholeReply command.now (scan_state S.world S.faults S.loads S.heads scan.old) (scan_state S.world S.faults S.loads S.heads scan.new) (disk_state D.tells D.history D.faults disk.old) (disk_state D.tells D.history D.faults disk.new) outcome (line_of outcome)) }
+        (λ output. IsWholeReply (map (λ p. p.kind) probes.now) command.now (scan_state S.world S.faults S.loads S.heads scan.old) (scan_state S.world S.faults S.loads S.heads scan.new) (disk_state D.tells D.history D.faults disk.old) (disk_state D.tells D.history D.faults disk.new) Outcome.Done output.items)
+        (λ outcome. IsWholeReply (map (λ p. p.kind) probes.now) command.now (scan_state S.world S.faults S.loads S.heads scan.old) (scan_state S.world S.faults S.loads S.heads scan.new) (disk_state D.tells D.history D.faults disk.old) (disk_state D.tells D.history D.faults disk.new) outcome (line_of outcome)) }
     ensures same { S.same scan.old scan.new }
 {
     match command {
@@ -113,6 +123,7 @@ fn carried_out<S: Scans, D: Disk>(
         } => run(alloc, project, *workers, *share, scan, disk),
         Command::Status(project) => status(alloc, project, scan, disk),
         Command::Verify(project) => verify(alloc, project, scan, disk),
+        Command::Qc(project) => qc(alloc, counter, project, scan, disk, probes),
         Command::Pull { project, margin } => pull(alloc, project, *margin, scan),
         Command::Demo(count) => demo(alloc, *count),
     }

@@ -1,5 +1,5 @@
 //! The top call: a run with more than one worker by a crew, and all else on one thread.
-ghost use Rattle.std.specs.Prelude.{◌≡◌, ◌≤◌, ℕ, List, true, map, drop, vec_len, slice_get, Some, IfSome, AllPairs, MatchOption};
+ghost use Rattle.std.specs.Prelude.{◌≡◌, ◌≤◌, ℕ, List, true, length, map, drop, vec_len, slice_get, Some, IfSome, AllPairs, MatchOption};
 ghost use Rattle.command_words.specs.Commands.{HasCounts, Spells};
 ghost use Rattle.command_words.specs.Lines.{HasCount};
 ghost use Rattle.command_words.specs.declared.command.Command.TheVariants as commands;
@@ -20,6 +20,7 @@ use outcome_line::Outcome;
 use project_job::job_laws;
 use project_run::{CrewEnded, run_crewed};
 use reel_disk::Disk;
+use reel_qc::{Counter, Forked, Probe};
 use scan_source::Scans;
 use std::alloc::Global;
 use std::sync::Wait;
@@ -44,9 +45,11 @@ pub fn conform<S: Scans + Send, D: Disk + Send, K: Sink, R: Threads + Wait + Syn
     scans: Vec<S>,
     disk: D,
     out: &mut K,
+    probes: &[Probe],
 ) -> Ended<S, D>
     requires some { 1 ≤ vec_len scans }
     requires few { vec_len scans ≤ 16 }
+    requires few_probes { length probes.now ≤ 16 }
     requires one_world { AllPairs (λ a b. S.world a ≡ S.world b) scans.items }
     requires no_fault { D.faults disk ≡ 0 }
     requires first_moment { D.tells ≡ true → (D.history disk).now ≡ 0 }
@@ -59,7 +62,7 @@ pub fn conform<S: Scans + Send, D: Disk + Send, K: Sink, R: Threads + Wait + Syn
 
     // All else, with the first scan.
     ensures answered { IsAlone (map (λ w. w.now) words.now) → (first last : S) → slice_get scans.items 0 ≡ Some first → slice_get result.scans.items 0 ≡ Some last
-        → Answered (map (λ w. w.now) words.now)
+        → Answered (map (λ p. p.kind) probes.now) (map (λ w. w.now) words.now)
         (scan_state S.world S.faults S.loads S.heads first) (scan_state S.world S.faults S.loads S.heads last)
         (disk_state D.tells D.history D.faults disk) (disk_state D.tells D.history D.faults result.disk)
         (sink_state K.written K.faults out.old) (sink_state K.written K.faults out.new) result.outcome }
@@ -93,7 +96,7 @@ pub fn conform<S: Scans + Send, D: Disk + Send, K: Sink, R: Threads + Wait + Syn
     };
     match crew_of(&found) {
         Some(crew) => by_crew(rt, alloc, &crew, scans, disk, out),
-        None => by_one(alloc, found, scans, disk, out),
+        None => by_one(alloc, &Forked::new(rt), found, scans, disk, out, probes),
     }
 }
 
@@ -174,18 +177,21 @@ fn by_crew<S: Scans + Send, D: Disk + Send, K: Sink, R: Threads + Wait + Sync>(
     }
 }
 
-/// A command on one thread, with the first scan.
-fn by_one<S: Scans, D: Disk, K: Sink>(
+/// A command with the first scan.
+fn by_one<S: Scans, D: Disk, K: Sink, C: Counter>(
     alloc: Global,
+    counter: &C,
     found: Option<Command>,
     mut scans: Vec<S>,
     mut disk: D,
     out: &mut K,
+    probes: &[Probe],
 ) -> Ended<S, D>
+    requires ready { C.ready }
     requires some { 1 ≤ vec_len scans }
     requires counts { IfSome found HasCounts }
     ensures answered { (words : List (List ℕ)) → IsFoundIn words found → (first last : S) → slice_get scans.items 0 ≡ Some first → slice_get result.scans.items 0 ≡ Some last
-        → Answered words
+        → Answered (map (λ p. p.kind) probes.now) words
         (scan_state S.world S.faults S.loads S.heads first) (scan_state S.world S.faults S.loads S.heads last)
         (disk_state D.tells D.history D.faults disk) (disk_state D.tells D.history D.faults result.disk)
         (sink_state K.written K.faults out.old) (sink_state K.written K.faults out.new) result.outcome }
@@ -194,7 +200,7 @@ fn by_one<S: Scans, D: Disk, K: Sink>(
     ensures same { (first last : S) → slice_get scans.items 0 ≡ Some first → slice_get result.scans.items 0 ≡ Some last → S.same first last }
     ensures later { K.faults out.old ≤ K.faults out.new }
 {
-    let outcome = answer_found(alloc, found, &mut scans[0], &mut disk, out);
+    let outcome = answer_found(alloc, counter, found, &mut scans[0], &mut disk, out, probes);
     Ended {
         outcome,
         scans,

@@ -1,4 +1,5 @@
 -- What was read of the words gives the answer, and the answer gives the headline and completeness.
+use Rattle.std.proofs.Common.{map}
 use Rattle.conform_tool.specs.Reply.{scan_state}
 use Rattle.project_run.specs.Run.{disk_state}
 use Rattle.conform_tool.proofs.Answering.{answered_unread}
@@ -19,12 +20,12 @@ returns-clause-complete g c =
 
 pub returns-in_default-clause-headline : goal.returns-in_default-clause-headline
 returns-in_default-clause-headline g c =
-    answered_promise c.job_laws.ensures.job _ _ _ _ _ _ _ _
+    answered_promise {kinds = map (λ p. p.kind) c.args.probes.now} c.job_laws.ensures.job _ _ _ _ _ _ _ _
     (answered_unread _ (scan_state g.S.Scans.world g.S.Scans.faults g.S.Scans.loads g.S.Scans.heads c.args.scan.now) (disk_state g.D.Disk.tells g.D.Disk.history g.D.Disk.faults c.args.disk.now) _ _ _ c.put_line.ensures.put)
 
 pub returns-in_default-clause-complete : goal.returns-in_default-clause-complete
 returns-in_default-clause-complete g c =
-    answered_complete c.job_laws.ensures.job _ _ _ _ _ _ _ _
+    answered_complete {kinds = map (λ p. p.kind) c.args.probes.now} c.job_laws.ensures.job _ _ _ _ _ _ _ _
     (answered_unread _ (scan_state g.S.Scans.world g.S.Scans.faults g.S.Scans.loads g.S.Scans.heads c.args.scan.now) (disk_state g.D.Disk.tells g.D.Disk.history g.D.Disk.faults c.args.disk.now) _ _ _ c.put_line.ensures.put)
 
 pub returns-clause-unfailed : goal.returns-clause-unfailed
@@ -33,5 +34,5 @@ returns-clause-unfailed g c =
 
 pub returns-in_default-clause-unfailed : goal.returns-in_default-clause-unfailed
 returns-in_default-clause-unfailed g c =
-    answered_unfailed _ _ _ _ _ _ _ _
+    answered_unfailed {kinds = map (λ p. p.kind) c.args.probes.now} _ _ _ _ _ _ _ _
     (answered_unread _ (scan_state g.S.Scans.world g.S.Scans.faults g.S.Scans.loads g.S.Scans.heads c.args.scan.now) (disk_state g.D.Disk.tells g.D.Disk.history g.D.Disk.faults c.args.disk.now) _ _ _ c.put_line.ensures.put)

@@ -62,24 +62,24 @@ pub returns-in-None-clause-headline : goal.returns-in-None-clause-headline
 returns-in-None-clause-headline g c =
     let all : vec_len c.args.scans ≡ length c.args.scans.items = search rules in
     let all_after : vec_len c.by_one.result.scans ≡ length c.by_one.result.scans.items = search rules in
-    alone_promise g.S.Scans.world g.S.Scans.faults g.S.Scans.loads g.S.Scans.heads g.S.Scans.same _ _ _ _ _ _ _ _
-    (first_answered g.S.Scans.world g.S.Scans.faults g.S.Scans.loads g.S.Scans.heads g.S.Scans.same _ _ _ _ _ _ _ _
+    alone_promise _ g.S.Scans.world g.S.Scans.faults g.S.Scans.loads g.S.Scans.heads g.S.Scans.same _ _ _ _ _ _ _ _
+    (first_answered _ g.S.Scans.world g.S.Scans.faults g.S.Scans.loads g.S.Scans.heads g.S.Scans.same _ _ _ _ _ _ _ _
     (subst (λ n. 1 ≤ n) all c.requires.some) (sym all_after ∙ c.by_one.ensures.handed_back ∙ all) (c.by_one.ensures.answered _ c.in-Ok.ensures.command)) c.job_laws.ensures.job
 
 pub returns-in-None-clause-complete : goal.returns-in-None-clause-complete
 returns-in-None-clause-complete g c =
     let all : vec_len c.args.scans ≡ length c.args.scans.items = search rules in
     let all_after : vec_len c.by_one.result.scans ≡ length c.by_one.result.scans.items = search rules in
-    alone_complete g.S.Scans.world g.S.Scans.faults g.S.Scans.loads g.S.Scans.heads g.S.Scans.same _ _ _ _ _ _ _ _
-    (first_answered g.S.Scans.world g.S.Scans.faults g.S.Scans.loads g.S.Scans.heads g.S.Scans.same _ _ _ _ _ _ _ _
+    alone_complete _ g.S.Scans.world g.S.Scans.faults g.S.Scans.loads g.S.Scans.heads g.S.Scans.same _ _ _ _ _ _ _ _
+    (first_answered _ g.S.Scans.world g.S.Scans.faults g.S.Scans.loads g.S.Scans.heads g.S.Scans.same _ _ _ _ _ _ _ _
     (subst (λ n. 1 ≤ n) all c.requires.some) (sym all_after ∙ c.by_one.ensures.handed_back ∙ all) (c.by_one.ensures.answered _ c.in-Ok.ensures.command)) c.job_laws.ensures.job
 
 pub returns-in-None-clause-unfailed : goal.returns-in-None-clause-unfailed
 returns-in-None-clause-unfailed g c =
     let all : vec_len c.args.scans ≡ length c.args.scans.items = search rules in
     let all_after : vec_len c.by_one.result.scans ≡ length c.by_one.result.scans.items = search rules in
-    alone_unfailed g.S.Scans.world g.S.Scans.faults g.S.Scans.loads g.S.Scans.heads g.S.Scans.same _ _ _ _ _ _ _ _
-    (first_answered g.S.Scans.world g.S.Scans.faults g.S.Scans.loads g.S.Scans.heads g.S.Scans.same _ _ _ _ _ _ _ _
+    alone_unfailed _ g.S.Scans.world g.S.Scans.faults g.S.Scans.loads g.S.Scans.heads g.S.Scans.same _ _ _ _ _ _ _ _
+    (first_answered _ g.S.Scans.world g.S.Scans.faults g.S.Scans.loads g.S.Scans.heads g.S.Scans.same _ _ _ _ _ _ _ _
     (subst (λ n. 1 ≤ n) all c.requires.some) (sym all_after ∙ c.by_one.ensures.handed_back ∙ all) (c.by_one.ensures.answered _ c.in-Ok.ensures.command))
 
 -- no memory was left to read the words

@@ -1,0 +1,15 @@
+-- The table is the command's reply.
+use Rattle.std.proofs.Common.{refl}
+use Rattle.conform_tool.proofs.Replies.{reply_of, replied_qc, error_of, outcome_of}
+use Rattle.conform_tool.proofs.quality.qc.Goals as goal
+
+pub returns-in-Ok-clause-reply : goal.returns-in-Ok-clause-reply
+returns-in-Ok-clause-reply g c =
+    let counted = c.in-Ok.ensures in
+    reply_of _ _ _ _ _ tt tt (λ not_done. absurd (not_done refl)) (λ same. absurd (cc)) (λ _. counted.steady (λ same. cc)) counted.later tt tt counted.world
+
+pub returns-in-Err-clause-reply : goal.returns-in-Err-clause-reply
+returns-in-Err-clause-reply g c =
+    let counted = c.in-Err.ensures in
+    reply_of _ _ _ _ _ (replied_qc c.args.path.now _ counted.kind) tt (λ _. refl)
+    (λ same. counted.failed (error_of _ _ same)) (λ other. counted.steady (λ same. other (outcome_of _ _ same))) counted.later tt tt counted.world
