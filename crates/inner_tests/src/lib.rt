@@ -16,11 +16,15 @@ mod disks;
 #[cfg(test)]
 mod folders;
 #[cfg(test)]
+mod ledgers;
+#[cfg(test)]
 mod noted;
 #[cfg(test)]
 mod runs;
 #[cfg(test)]
 mod scans;
+#[cfg(test)]
+mod shared;
 #[cfg(test)]
 mod together;
 #[cfg(test)]
