@@ -1,5 +1,5 @@
 //! The conform station's command line: the words after the program's name, scans and a reel folder below the current folder,
-//! and standard output are handed to the top call, whose outcome is the status.
+//! standard output, and the counts of the quality table are handed to the top call, whose outcome is the status.
 #![tactic(auto)]
 
 ghost use Rattle.std.specs.Prelude.{◌≡◌, vec_len, IfOk};
@@ -7,6 +7,7 @@ ghost use Rattle.std.specs.Prelude.{◌≡◌, vec_len, IfOk};
 use cf_base::{PathText, StreamSink};
 use conform_tool::{Ended, conform};
 use reel_disk::{Disk, FolderDisk};
+use reel_qc::{Probe, ProbeKind, high, low, sum};
 use scan_source::FileScans;
 use std::alloc::{AllocError, Global};
 use std::process::ExitCode;
@@ -36,12 +37,17 @@ fn main(rt: HostRuntime) -> ExitCode {
     let Ok(disk) = reel_folder(&rt) else {
         return ExitCode::from(NO_MEMORY);
     };
+    let probes = [
+        Probe::new(ProbeKind::High, high),
+        Probe::new(ProbeKind::Low, low),
+        Probe::new(ProbeKind::Sum, sum),
+    ];
     let mut out = StreamSink::new(io::writer(&rt));
     let Ended {
         outcome,
         scans: _,
         disk: _,
-    } = conform(&rt, alloc, &words, scans, disk, &mut out);
+    } = conform(&rt, alloc, &words, scans, disk, &mut out, &probes);
     ExitCode::from(outcome.status())
 }
 
