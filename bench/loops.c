@@ -1,6 +1,7 @@
-// The pixel rules as plain loops, for bench/look and bench/render to set the program's beside: picoseconds of processor time a
-// pixel (and a sum, so that no loop is left out) of a dissolve, of a look of one dimension with 1,024 places and of one of three with 33 a side. Where each code
-// lies between two places is found once, as in the program.
+// The pixel rules as plain loops, for bench/look, bench/render and bench/qc to set the program's beside: picoseconds of processor
+// time a pixel (and a sum, so that no loop is left out) of a dissolve, of a look of one dimension with 1,024 places, of one of
+// three with 33 a side, and of the three counts of the quality table. Where each code lies between two places is found once, as in
+// the program.
 #include <stdint.h>
 #include <stdio.h>
 #include <stdlib.h>
@@ -79,6 +80,19 @@ static void look_3d(void) {
     }
 }
 
+static uint32_t most(uint32_t a, uint32_t b) { return a > b ? a : b; }
+static uint32_t least(uint32_t a, uint32_t b) { return a < b ? a : b; }
+
+static void counts(void) {
+    uint64_t high_words = 0, low_words = 0, sum = 0;
+    for (int i = 0; i < PIXELS; i++) high_words += most(most(code(old[i], 0), code(old[i], 1)), code(old[i], 2)) >= 1020;
+    for (int i = 0; i < PIXELS; i++) low_words += least(least(code(old[i], 0), code(old[i], 1)), code(old[i], 2)) <= 3;
+    for (int i = 0; i < PIXELS; i++) sum += code(old[i], 0) + code(old[i], 1) + code(old[i], 2);
+    out[0] = high_words;
+    out[1] = low_words;
+    out[2] = sum;
+}
+
 static double processor(void) {
     struct timespec now;
     clock_gettime(CLOCK_PROCESS_CPUTIME_ID, &now);
@@ -109,4 +123,5 @@ int main(void) {
     measure("dissolve", dissolve);
     measure("1D", look_1d);
     measure("3D", look_3d);
+    measure("counts", counts);
 }
