@@ -74,7 +74,7 @@ IsJobReply IsForm files path other output before after = ⊥
 
 -- its plan
 abbrev pub IsPlanForm : JobParts → List ℕ → Type 0
-IsPlanForm parts output = output ≡ plan_of parts.timeline
+IsPlanForm parts output = output ≡ plan_of parts
 
 -- its pull list with a margin
 abbrev pub IsPullForm : ℕ → JobParts → List ℕ → Type 0
