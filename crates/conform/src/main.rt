@@ -4,8 +4,9 @@
 
 ghost use Rattle.std.specs.Prelude.{◌≡◌, vec_len, IfOk};
 
-use cf_base::{PathText, StreamSink};
+use cf_base::{PathText, Put, Sink, StreamSink};
 use conform_tool::{Ended, conform};
+use outcome_line::{Outcome, plain_line};
 use reel_disk::{Disk, FolderDisk};
 use reel_qc::{Probe, ProbeKind, high, low, sum};
 use scan_source::FileScans;
@@ -20,35 +21,43 @@ const SCANS: usize = 16;
 /// The reel folder, in the current folder.
 const FOLDER: &[u8] = b"conform.out";
 
-/// The status of want of memory before there is a command.
-const NO_MEMORY: u8 = 10;
-
 fn main(rt: HostRuntime) -> ExitCode {
+    let mut out = StreamSink::new(io::writer(&rt));
+    match called(&rt, &mut out) {
+        Ok(outcome) => ExitCode::from(outcome.status()),
+        Err(AllocError) => ExitCode::from(without_memory(&mut out).status()),
+    }
+}
+
+/// What the words after the program's name come to.
+fn called<K: Sink>(rt: &HostRuntime, out: &mut K) -> Result<Outcome, AllocError> {
     let alloc = rt.alloc();
-    let Ok(owned) = arguments(&rt) else {
-        return ExitCode::from(NO_MEMORY);
-    };
-    let Ok(words) = words_of(alloc, &owned) else {
-        return ExitCode::from(NO_MEMORY);
-    };
-    let Ok(scans) = scans_over(&rt) else {
-        return ExitCode::from(NO_MEMORY);
-    };
-    let Ok(disk) = reel_folder(&rt) else {
-        return ExitCode::from(NO_MEMORY);
-    };
+    let owned = arguments(rt)?;
+    let words = words_of(alloc, &owned)?;
+    let scans = scans_over(rt)?;
+    let disk = reel_folder(rt)?;
     let probes = [
         Probe::new(ProbeKind::High, high),
         Probe::new(ProbeKind::Low, low),
         Probe::new(ProbeKind::Sum, sum),
     ];
-    let mut out = StreamSink::new(io::writer(&rt));
     let Ended {
         outcome,
         scans: _,
         disk: _,
-    } = conform(&rt, alloc, &words, scans, disk, &mut out, &probes);
-    ExitCode::from(outcome.status())
+    } = conform(rt, alloc, &words, scans, disk, out, &probes);
+    Ok(outcome)
+}
+
+/// Puts the line of want of memory, where there was none for what a call is handed.
+fn without_memory<K: Sink>(out: &mut K) -> Outcome {
+    let reached = Outcome::NoMemory;
+    match out.put(plain_line(&reached).as_bytes()) {
+        Put::All => reached,
+        Put::Failed => Outcome::SinkFault {
+            instead: reached.status(),
+        },
+    }
 }
 
 /// The words, as they are lent to a call.

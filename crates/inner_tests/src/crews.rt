@@ -12,7 +12,7 @@ use std::sync::Wait;
 use std::thread::Threads;
 
 /// A run of the job by so many workers over a disk that was never used; its name tells no files.
-fn crew_on<R: Threads + Wait + Sync>(
+pub(crate) fn crew_on<R: Threads + Wait + Sync>(
     rt: &R,
     alloc: Global,
     job: &Job,

@@ -26,6 +26,8 @@ mod scans;
 #[cfg(test)]
 mod shared;
 #[cfg(test)]
+mod stops;
+#[cfg(test)]
 mod together;
 #[cfg(test)]
 mod values;
