@@ -8,6 +8,7 @@ use cf_base::{FileId, MemorySink, PathText, Sink, StreamSink};
 use conform_tool::{Ended, answer, conform};
 use outcome_line::Outcome;
 use reel_disk::{Disk, Length, MemoryDisk};
+use reel_qc::{Probe, ProbeKind, sum};
 use scan_source::{Head, Loaded, MemoryScans, Scans};
 use std::alloc::Global;
 
@@ -24,7 +25,8 @@ fn answered<S: Scans, K: Sink>(
     for word in line.split(' ') {
         words.push(word).ok()?;
     }
-    let outcome = answer(alloc, &words, scan, disk, out);
+    let probes = [Probe::new(ProbeKind::Sum, sum)];
+    let outcome = answer(alloc, &words, scan, disk, out, &probes);
     let instead = match outcome {
         Outcome::SinkFault { instead } => Some(instead),
         _ => None,
@@ -57,6 +59,7 @@ fn a_fault_of_the_scan_ends_a_command_where_it_stands(rt: HostRuntime) {
         ("plan desk.toml", 3),
         ("plan desk.toml", 28),
         ("status desk.toml", 28),
+        ("qc desk.toml", 28),
         ("run desk.toml --workers 1", 1),
         ("run desk.toml --workers 1", 5),
     ] {
@@ -120,6 +123,26 @@ fn a_command_that_was_stopped_goes_on(rt: HostRuntime) {
         assert!(rt; says(&out, rest), "stop at {stop}, crash {pick}");
         assert!(rt; is_whole(&mut left), "stop at {stop}, crash {pick}");
     }
+}
+
+/// A run has 152 calls, and a look at its ledger 4; then each frame's file is read, the second by call 158.
+#[test]
+fn a_fault_of_the_disk_ends_a_table(rt: HostRuntime) {
+    let alloc = rt.alloc();
+    let fails = Vec::from_slice(alloc, &[158]).ok().expect(&rt, "a number");
+    let mut disk = MemoryDisk::failing(alloc, fails).ok().expect(&rt, "a disk");
+    let lines = [
+        ("qc desk.toml", "qc sum\nframes 0\n"),
+        ("run desk.toml", "frames 24\nkept 0\nrendered 24\n"),
+        ("qc desk.toml", "disk fault\n"),
+    ];
+    for (line, told) in lines {
+        let out = put(alloc, line, 0, &mut disk).expect(&rt, "an answer");
+        assert!(rt; says(&out, told), "{line}");
+    }
+    let out = put(alloc, "qc desk.toml", 0, &mut disk).expect(&rt, "an answer");
+    assert!(rt; out.bytes().starts_with(b"qc sum\n0 1200\n"));
+    assert!(rt; out.bytes().ends_with(b"\n23 2400\nframes 24\n"));
 }
 
 /// A sink of so much room over the desk's files.
@@ -243,7 +266,7 @@ fn three_workers_load_beside_one_another_and_leave_the_reel(rt: HostRuntime) {
         outcome,
         scans,
         mut disk,
-    } = conform(&rt, alloc, &words, scans, disk, &mut out);
+    } = conform(&rt, alloc, &words, scans, disk, &mut out, &[]);
     assert!(rt; outcome == Outcome::Done);
     assert!(rt; says(&out, "frames 24\nkept 0\nrendered 24\n"));
     assert!(rt; scans.len() == 3);

@@ -8,6 +8,8 @@ mod boards;
 #[cfg(test)]
 mod commands;
 #[cfg(test)]
+mod counts;
+#[cfg(test)]
 mod crews;
 #[cfg(test)]
 mod desk;
