@@ -14,7 +14,7 @@ use std::alloc::Global;
 
 /// The status that the words of a line come to, which have one blank between them, and the one in whose place a fault of the
 /// sink stands.
-fn answered<S: Scans, K: Sink>(
+pub fn answered<S: Scans, K: Sink>(
     alloc: Global,
     line: &str,
     scan: &mut S,
@@ -35,14 +35,14 @@ fn answered<S: Scans, K: Sink>(
 }
 
 /// What a line puts over the desk's files, of which the call of this number fails, 0 for none.
-fn put(alloc: Global, line: &str, fail: u64, disk: &mut MemoryDisk) -> Option<MemorySink> {
+pub fn put(alloc: Global, line: &str, fail: u64, disk: &mut MemoryDisk) -> Option<MemorySink> {
     let mut scan = desk_scans(alloc, &[fail])?;
     let mut out = MemorySink::new(alloc);
     answered(alloc, line, &mut scan, disk, &mut out)?;
     Some(out)
 }
 
-fn says(out: &MemorySink, text: &str) -> bool {
+pub fn says(out: &MemorySink, text: &str) -> bool {
     out.bytes() == text.as_bytes()
 }
 

@@ -31,7 +31,7 @@ frames = 48
 ";
 
 /// Ten frames of A001, a gap of two, and a dissolve of four frames from A001 into twelve of B002.
-const LIST: &[u8] = b"TITLE: DESK\r
+pub const LIST: &[u8] = b"TITLE: DESK\r
 FCM: NON-DROP FRAME\r
 \r
 001  A001     V     C        01:00:00:00 01:00:00:10 01:00:00:00 01:00:00:10\r
@@ -58,6 +58,13 @@ fn word(code: u32) -> [u8; 4] {
 
 /// A file of 2 by 2 pixels with this code in all channels.
 fn picture(alloc: Global, code: u32) -> Option<Vec<u8>> {
+    lined_picture(alloc, code, 0)
+}
+
+/// The same with so many bytes of padding behind each line.
+pub fn lined_picture(alloc: Global, code: u32, pad: u8) -> Option<Vec<u8>> {
+    let zeros = [0; 255];
+    let padding = &zeros[..usize::from(pad)];
     let mut file = Vec::new(alloc);
     for part in [
         b"SDPX".as_slice(),
@@ -65,18 +72,21 @@ fn picture(alloc: Global, code: u32) -> Option<Vec<u8>> {
         b"\0\x01\0\0\0\x02\0\0\0\x02",
         &[0; 20],
         b"\x32\0\0\x0A\0\x01\0\0\0\0\x08\0",
-        &[0; 1236],
+        &[0, 0, 0, pad],
+        &[0; 1232],
         &word(code),
         &word(code),
+        padding,
         &word(code),
         &word(code),
+        padding,
     ] {
         file.extend_from_slice(part).ok()?;
     }
     Some(file)
 }
 
-fn put_file(files: &mut Vec<(PathText, Vec<u8>)>, path: &[u8], bytes: Vec<u8>) -> Option<()> {
+pub fn put_file(files: &mut Vec<(PathText, Vec<u8>)>, path: &[u8], bytes: Vec<u8>) -> Option<()> {
     files.push((PathText::of(path)?, bytes)).ok()
 }
 
@@ -105,6 +115,12 @@ pub fn desk_scans(alloc: Global, fails: &[u64]) -> Option<MemoryScans> {
 
 /// The desk job's files with this list. The calls with these numbers fail.
 pub fn scans_of(alloc: Global, list: &[u8], fails: &[u64]) -> Option<MemoryScans> {
+    let files = files_of(alloc, list)?;
+    Some(MemoryScans::new(files, fails.to_vec(alloc).ok()?))
+}
+
+/// The project, the list, and the scans of A001 and of B002.
+pub fn files_of(alloc: Global, list: &[u8]) -> Option<Vec<(PathText, Vec<u8>)>> {
     let mut files = Vec::new(alloc);
     put_file(
         &mut files,
@@ -114,7 +130,7 @@ pub fn scans_of(alloc: Global, list: &[u8], fails: &[u64]) -> Option<MemoryScans
     put_file(&mut files, b"desk.edl", Vec::from_slice(alloc, list).ok()?)?;
     put_reel(alloc, &mut files, b"a001/a001.", 86_400, 100)?;
     put_reel(alloc, &mut files, b"b002/b002.", 172_800, 200)?;
-    Some(MemoryScans::new(files, fails.to_vec(alloc).ok()?))
+    Some(files)
 }
 
 /// Whether the folder has the desk's whole reel: 24 frames of four pixels each.

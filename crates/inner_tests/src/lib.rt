@@ -6,6 +6,8 @@
 #[cfg(test)]
 mod boards;
 #[cfg(test)]
+mod changes;
+#[cfg(test)]
 mod commands;
 #[cfg(test)]
 mod counts;
@@ -19,6 +21,8 @@ mod disks;
 mod folders;
 #[cfg(test)]
 mod ledgers;
+#[cfg(test)]
+mod long_reel;
 #[cfg(test)]
 mod noted;
 #[cfg(test)]

@@ -1,6 +1,6 @@
 //! Scans over files in memory, whose calls fail by their numbers.
 use cf_base::PathText;
-use scan_source::{Head, Loaded, MemoryScans, Scans};
+use scan_source::{Head, Loaded, MemoryScans, SameScans, Scans, TurningScans};
 use std::alloc::Global;
 use std::test::Fail;
 
@@ -51,5 +51,49 @@ fn calls_fail_by_their_numbers(rt: HostRuntime) -> Result<(), Fail> {
         assert_eq!(rt; bytes.as_slice(), b"".as_slice());
     }
     assert_eq!(rt; &head[..4], b"abc\0".as_slice());
+    Ok(())
+}
+
+/// The first two calls go to three files, and the later ones, of which the first fails, to no file.
+#[test]
+fn calls_turn_from_one_scan_to_another(rt: HostRuntime) -> Result<(), Fail> {
+    let alloc = rt.alloc();
+    let mut bytes = Vec::new(alloc);
+    let mut head = [7; 2048];
+    let none = MemoryScans::new(Vec::new(alloc), [1].as_slice().to_vec(alloc)?);
+    let mut scan = TurningScans::new(three_files(alloc, &[])?, none, 3);
+    assert_eq!(rt;
+        loaded(&mut scan, "a.dpx", &mut bytes)?,
+        Loaded::Got { len: 3 }
+    );
+    assert_eq!(rt;
+        scan.head(&path_of("b.dpx")?, &mut head),
+        Head::Found { len: 0 }
+    );
+    assert_eq!(rt; loaded(&mut scan, "a.dpx", &mut bytes)?, Loaded::Failed);
+    assert_eq!(rt; scan.head(&path_of("a.dpx")?, &mut head), Head::Absent);
+    Ok(())
+}
+
+/// Calls on the paths of the texts are numbered, and no others.
+#[test]
+fn all_files_but_the_texts_have_one_head(rt: HostRuntime) -> Result<(), Fail> {
+    let alloc = rt.alloc();
+    let mut bytes = b"before".to_vec(alloc)?;
+    let mut head = [7; 2048];
+    let mut scan = SameScans::new(three_files(alloc, &[2])?, [5; 2048], 9000);
+    assert_eq!(rt;
+        scan.head(&path_of("c.dpx")?, &mut head),
+        Head::Found { len: 9000 }
+    );
+    assert!(rt; head == [5; 2048]);
+    assert_eq!(rt; loaded(&mut scan, "c.dpx", &mut bytes)?, Loaded::Absent);
+    assert_eq!(rt;
+        scan.head(&path_of("a.dpx")?, &mut head),
+        Head::Found { len: 3 }
+    );
+    assert_eq!(rt; &head[..4], b"abc\0".as_slice());
+    assert_eq!(rt; loaded(&mut scan, "b.dpx", &mut bytes)?, Loaded::Failed);
+    assert_eq!(rt; bytes.as_slice(), b"".as_slice());
     Ok(())
 }
