@@ -22,20 +22,20 @@ const SCANS: usize = 16;
 const FOLDER: &[u8] = b"conform.out";
 
 fn main(rt: HostRuntime) -> ExitCode {
-    let mut out = StreamSink::new(io::writer(&rt));
-    match called(&rt, &mut out) {
-        Ok(outcome) => ExitCode::from(outcome.status()),
-        Err(AllocError) => ExitCode::from(without_memory(&mut out).status()),
-    }
-}
-
-/// What the words after the program's name come to.
-fn called<K: Sink>(rt: &HostRuntime, out: &mut K) -> Result<Outcome, AllocError> {
     let alloc = rt.alloc();
-    let owned = arguments(rt)?;
-    let words = words_of(alloc, &owned)?;
-    let scans = scans_over(rt)?;
-    let disk = reel_folder(rt)?;
+    let mut out = StreamSink::new(io::writer(&rt));
+    let Ok(owned) = arguments(&rt) else {
+        return without_memory(&mut out);
+    };
+    let Ok(words) = words_of(alloc, &owned) else {
+        return without_memory(&mut out);
+    };
+    let Ok(scans) = scans_over(&rt) else {
+        return without_memory(&mut out);
+    };
+    let Ok(disk) = reel_folder(&rt) else {
+        return without_memory(&mut out);
+    };
     let probes = [
         Probe::new(ProbeKind::High, high),
         Probe::new(ProbeKind::Low, low),
@@ -45,19 +45,20 @@ fn called<K: Sink>(rt: &HostRuntime, out: &mut K) -> Result<Outcome, AllocError>
         outcome,
         scans: _,
         disk: _,
-    } = conform(rt, alloc, &words, scans, disk, out, &probes);
-    Ok(outcome)
+    } = conform(&rt, alloc, &words, scans, disk, &mut out, &probes);
+    ExitCode::from(outcome.status())
 }
 
 /// Puts the line of want of memory, where there was none for what a call is handed.
-fn without_memory<K: Sink>(out: &mut K) -> Outcome {
+fn without_memory<K: Sink>(out: &mut K) -> ExitCode {
     let reached = Outcome::NoMemory;
-    match out.put(plain_line(&reached).as_bytes()) {
+    let answer = match out.put(plain_line(&reached).as_bytes()) {
         Put::All => reached,
         Put::Failed => Outcome::SinkFault {
             instead: reached.status(),
         },
-    }
+    };
+    ExitCode::from(answer.status())
 }
 
 /// The words, as they are lent to a call.
