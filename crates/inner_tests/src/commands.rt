@@ -169,6 +169,22 @@ fn a_sink_that_fails_keeps_a_prefix_and_the_status(rt: HostRuntime) {
     assert!(rt; says(&out, "frames 24\nkept 24\nrendered 0\n"));
 }
 
+/// An answer's output goes by one put.
+#[test]
+fn a_put_that_fails_by_its_number_keeps_a_prefix_and_the_status(rt: HostRuntime) {
+    let alloc = rt.alloc();
+    let mut scan = desk_scans(alloc, &[]).expect(&rt, "files");
+    let mut disk = MemoryDisk::new(alloc).ok().expect(&rt, "a disk");
+    let fails = Vec::from_slice(alloc, &[1]).ok().expect(&rt, "a list");
+    let mut out = MemorySink::failing(alloc, fails, 3)
+        .ok()
+        .expect(&rt, "a sink");
+    let ended = answered(alloc, "run desk.toml", &mut scan, &mut disk, &mut out);
+    assert!(rt; ended == Some((9, Some(0))) && says(&out, "fra"));
+    let ended = answered(alloc, "status desk.toml", &mut scan, &mut disk, &mut out);
+    assert!(rt; ended == Some((0, None)) && says(&out, "fraframes 24\nacknowledged 24\n"));
+}
+
 /// The two texts are among the loads.
 #[test]
 fn the_words_say_how_many_source_frames_are_shared(rt: HostRuntime) {
