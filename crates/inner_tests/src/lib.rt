@@ -20,6 +20,8 @@ mod disks;
 #[cfg(test)]
 mod folders;
 #[cfg(test)]
+mod kernels;
+#[cfg(test)]
 mod ledgers;
 #[cfg(test)]
 mod long_reel;
