@@ -1,7 +1,7 @@
 //! Crews over the desk job, and scans that see one another.
 ghost use Rattle.std.specs.Prelude.{◌≡◌, ◌≤◌, vec_len};
 
-use crate::desk::{Desk, is_whole, report};
+use crate::desk::{Desk, has_reels, is_whole, report};
 use crate::together::CountedScans;
 use conform_job::Job;
 use reel_disk::{Disk, MemoryDisk};
@@ -142,6 +142,48 @@ fn a_crew_that_was_stopped_at_a_call_loses_no_frame(rt: HostRuntime) {
                 "stop at {stop}, crash {pick}"
             );
             assert!(rt; is_whole(&mut crashed), "stop at {stop}, crash {pick}");
+        }
+    }
+    drop(desk);
+}
+
+/// The same of a record that is cut in two: a run that goes on leaves the same 24 files each time, twelve of each reel.
+#[test]
+fn a_crew_that_was_stopped_loses_no_frame_of_two_reels(rt: HostRuntime) {
+    let alloc = rt.alloc();
+    let mut desk = Desk::cut(alloc).expect(&rt, "a job");
+    for (stop, found) in [
+        (8, [0, 0, 0]),
+        (75, [11, 11, 11]),
+        (80, [12, 11, 11]),
+        (86, [13, 12, 12]),
+        (152, [24, 23, 23]),
+        (153, [24, 24, 24]),
+    ] {
+        let disk = MemoryDisk::stopped_at(alloc, stop)
+            .ok()
+            .expect(&rt, "a disk");
+        let scans = CountedScans::of_desk(alloc, 3, 0, 0).expect(&rt, "scans");
+        let Crew {
+            end,
+            report: _,
+            history: _,
+            log: _,
+            scans: _,
+            disk,
+        } = crew_on(&rt, alloc, &desk.job, scans, 3, disk);
+        assert!(rt; (end == RunEnd::Done) == (stop == 153), "stop at {stop}");
+        for (pick, kept) in (0..3).zip(found) {
+            let mut crashed = disk.crash(pick).ok().expect(&rt, "a disk");
+            let (end, report) = desk.run(&mut crashed);
+            assert!(rt;
+                end == RunEnd::Done && report.kept == kept,
+                "stop at {stop}, crash {pick}"
+            );
+            assert!(rt;
+                has_reels(&mut crashed, 86_412),
+                "stop at {stop}, crash {pick}"
+            );
         }
     }
     drop(desk);

@@ -30,6 +30,10 @@ start = \"02:00:00:00\"
 frames = 48
 ";
 
+/// The line that cuts the record in two, at frame 86412.
+const CUT: &[u8] = b"cuts = [\"01:00:00:12\"]
+";
+
 /// Ten frames of A001, a gap of two, and a dissolve of four frames from A001 into twelve of B002.
 pub const LIST: &[u8] = b"TITLE: DESK\r
 FCM: NON-DROP FRAME\r
@@ -115,18 +119,26 @@ pub fn desk_scans(alloc: Global, fails: &[u64]) -> Option<MemoryScans> {
 
 /// The desk job's files with this list. The calls with these numbers fail.
 pub fn scans_of(alloc: Global, list: &[u8], fails: &[u64]) -> Option<MemoryScans> {
-    let files = files_of(alloc, list)?;
+    scans_with(alloc, b"", list, fails)
+}
+
+/// The same with this text before that of the project.
+fn scans_with(alloc: Global, keys: &[u8], list: &[u8], fails: &[u64]) -> Option<MemoryScans> {
+    let files = files_with(alloc, keys, list)?;
     Some(MemoryScans::new(files, fails.to_vec(alloc).ok()?))
 }
 
 /// The project, the list, and the scans of A001 and of B002.
 pub fn files_of(alloc: Global, list: &[u8]) -> Option<Vec<(PathText, Vec<u8>)>> {
+    files_with(alloc, b"", list)
+}
+
+/// The same with this text before that of the project.
+fn files_with(alloc: Global, keys: &[u8], list: &[u8]) -> Option<Vec<(PathText, Vec<u8>)>> {
     let mut files = Vec::new(alloc);
-    put_file(
-        &mut files,
-        b"desk.toml",
-        Vec::from_slice(alloc, PROJECT).ok()?,
-    )?;
+    let mut project = Vec::from_slice(alloc, keys).ok()?;
+    project.extend_from_slice(PROJECT).ok()?;
+    put_file(&mut files, b"desk.toml", project)?;
     put_file(&mut files, b"desk.edl", Vec::from_slice(alloc, list).ok()?)?;
     put_reel(alloc, &mut files, b"a001/a001.", 86_400, 100)?;
     put_reel(alloc, &mut files, b"b002/b002.", 172_800, 200)?;
@@ -135,12 +147,18 @@ pub fn files_of(alloc: Global, list: &[u8]) -> Option<Vec<(PathText, Vec<u8>)>> 
 
 /// Whether the folder has the desk's whole reel: 24 frames of four pixels each.
 pub fn is_whole(disk: &mut MemoryDisk) -> bool {
+    has_reels(disk, 86_424)
+}
+
+/// The same where record reel 2 begins with this frame.
+pub fn has_reels(disk: &mut MemoryDisk, second: u32) -> bool {
     let codes = [
         100, 100, 100, 100, 100, 100, 100, 100, 100, 100, 0, 0, 113, 138, 163, 188, 200, 200, 200,
         200, 200, 200, 200, 200,
     ];
     for (frame, code) in (86_400..86_424).zip(codes) {
-        if !has_frame(disk, frame, code) {
+        let reel = if frame < second { 1 } else { 2 };
+        if !has_frame(disk, FileId::Frame { reel, frame }, code) {
             return false;
         }
     }
@@ -148,9 +166,8 @@ pub fn is_whole(disk: &mut MemoryDisk) -> bool {
 }
 
 /// Whether the frame's file has four pixels with this code in all channels, and no byte behind them.
-fn has_frame(disk: &mut MemoryDisk, frame: u32, code: u32) -> bool {
+fn has_frame(disk: &mut MemoryDisk, file: FileId, code: u32) -> bool {
     let mut pixels = [0; 17];
-    let file = FileId::Frame { reel: 1, frame };
     disk.read(file, 2048, &mut pixels) == Got::Bytes(16)
         && pixels
             .chunks(4)
@@ -174,7 +191,15 @@ impl Desk {
 
     /// The same project with this list.
     pub fn with_list(alloc: Global, list: &[u8], fails: &[u64]) -> Option<Desk> {
-        let mut scans = scans_of(alloc, list, fails)?;
+        Desk::over(alloc, scans_of(alloc, list, fails)?)
+    }
+
+    /// The desk's project with a record of two reels, of twelve frames each.
+    pub fn cut(alloc: Global) -> Option<Desk> {
+        Desk::over(alloc, scans_with(alloc, CUT, LIST, &[])?)
+    }
+
+    fn over(alloc: Global, mut scans: MemoryScans) -> Option<Desk> {
         let path = PathText::of(b"desk.toml")?;
         let job = planned(alloc, &path, &mut scans).ok()?;
         Some(Desk { alloc, scans, job })
