@@ -97,6 +97,7 @@ run_instead told path disk disk_after loads loads_after reached output (inl has)
     spares = has.ran.spares;
     writes = has.ran.writes;
     loaded = has.ran.loaded;
+    changed = has.ran.changed;
   };
 })
 run_instead told path disk disk_after loads loads_after reached output (inr none) = inr (record { why = told_any told (λ world. tt); kind = tt; untouched = none.untouched; texts = none.texts })
