@@ -39,7 +39,7 @@ fn run_changed(alloc: Global, there: bool, disk: &mut MemoryDisk) -> Option<(Out
     let mut scan = TurningScans::new(first, later_files(alloc, there)?, 34);
     let mut out = MemorySink::new(alloc);
     let words = ["run", "desk.toml", "--workers", "1"];
-    let outcome = answer(alloc, &words, &mut scan, disk, &mut out);
+    let outcome = answer(alloc, &words, &mut scan, disk, &mut out, &[]);
     Some((outcome, out))
 }
 
