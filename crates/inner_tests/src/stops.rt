@@ -104,9 +104,7 @@ fn a_call_that_fails_once_ends_a_run_that_goes_on(rt: HostRuntime) {
     let mut desk = Desk::new(alloc, &[]).expect(&rt, "a job");
     for (call, least, most) in [(6, 0, 0), (10, 0, 0), (14, 0, 1)] {
         let fails = Vec::from_slice(alloc, &[call]).ok().expect(&rt, "a list");
-        let mut disk = MemoryDisk::failing(alloc, fails)
-            .ok()
-            .expect(&rt, "a disk");
+        let mut disk = MemoryDisk::failing(alloc, fails).ok().expect(&rt, "a disk");
         assert!(rt; desk.run(&mut disk).0 == RunEnd::DiskFault, "call {call}");
         for pick in 0..3 {
             let kept = kept_alone(&mut desk, &disk, pick);
@@ -125,9 +123,7 @@ fn a_crew_whose_call_fails_once_has_that_frame_or_not(rt: HostRuntime) {
     let alloc = rt.alloc();
     let mut desk = Desk::new(alloc, &[]).expect(&rt, "a job");
     let fails = Vec::from_slice(alloc, &[50]).ok().expect(&rt, "a list");
-    let disk = MemoryDisk::failing(alloc, fails)
-        .ok()
-        .expect(&rt, "a disk");
+    let disk = MemoryDisk::failing(alloc, fails).ok().expect(&rt, "a disk");
     let scans = CountedScans::of_desk(alloc, 3, 0, 0).expect(&rt, "scans");
     let Crew {
         end,
