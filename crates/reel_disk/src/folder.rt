@@ -17,7 +17,8 @@ const LONGEST: usize = 255 + 1 + LONGEST_NAME;
 
 /// The files of one folder of a real file system. It does not tell what they hold.
 ///
-/// The folder is made at the first write, where it is not there, and never before. A sync syncs the file, over the very
+/// The folder is made at the first write, where it is not there, and never before; once something was written, a folder that
+/// is not there any more is a fault, and none is made in its place. A sync syncs the file, over the very
 /// handle that wrote it last, and then the folder; the first one that finds the folder there syncs the folder that it lies
 /// in, too, so that it isn't lost by itself, whoever made it. A file without a name, any answer of the system but "not
 /// found", and a folder, a pipe or another thing in a file's place are faults; such a thing isn't opened.
@@ -30,6 +31,8 @@ pub struct FolderDisk<R: Files + Drop> {
     written: Option<(FileId, R::File)>,
     /// Whether the folder's own name was synced.
     is_named: bool,
+    /// Whether a file was opened to be written.
+    has_written: bool,
 }
 
 /// The file has no path.
@@ -48,6 +51,7 @@ impl<R: Files + Drop> FolderDisk<R> {
             faults: 0,
             written: None,
             is_named: false,
+            has_written: false,
         }
     }
 
@@ -124,7 +128,7 @@ impl<R: Files + Drop> FolderDisk<R> {
         match options.open(&self.rt, path.as_str()) {
             Ok(file) => Ok(file),
             Err(refused) => {
-                if refused.kind() != ErrorKind::NotFound {
+                if refused.kind() != ErrorKind::NotFound || self.has_written {
                     return Err(refused);
                 }
                 fs::create_dir(&self.rt, self.folder()?)?;
@@ -149,6 +153,7 @@ impl<R: Files + Drop> FolderDisk<R> {
         ensures { self.new.faults ≡ self.old.faults }
     {
         let mut file = self.make(id)?;
+        self.has_written = true;
         file.write_all(bytes)?;
         self.written = Some((id, file));
         Ok(())
@@ -158,6 +163,7 @@ impl<R: Files + Drop> FolderDisk<R> {
         ensures { self.new.faults ≡ self.old.faults }
     {
         let mut file = self.open(id, true)?;
+        self.has_written = true;
         file.seek(SeekFrom::Start(start))?;
         file.write_all(bytes)?;
         self.written = Some((id, file));
@@ -185,7 +191,7 @@ impl<R: Files + Drop> FolderDisk<R> {
         self.keep_file(id)?;
         match self.sync_folder(self.folder()?) {
             Ok(()) => self.keep_name(),
-            Err(refused) if refused.kind() == ErrorKind::NotFound => Ok(()),
+            Err(refused) if refused.kind() == ErrorKind::NotFound && !self.has_written => Ok(()),
             Err(refused) => Err(refused),
         }
     }
