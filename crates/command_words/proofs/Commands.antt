@@ -34,18 +34,22 @@ pub none_given : (line : LineText)
     → ((path : List ℕ) → IsRow line (codes "status") None → IsPath line.subject path → ⊥)
     → ((path : List ℕ) → IsRow line (codes "verify") None → IsPath line.subject path → ⊥)
     → ((path : List ℕ) → IsRow line (codes "qc") None → IsPath line.subject path → ⊥)
+    → ((path : List ℕ) → IsRow line (codes "sheet") None → IsPath line.subject path → ⊥)
+    → ((project old : List ℕ) → Gives line (commands.Adopt project old) → ⊥)
     → ((project : List ℕ) (margin : ℕ) → Gives line (commands.Pull project margin) → ⊥)
     → ((count : ℕ) → IsRow line (codes "demo") None → IsCount line.subject count → ⊥)
     → (command : Command) → Gives line command → ⊥
-none_given line frame list plan run status verify qc pull demo (commands.Frame path) h = frame path h.0 h.1
-none_given line frame list plan run status verify qc pull demo (commands.List file rate) h = list file rate h
-none_given line frame list plan run status verify qc pull demo (commands.Plan project) h = plan project h.0 h.1
-none_given line frame list plan run status verify qc pull demo (commands.Run project workers share) h = run project workers share h
-none_given line frame list plan run status verify qc pull demo (commands.Status project) h = status project h.0 h.1
-none_given line frame list plan run status verify qc pull demo (commands.Verify project) h = verify project h.0 h.1
-none_given line frame list plan run status verify qc pull demo (commands.Qc project) h = qc project h.0 h.1
-none_given line frame list plan run status verify qc pull demo (commands.Pull project margin) h = pull project margin h
-none_given line frame list plan run status verify qc pull demo (commands.Demo count) h = demo count h.0 h.1
+none_given line frame list plan run status verify qc sheet adopt pull demo (commands.Frame path) h = frame path h.0 h.1
+none_given line frame list plan run status verify qc sheet adopt pull demo (commands.List file rate) h = list file rate h
+none_given line frame list plan run status verify qc sheet adopt pull demo (commands.Plan project) h = plan project h.0 h.1
+none_given line frame list plan run status verify qc sheet adopt pull demo (commands.Run project workers share) h = run project workers share h
+none_given line frame list plan run status verify qc sheet adopt pull demo (commands.Status project) h = status project h.0 h.1
+none_given line frame list plan run status verify qc sheet adopt pull demo (commands.Verify project) h = verify project h.0 h.1
+none_given line frame list plan run status verify qc sheet adopt pull demo (commands.Qc project) h = qc project h.0 h.1
+none_given line frame list plan run status verify qc sheet adopt pull demo (commands.Sheet project) h = sheet project h.0 h.1
+none_given line frame list plan run status verify qc sheet adopt pull demo (commands.Adopt project old) h = adopt project old h
+none_given line frame list plan run status verify qc sheet adopt pull demo (commands.Pull project margin) h = pull project margin h
+none_given line frame list plan run status verify qc sheet adopt pull demo (commands.Demo count) h = demo count h.0 h.1
 
 pub one_found : (words : List Text) (found : Option Line) (line : Line) → found ≡ Some line
     → MatchOption found (HasNoLine words) (λ l. MakesLine words (text_of_line l)) → MakesLine words (text_of_line line)
@@ -82,6 +86,10 @@ abbrev pull_named : Option ℕ → Option (List ℕ) → Option Command
 pull_named (Some margin) (Some project) = Some (commands.Pull project margin)
 pull_named margin project = None
 
+abbrev adopt_named : Option (List ℕ) → Option (List ℕ) → Option Command
+adopt_named (Some old) (Some project) = Some (commands.Adopt project old)
+adopt_named old project = None
+
 abbrev path_named : (List ℕ → Command) → LineText → Option Command
 path_named make line = option_map make (option_and_then path_text_of (alone line))
 
@@ -94,6 +102,8 @@ named line =
     else if bytes_eq line.command (codes "status") then path_named (λ p. commands.Status p) line
     else if bytes_eq line.command (codes "verify") then path_named (λ p. commands.Verify p) line
     else if bytes_eq line.command (codes "qc") then path_named (λ p. commands.Qc p) line
+    else if bytes_eq line.command (codes "sheet") then path_named (λ p. commands.Sheet p) line
+    else if bytes_eq line.command (codes "adopt") then adopt_named (option_and_then path_text_of line.extra) (path_text_of line.subject)
     else if bytes_eq line.command (codes "pull") then pull_named (option_map (digits_value 10) line.extra) (path_text_of line.subject)
     else if bytes_eq line.command (codes "demo") then option_map (λ s. commands.Demo (digits_value 10 s)) (alone line)
     else None
@@ -107,6 +117,10 @@ margin_named : (further : Option Text) (margin : ℕ) → IsSomeAnd further (λ 
 margin_named None margin h = absurd h
 margin_named (Some word) margin h = ap Some (sym h.2)
 
+old_named : (further : Option Text) (old : List ℕ) → IsSomeAnd further (λ word. IsPath word old) → option_and_then path_text_of further ≡ Some old
+old_named None old h = absurd h
+old_named (Some word) old h = h
+
 margin_small : (further : Option Text) (margin : ℕ) → IsSomeAnd further (λ word. IsFewDigits word margin) → margin ≤ 1000
 margin_small None margin h = absurd h
 margin_small (Some word) margin h = h.3
@@ -119,6 +133,8 @@ given_is_named line (commands.Run project workers share) h = rw (h.0.command, h.
 given_is_named line (commands.Status project) h = rw (h.0.command, h.0.extra, h.0.options, h.1) refl
 given_is_named line (commands.Verify project) h = rw (h.0.command, h.0.extra, h.0.options, h.1) refl
 given_is_named line (commands.Qc project) h = rw (h.0.command, h.0.extra, h.0.options, h.1) refl
+given_is_named line (commands.Sheet project) h = rw (h.0.command, h.0.extra, h.0.options, h.1) refl
+given_is_named line (commands.Adopt project old) h = rw (h.0.command, old_named line.extra old h.0.extra, h.1) refl
 given_is_named line (commands.Pull project margin) h = rw (h.0.command, margin_named line.extra margin h.0.extra, h.1) refl
 given_is_named line (commands.Demo count) h = rw (h.0.command, h.0.extra, h.0.options, h.1.0.2) refl
 
@@ -140,6 +156,8 @@ counts_spelled words (commands.Run project workers share) h =
 counts_spelled words (commands.Status project) h = tt
 counts_spelled words (commands.Verify project) h = tt
 counts_spelled words (commands.Qc project) h = tt
+counts_spelled words (commands.Sheet project) h = tt
+counts_spelled words (commands.Adopt project old) h = tt
 counts_spelled words (commands.Pull project margin) h = margin_small _ margin h.2.0.extra
 counts_spelled words (commands.Demo count) h = (h.2.1.1, h.2.1.0.3)
 

@@ -45,6 +45,12 @@ pub record IsRun (line : LineText) : Type 0 where
   pub command : line.command ≡ codes "run"
   pub extra : line.extra ≡ None
 
+-- the line is `adopt`, a subject and a further word, the path of the old project, with no option
+pub record IsAdopt (line : LineText) (old : List ℕ) : Type 0 where
+  pub command : line.command ≡ codes "adopt"
+  pub extra : IsSomeAnd line.extra (λ word. IsPath word old)
+  pub options : line.has_options ≡ false
+
 -- the line is `pull`, a subject and a further word, with no option
 pub record IsPull (line : LineText) (margin : ℕ) : Type 0 where
   pub command : line.command ≡ codes "pull"
@@ -59,6 +65,8 @@ Gives line (commands.Run project workers share) = IsRun line × IsPath line.subj
 Gives line (commands.Status project) = IsRow line (codes "status") None × IsPath line.subject project
 Gives line (commands.Verify project) = IsRow line (codes "verify") None × IsPath line.subject project
 Gives line (commands.Qc project) = IsRow line (codes "qc") None × IsPath line.subject project
+Gives line (commands.Sheet project) = IsRow line (codes "sheet") None × IsPath line.subject project
+Gives line (commands.Adopt project old) = IsAdopt line old × IsPath line.subject project
 Gives line (commands.Pull project margin) = IsPull line margin × IsPath line.subject project
 Gives line (commands.Demo count) = IsRow line (codes "demo") None × IsCount line.subject count
 

@@ -30,6 +30,13 @@ pub enum Command {
     Verify(PathText),
     /// `qc PROJECT`: counts over the frames that are rendered of a project's reel.
     Qc(PathText),
+    /// `sheet PROJECT`: a contact sheet of the frames that are rendered of a project's reel.
+    Sheet(PathText),
+    /// `adopt PROJECT OLD`: conforms a changed list, and takes over what is rendered of the reel of the old project.
+    Adopt {
+        project: PathText,
+        old: PathText,
+    },
     /// `pull PROJECT MARGIN`: the ranges of source frames that a project's job needs, with a margin of 0 to 1000 frames on
     /// both sides, in one to four digits.
     Pull {
@@ -81,6 +88,12 @@ fn command_on(line: &Line<'_>) -> Option<Command>
     }
     if let Some(project) = path_after(line, "qc") {
         return Some(Command::Qc(project));
+    }
+    if let Some(project) = path_after(line, "sheet") {
+        return Some(Command::Sheet(project));
+    }
+    if let Some(adopt) = adopt_on(line) {
+        return Some(adopt);
     }
     if let Some(pull) = pull_on(line) {
         return Some(pull);
@@ -145,6 +158,21 @@ fn run_on(line: &Line<'_>) -> Option<Command>
         workers: line.workers,
         share: line.share,
     })
+}
+
+/// The row `adopt PROJECT OLD`.
+fn adopt_on(line: &Line<'_>) -> Option<Command>
+    ensures { MatchOption result
+        ((project old : List ℕ) → Gives (text_of_line line.now) (Command.Adopt project old) → ⊥)
+        (λ command. Gives (text_of_line line.now) command) }
+{
+    if line.command != "adopt" || line.has_options {
+        return None;
+    }
+    let extra = line.extra?;
+    let old = path_of(extra)?;
+    let project = path_of(line.subject)?;
+    Some(Command::Adopt { project, old })
 }
 
 /// The row `pull PROJECT MARGIN`.
