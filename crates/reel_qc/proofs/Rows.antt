@@ -2,7 +2,10 @@
 use Rattle.std.proofs.Common.{◌≡◌, ℕ, List, [], ◌∷◌, ◌++◌, codes, refl}
 use Rattle.std.specs.Fmt.{digits}
 use Rattle.reel_qc.specs.Counts.{count_of}
+use Rattle.dpx_pack.specs.Pixels.{colour_word}
+use Rattle.reel_qc.specs.Sheet.{box_pixels, boxes_of, rounded_mean}
 use Rattle.reel_qc.specs.Table.{row_line, table_of}
+use Rattle.reel_qc.specs.Tones.{squared}
 use Rattle.reel_qc.specs.Words.{words_from}
 use Rattle.reel_qc.specs.declared.probe.ProbeKind.TheVariants.{High, Low, Sum}
 
@@ -41,3 +44,23 @@ no_probe = refl
 no_frame : table_of (High ∷ Low ∷ Sum ∷ []) [] ≡ codes "qc high low sum" ++ 10 ∷ [] ++ codes "frames 0" ++ 10 ∷ []
 unfolding table_of digits
 no_frame = refl
+
+-- the mean of three and of four thirds, and the pixels of a second box
+half_up : rounded_mean 3 2 ≡ 2
+half_up = refl
+
+third_down : rounded_mean 4 3 ≡ 1
+third_down = refl
+
+second_box : box_pixels 17 34 1 0 ≡ 16 ∷ 33 ∷ []
+second_box = refl
+
+partial_box : boxes_of 17 ≡ 2
+partial_box = refl
+
+-- a grey of 100 and one of 110 under the square tone
+square_of_100 : colour_word (squared 100 ∷ squared 100 ∷ squared 100 ∷ []) ≡ 0x0280_A028
+square_of_100 = refl
+
+square_of_110 : colour_word (squared 110 ∷ squared 110 ∷ squared 110 ∷ []) ≡ 0x0300_C030
+square_of_110 = refl

@@ -67,7 +67,7 @@ fn word_at(bytes: &[u8], at: usize) -> u32
     BigEndian::read_u32(&bytes[at..])
 }
 
-/// What a table's frames are read into, made once.
+/// What the frames of a table or a sheet are read into, made once.
 #[derive(Drop)]
 pub(crate) struct Buffers {
     /// 65,536 bytes of a file.
@@ -99,6 +99,7 @@ pub(crate) fn read_frame<D: Disk>(
     ensures words { OnOk result (D.tells ≡ true
         → buffers.new.words.items ≡ frame_words job.now (view_of (D.history disk.old) (file_of job.now i))) }
     ensures size { OnOk result (length buffers.new.words.items ≤ 16777216) }
+    ensures most { OnOk result (length buffers.new.words.items ≤ pixel_count job.now) }
     ensures piece { length buffers.new.piece.items ≡ 65536 }
     ensures still { D.tells ≡ true → IsStill (D.history disk.old) (D.history disk.new) }
     ensures same { D.same disk.old disk.new }

@@ -1,0 +1,18 @@
+use Rattle.std.proofs.Common.{◌≡◌, ◌*◌, length, true, flat_map}
+use Rattle.std.specs.List.{range_with_len}
+use Rattle.dpx_header.specs.Writing.{header_of}
+use Rattle.reel_disk.specs.Disk.{view_of, IsStill}
+use Rattle.reel_qc.specs.Boxes.{HasDrawn}
+use Rattle.reel_qc.specs.Sheet.{cell_height, line_colours, sheet_head}
+use Rattle.reel_qc.proofs.sheet.draw_sheet.Given as goal
+
+-- the rows above are drawn
+abbrev pub invariant-loop-row : goal.invariant-loop-row
+invariant-loop-row g l = record {
+  still : g.D.Disk.tells ≡ true → IsStill (g.D.Disk.history l.fn.disk) (g.D.Disk.history l.disk);
+  drawn : HasDrawn l.tone.table (g.D.Disk.tells ≡ true) (flat_map (line_colours l.job l.view (view_of (g.D.Disk.history l.fn.disk))) (range_with_len 0 (l.row * cell_height l.job)))
+      (header_of (sheet_head l.job)) l.drawing.bytes.items 0 l.drawing.greatest;
+  piece : length l.buffers.piece.items ≡ 65536;
+  same : g.D.Disk.same l.fn.disk l.disk;
+  faults : g.D.Disk.faults l.disk ≡ g.D.Disk.faults l.fn.disk;
+}

@@ -1,0 +1,18 @@
+-- The bytes are the sheet's, and the peak is that of the greatest mean.
+use Rattle.std.proofs.Common.{arith}
+use Rattle.reel_disk.specs.Disk.{view_of}
+use Rattle.reel_qc.proofs.SheetLaws.{bytes_drawn, greatest_small, peak_drawn, some_codes, some_lines}
+use Rattle.reel_qc.proofs.sheet.sheet_of.Goals as goal
+
+pub at-requires : goal.at-requires
+at-requires g c = greatest_small _ _ _ _ _ _ c.in-Ok-draw_sheet.ensures.drawn
+
+pub returns-clause-bytes : goal.returns-clause-bytes
+returns-clause-bytes g c told = bytes_drawn _ _ _ _ _ _ _ c.in-Ok-draw_sheet.ensures.drawn told
+
+pub returns-clause-peak : goal.returns-clause-peak
+returns-clause-peak g c told =
+    let planned = c.count.ensures.job.planned in
+    let files = view_of (g.D.Disk.history c.args.disk.now) in
+    let high = some_lines c.args.job.now c.in-Ok.frames.items c.in-Ok.ensures.frames c.in-Ok.ensures.some planned.some_height in
+    peak_drawn _ _ _ _ _ _ _ c.at.ensures.table (some_codes c.args.job.now c.args.view.now files (omega (arith, planned.some_width)) high) c.in-Ok-draw_sheet.ensures.drawn c.at.ensures.value told

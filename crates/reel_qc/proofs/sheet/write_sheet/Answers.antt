@@ -1,0 +1,23 @@
+-- The sheet is written, or the disk failed.
+use Rattle.std.proofs.Common.{◌∙◌}
+use Rattle.reel_disk.proofs.Moments.{passes_extends}
+use Rattle.reel_qc.proofs.SheetLaws.{sheet_extends, sheet_firmly, sheet_spares}
+use Rattle.reel_qc.proofs.sheet.write_sheet.Goals as goal
+
+pub returns-in-Ok-write_firmly-clause-sheet : goal.returns-in-Ok-write_firmly-clause-sheet
+returns-in-Ok-write_firmly-clause-sheet g c told = sheet_firmly _ _ _ _ _ (c.in-Ok.ensures.still told) (c.deref.ensures.value ∙ c.in-Ok.ensures.bytes told) (c.in-Ok-write_firmly.ensures.firmly told)
+
+pub returns-in-Ok-write_firmly-clause-spares : goal.returns-in-Ok-write_firmly-clause-spares
+returns-in-Ok-write_firmly-clause-spares g c told = sheet_spares _ _ _ (c.in-Ok.ensures.still told) (c.write_firmly.ensures.put told) (c.write_firmly.ensures.spares told)
+
+pub returns-clause-spares : goal.returns-clause-spares
+returns-clause-spares g c told = sheet_spares _ _ _ (c.in-Ok.ensures.still told) (c.write_firmly.ensures.put told) (c.write_firmly.ensures.spares told)
+
+pub returns-in-Ok-write_firmly-clause-past : goal.returns-in-Ok-write_firmly-clause-past
+returns-in-Ok-write_firmly-clause-past g c told = sheet_extends _ _ _ (c.in-Ok.ensures.still told) (c.write_firmly.ensures.put told)
+
+pub returns-clause-past : goal.returns-clause-past
+returns-clause-past g c told = sheet_extends _ _ _ (c.in-Ok.ensures.still told) (c.write_firmly.ensures.put told)
+
+pub returns-in-Err-clause-past : goal.returns-in-Err-clause-past
+returns-in-Err-clause-past g c told = passes_extends _ _ _ (c.in-Err.ensures.still told).passes

@@ -1,0 +1,101 @@
+-- What is added up of a picture's boxes, and what is drawn of the sheet.
+--     HasPicture job picture cell      the sums of all boxes of a picture
+--     AreCells job pictures cells      those of several pictures
+--     HasDrawn tone Told exact old new before after      these colours were drawn
+use Rattle.std.specs.Prelude.{◌≡◌, ℕ, ◌+◌, ◌*◌, ◌/◌, ◌%◌, ◌^◌, ◌<◌, ◌≤◌, max, min, All, List, [], ◌∷◌, ◌++◌, length, map, slice_index, slice_index_or, Option, Some, None}
+use Rattle.std.specs.List.{flat_map, fold, range_with_len, sum_by}
+use Rattle.conform_job.specs.Job.{JobData}
+use Rattle.frame_render.specs.Frame.{pixel_count}
+use Rattle.reel_qc.specs.Counts.{blue_of, green_of, red_of}
+use Rattle.reel_qc.specs.Sheet.{box_colour, box_pixels, cell_height, cell_width, rounded_mean, sheet_width, toned_bytes}
+use Rattle.reel_qc.specs.declared.boxes.Boxes.{Boxes}
+
+-- for each box, line by line, what its pixels among the first n of a picture of this width add up to
+pub record AreSums (code : ℕ → ℕ) (width n columns lines : ℕ) (sums : List ℕ) : Type 0 where
+  pub size : length sums ≡ columns * lines
+  pub each : (u v : ℕ) → u < columns → v < lines → slice_index sums (v * columns + u) ≡ sum_by code (box_pixels width n u v)
+
+-- by channel, and how many pixels there are
+pub record HasSums (words : List ℕ) (width n columns lines : ℕ) (boxes : Boxes) : Type 0 where
+  pub red : AreSums (λ k. red_of (slice_index words k)) width n columns lines boxes.red.items
+  pub green : AreSums (λ k. green_of (slice_index words k)) width n columns lines boxes.green.items
+  pub blue : AreSums (λ k. blue_of (slice_index words k)) width n columns lines boxes.blue.items
+  pub pixels : AreSums (λ k. 1) width n columns lines boxes.pixels.items
+
+-- all sums of a picture, whose words have 32 bits; none where there is no picture
+abbrev pub HasPicture : JobData → Option (List ℕ) → Option Boxes → Type 0
+HasPicture job None None = Unit {0}
+HasPicture job None (Some boxes) = ⊥
+HasPicture job (Some words) None = ⊥
+HasPicture job (Some words) (Some boxes) =
+    HasSums words job.parts.project.width (pixel_count job) (cell_width job) (cell_height job) boxes
+    × ((k : ℕ) → slice_index words k < 2 ^ 32)
+
+-- where the pixels of box column u begin on a line of this width, and those of the columns before it end
+abbrev pub run_start : (width u : ℕ) → ℕ
+run_start width u = min width (16 * u)
+
+-- more pixels can be added to a box
+pub record HasRoomAt (boxes : Boxes) (at : ℕ) : Type 0 where
+  pub in_red : at < length boxes.red.items
+  pub in_green : at < length boxes.green.items
+  pub in_blue : at < length boxes.blue.items
+  pub in_pixels : at < length boxes.pixels.items
+  pub red : slice_index boxes.red.items at ≤ 17180000000
+  pub green : slice_index boxes.green.items at ≤ 17180000000
+  pub blue : slice_index boxes.blue.items at ≤ 17180000000
+  pub pixels : slice_index boxes.pixels.items at ≤ 17180000000
+
+-- a box has pixels, and no mean is over 1023
+pub record IsBoxAt (boxes : Boxes) (at : ℕ) : Type 0 where
+  pub in_red : at < length boxes.red.items
+  pub in_green : at < length boxes.green.items
+  pub in_blue : at < length boxes.blue.items
+  pub in_pixels : at < length boxes.pixels.items
+  pub some : 0 < slice_index boxes.pixels.items at
+  pub few : slice_index boxes.pixels.items at ≤ 16777216
+  pub red : slice_index boxes.red.items at ≤ 1023 * slice_index boxes.pixels.items at
+  pub green : slice_index boxes.green.items at ≤ 1023 * slice_index boxes.pixels.items at
+  pub blue : slice_index boxes.blue.items at ≤ 1023 * slice_index boxes.pixels.items at
+
+-- its mean by channel
+abbrev pub mean_at : Boxes → ℕ → List ℕ
+mean_at boxes at = rounded_mean (slice_index boxes.red.items at) (slice_index boxes.pixels.items at)
+    ∷ rounded_mean (slice_index boxes.green.items at) (slice_index boxes.pixels.items at)
+    ∷ rounded_mean (slice_index boxes.blue.items at) (slice_index boxes.pixels.items at)
+    ∷ []
+
+-- each cell has the sums of its picture
+pub record AreCells (job : JobData) (pictures : List (Option (List ℕ))) (cells : List (Option Boxes)) : Type 0 where
+  pub size : length pictures ≡ length cells
+  pub each : (c : ℕ) → c < length cells → HasPicture job (slice_index_or pictures c None) (slice_index_or cells c None)
+
+-- A cell has the sums of some picture. Where the files are told, it is this one.
+pub record IsCell (job : JobData) (Told : Type 0) (exact : Option (List ℕ)) (cell : Option Boxes) : Type 0 where
+  pub picture : Option (List ℕ)
+  pub told : Told → picture ≡ exact
+  pub sums : HasPicture job picture cell
+
+-- The cells of the first places have some pictures. Where the files are told, they are these.
+pub record HasPictures (job : JobData) (Told : Type 0) (exact : ℕ → Option (List ℕ)) (cells : List (Option Boxes)) : Type 0 where
+  pub pictures : List (Option (List ℕ))
+  pub told : Told → pictures ≡ map exact (range_with_len 0 (length cells))
+  pub are : AreCells job pictures cells
+
+-- line y of a row of cells
+abbrev pub pictured_line : JobData → List (Option (List ℕ)) → ℕ → List (List ℕ)
+pictured_line job pictures y =
+    map (λ x. box_colour job (slice_index_or pictures (x / cell_width job) None) (x % cell_width job) (y % cell_height job))
+    (range_with_len 0 (sheet_width job))
+
+-- These colours, with codes to 1023, were drawn behind the bytes; and the greatest code before and after.
+pub record IsDrawn (tone : List ℕ) (colours : List (List ℕ)) (old new : List ℕ) (before after : ℕ) : Type 0 where
+  pub bytes : new ≡ old ++ flat_map (toned_bytes tone) colours
+  pub greatest : after ≡ fold max before (flat_map (λ colour. colour) colours)
+  pub codes : All (λ code. code ≤ 1023) (flat_map (λ colour. colour) colours)
+
+-- Some colours were. Where the files are told, they are these.
+pub record HasDrawn (tone : List ℕ) (Told : Type 0) (exact : List (List ℕ)) (old new : List ℕ) (before after : ℕ) : Type 0 where
+  pub colours : List (List ℕ)
+  pub told : Told → colours ≡ exact
+  pub drawn : IsDrawn tone colours old new before after

@@ -1,0 +1,316 @@
+//! The contact sheet, as a file of the reel folder.
+ghost use Rattle.std.specs.Prelude.{◌≡◌, ◌≢◌, ◌+◌, ◌*◌, ◌/◌, ◌<◌, ◌≤◌, All, ℕ, Option, Some, true, length, OnOk, IfOk, IsErrOf, Err};
+ghost use Rattle.std.specs.List.{flat_map, range_with_len};
+ghost use Rattle.cf_base.specs.Count.{HasCause};
+ghost use Rattle.cf_base.specs.declared.file.FileId.TheVariants.{Sheet};
+ghost use Rattle.dpx_header.specs.Writing.{IsOutHead, header_of};
+ghost use Rattle.reel_disk.specs.Disk.{moment_of, view_of, IsStill};
+ghost use Rattle.reel_disk.specs.Runs.{Extends, LeavesOnly, Spares, Surely};
+ghost use Rattle.reel_writer.specs.Reel.{frames_of, HasAcked, IsSoundReel};
+ghost use Rattle.resume_ledger.specs.Steps.{IsFirmly};
+ghost use Rattle.scan_source.specs.World.{World};
+ghost use Rattle.reel_qc.specs.Boxes.{HasDrawn};
+ghost use Rattle.reel_qc.specs.Sheet.{cell_frames, cell_height, line_colours, most_cells, sheet_colours, sheet_file, sheet_head, sheet_peak, sheet_rows};
+
+use crate::boxes::boxes_of;
+use crate::cells::{cell_frames, load_row};
+use crate::drawing::{Drawing, draw_cells};
+use crate::tone::Tone;
+use crate::words::Buffers;
+use cf_base::FileId;
+use conform_job::Job;
+use dpx_header::{OutHead, write_header};
+use printed_text::put_bytes;
+use reel_disk::Disk;
+use resume_ledger::{LedgerView, write_firmly};
+use std::alloc::{AllocError, Global};
+
+/// What a sheet has.
+#[derive(Clone, Copy, Debug, PartialEq, Eq)]
+pub struct SheetDone {
+    /// How many cells.
+    pub cells: u32,
+    /// The greatest code of the sheet, 0 to 1023.
+    pub peak: u16,
+}
+
+/// Why there is no sheet.
+#[derive(Clone, Copy, Debug, PartialEq, Eq)]
+pub enum SheetFault {
+    /// The disk failed.
+    DiskFault,
+    /// No memory was left.
+    NoMemory,
+}
+
+/// Makes the contact sheet of a reel, and writes it to the file `FileId::Sheet`, whole, and syncs it: a small picture of each
+/// event's first frame, eight side by side, each code under the tone. Of an event whose first frame the view doesn't
+/// acknowledge, or whose file is short there, the picture is the project's black.
+///
+/// It reads one frame at a time, and takes memory for one frame and the sheet. `NoMemory` comes before the first write;
+/// `DiskFault` comes only where the disk's count of faults rose.
+pub fn make_sheet<D: Disk>(
+    alloc: Global,
+    disk: &mut D,
+    job: &Job,
+    view: &LedgerView,
+    tone: &Tone,
+) -> Result<SheetDone, SheetFault>
+    requires size { length view.now.gates ≡ frames_of job.now }
+
+    // The sheet is there, and a crash keeps it so.
+    ensures sheet { OnOk result (D.tells ≡ true → IsFirmly (D.history disk.old) (D.history disk.new) Sheet
+        (Some (sheet_file tone.now.table job.now view.now (view_of (D.history disk.old))))) }
+    ensures cells { IfOk result (λ done. done.cells ≡ length (cell_frames job.now)) }
+    ensures peak { IfOk result (λ done. D.tells ≡ true
+        → done.peak ≡ sheet_peak tone.now.table job.now view.now (view_of (D.history disk.old))) }
+    ensures code { IfOk result (λ done. done.peak ≤ 1023) }
+
+    // At each moment all other files are as they were, what is sound and fit stays so, and so does what is acknowledged.
+    ensures past { D.tells ≡ true → Extends (D.history disk.old) (D.history disk.new) }
+    ensures spares { D.tells ≡ true → Spares (D.history disk.old) (D.history disk.new) (λ q. q ≡ Sheet) }
+    ensures sound { D.tells ≡ true → (world : World) → Surely (moment_of (D.history disk.old)) (IsSoundReel job.now world)
+        → LeavesOnly (D.history disk.old) (D.history disk.new) (IsSoundReel job.now world) }
+    ensures kept { D.tells ≡ true → (i : ℕ) → Surely (moment_of (D.history disk.old)) (HasAcked job.now i)
+        → LeavesOnly (D.history disk.old) (D.history disk.new) (HasAcked job.now i) }
+
+    // Where memory was missing, nothing was written.
+    ensures still { result ≡ Err SheetFault.NoMemory → D.tells ≡ true → IsStill (D.history disk.old) (D.history disk.new) }
+    ensures same { D.same disk.old disk.new }
+    ensures cause { HasCause (D.faults disk.old) (D.faults disk.new)
+        (IsErrOf result SheetFault.DiskFault) }
+    ensures steady { result ≢ Err SheetFault.DiskFault → D.faults disk.new ≡ D.faults disk.old }
+{
+    write_sheet(alloc, disk, job, view, tone)
+}
+
+/// The same: what stays sound and acknowledged follows from what is left as it was.
+fn write_sheet<D: Disk>(
+    alloc: Global,
+    disk: &mut D,
+    job: &Job,
+    view: &LedgerView,
+    tone: &Tone,
+) -> Result<SheetDone, SheetFault>
+    requires size { length view.now.gates ≡ frames_of job.now }
+    ensures sheet { OnOk result (D.tells ≡ true → IsFirmly (D.history disk.old) (D.history disk.new) Sheet
+        (Some (sheet_file tone.now.table job.now view.now (view_of (D.history disk.old))))) }
+    ensures cells { IfOk result (λ done. done.cells ≡ length (cell_frames job.now)) }
+    ensures peak { IfOk result (λ done. D.tells ≡ true
+        → done.peak ≡ sheet_peak tone.now.table job.now view.now (view_of (D.history disk.old))) }
+    ensures code { IfOk result (λ done. done.peak ≤ 1023) }
+    ensures past { D.tells ≡ true → Extends (D.history disk.old) (D.history disk.new) }
+    ensures spares { D.tells ≡ true → Spares (D.history disk.old) (D.history disk.new) (λ q. q ≡ Sheet) }
+    ensures still { result ≡ Err SheetFault.NoMemory → D.tells ≡ true → IsStill (D.history disk.old) (D.history disk.new) }
+    ensures same { D.same disk.old disk.new }
+    ensures cause { HasCause (D.faults disk.old) (D.faults disk.new)
+        (IsErrOf result SheetFault.DiskFault) }
+    ensures steady { result ≢ Err SheetFault.DiskFault → D.faults disk.new ≡ D.faults disk.old }
+{
+    let sheet = match sheet_of(alloc, disk, job, view, tone) {
+        Ok(sheet) => sheet,
+        Err(fault) => return Err(fault),
+    };
+    match write_firmly(disk, FileId::Sheet, &sheet.bytes) {
+        Ok(()) => Ok(sheet.done),
+        Err(_) => Err(SheetFault::DiskFault),
+    }
+}
+
+/// A sheet that is drawn and not yet written: the bytes of its file, and what it has.
+#[derive(Drop)]
+struct SheetFile {
+    bytes: Vec<u8>,
+    done: SheetDone,
+}
+
+/// The sheet of what the disk holds.
+fn sheet_of<D: Disk>(
+    alloc: Global,
+    disk: &mut D,
+    job: &Job,
+    view: &LedgerView,
+    tone: &Tone,
+) -> Result<SheetFile, SheetFault>
+    requires size { length view.now.gates ≡ frames_of job.now }
+    ensures bytes { IfOk result (λ sheet. D.tells ≡ true
+        → sheet.bytes.items ≡ sheet_file tone.now.table job.now view.now (view_of (D.history disk.old))) }
+    ensures cells { IfOk result (λ sheet. sheet.done.cells ≡ length (cell_frames job.now)) }
+    ensures peak { IfOk result (λ sheet. D.tells ≡ true
+        → sheet.done.peak ≡ sheet_peak tone.now.table job.now view.now (view_of (D.history disk.old))) }
+    ensures code { IfOk result (λ sheet. sheet.done.peak ≤ 1023) }
+    ensures still { D.tells ≡ true → IsStill (D.history disk.old) (D.history disk.new) }
+    ensures same { D.same disk.old disk.new }
+    ensures cause { HasCause (D.faults disk.old) (D.faults disk.new)
+        (IsErrOf result SheetFault.DiskFault) }
+    ensures steady { result ≢ Err SheetFault.DiskFault → D.faults disk.new ≡ D.faults disk.old }
+{
+    // The bounds of the size are among what holds of every job, which is said of its count.
+    let _ = job.count();
+    let Ok(frames) = cell_frames(alloc, job) else {
+        return Err(SheetFault::NoMemory);
+    };
+    let drawing = match draw_sheet(alloc, disk, job, view, &frames, tone) {
+        Ok(drawing) => drawing,
+        Err(fault) => return Err(fault),
+    };
+    let Drawing { bytes, greatest } = drawing;
+    Ok(SheetFile {
+        bytes,
+        done: SheetDone {
+            cells: frames.len() as u32,
+            peak: tone.at(greatest),
+        },
+    })
+}
+
+/// The bytes of the sheet with these cells, and the greatest code before the tone.
+fn draw_sheet<D: Disk>(
+    alloc: Global,
+    disk: &mut D,
+    job: &Job,
+    view: &LedgerView,
+    frames: &[u32],
+    tone: &Tone,
+) -> Result<Drawing, SheetFault>
+    requires size { length view.now.gates ≡ frames_of job.now }
+    requires frames { frames.now ≡ cell_frames job.now }
+    requires within { All (λ i. i < frames_of job.now) frames.now }
+    requires some { 0 < length frames.now }
+    ensures drawn { IfOk result (λ drawing. HasDrawn tone.now.table (D.tells ≡ true)
+        (sheet_colours job.now view.now (view_of (D.history disk.old))) (header_of (sheet_head job.now)) drawing.bytes.items 0 drawing.greatest) }
+    ensures still { D.tells ≡ true → IsStill (D.history disk.old) (D.history disk.new) }
+    ensures same { D.same disk.old disk.new }
+    ensures cause { HasCause (D.faults disk.old) (D.faults disk.new)
+        (IsErrOf result SheetFault.DiskFault) }
+    ensures steady { result ≢ Err SheetFault.DiskFault → D.faults disk.new ≡ D.faults disk.old }
+{
+    let rows = rows_of(job, frames);
+    let Ok(mut drawing) = begin(alloc, job, rows) else {
+        return Err(SheetFault::NoMemory);
+    };
+    let Ok(mut buffers) = Buffers::new(alloc, job) else {
+        return Err(SheetFault::NoMemory);
+    };
+    for row in 0..rows {
+        match draw_row(
+            alloc,
+            disk,
+            job,
+            view,
+            frames,
+            tone,
+            row,
+            &mut buffers,
+            &mut drawing,
+        ) {
+            Ok(()) => {}
+            Err(fault) => return Err(fault),
+        }
+    }
+    Ok(drawing)
+}
+
+/// How many rows the cells need.
+fn rows_of(job: &Job, frames: &[u32]) -> u32
+    requires frames { frames.now ≡ cell_frames job.now }
+    requires some { 0 < length frames.now }
+    ensures rows { result ≡ sheet_rows job.now }
+    ensures some { 1 ≤ result }
+    ensures fit { result * cell_height job.now ≤ 4096 }
+{
+    // As above.
+    let _ = job.count();
+    ((frames.len() + 7) / 8) as u32
+}
+
+/// A sheet of so many rows, of which nothing but the header is drawn.
+fn begin(alloc: Global, job: &Job, rows: u32) -> Result<Drawing, AllocError>
+    requires rows { rows ≡ sheet_rows job.now }
+    requires some { 1 ≤ rows }
+    requires fit { rows * cell_height job.now ≤ 4096 }
+    ensures header { IfOk result (λ drawing. drawing.bytes.items ≡ header_of (sheet_head job.now)) }
+    ensures greatest { IfOk result (λ drawing. drawing.greatest ≡ 0) }
+{
+    let head = sheet_head(job, rows);
+    let mut header = [0; 2048];
+    write_header(&head, &mut header);
+    let mut bytes = Vec::with_capacity(
+        alloc,
+        2048 + 4 * (head.width as usize * head.height as usize),
+    )?;
+    put_bytes(&mut bytes, &header)?;
+    Ok(Drawing { bytes, greatest: 0 })
+}
+
+/// The header of a sheet of so many rows.
+fn sheet_head(job: &Job, rows: u32) -> OutHead
+    requires rows { rows ≡ sheet_rows job.now }
+    requires some { 1 ≤ rows }
+    requires fit { rows * cell_height job.now ≤ 4096 }
+    ensures head { result ≡ sheet_head job.now }
+    ensures valid { IsOutHead result }
+{
+    // As above.
+    let _ = job.count();
+    OutHead {
+        width: 8 * boxes_of(job.width()),
+        height: height_of(rows, boxes_of(job.height())),
+        reel: 0,
+        frame: 0,
+        position: 0,
+        length: 1,
+        timecode: None,
+        title: job.project().title,
+    }
+}
+
+/// The height of so many rows.
+fn height_of(rows: u32, cell: u32) -> u32
+    requires some_rows { 1 ≤ rows }
+    requires some_lines { 1 ≤ cell }
+    requires fit { rows * cell ≤ 4096 }
+    ensures height { result ≡ rows * cell }
+    ensures some { 1 ≤ result }
+{
+    rows * cell
+}
+
+/// Draws a row, behind those before it.
+fn draw_row<D: Disk>(
+    alloc: Global,
+    disk: &mut D,
+    job: &Job,
+    view: &LedgerView,
+    frames: &[u32],
+    tone: &Tone,
+    row: u32,
+    buffers: &mut Buffers,
+    drawing: &mut Drawing,
+) -> Result<(), SheetFault>
+    requires size { length view.now.gates ≡ frames_of job.now }
+    requires frames { frames.now ≡ cell_frames job.now }
+    requires within { All (λ i. i < frames_of job.now) frames.now }
+    requires row { row ≤ 4096 }
+    requires piece { length buffers.old.piece.items ≡ 65536 }
+    ensures drawn { OnOk result (HasDrawn tone.now.table (D.tells ≡ true)
+        (flat_map (line_colours job.now view.now (view_of (D.history disk.old))) (range_with_len (row * cell_height job.now) (cell_height job.now)))
+        drawing.old.bytes.items drawing.new.bytes.items drawing.old.greatest drawing.new.greatest) }
+    ensures piece { length buffers.new.piece.items ≡ 65536 }
+    ensures still { D.tells ≡ true → IsStill (D.history disk.old) (D.history disk.new) }
+    ensures same { D.same disk.old disk.new }
+    ensures cause { HasCause (D.faults disk.old) (D.faults disk.new)
+        (IsErrOf result SheetFault.DiskFault) }
+    ensures steady { result ≢ Err SheetFault.DiskFault → D.faults disk.new ≡ D.faults disk.old }
+{
+    // As above.
+    let _ = job.count();
+    let cells = match load_row(alloc, disk, job, view, frames, row, buffers) {
+        Ok(cells) => cells,
+        Err(fault) => return Err(fault),
+    };
+    match draw_cells(job, tone, &cells, row, drawing) {
+        Ok(()) => Ok(()),
+        Err(_) => Err(SheetFault::NoMemory),
+    }
+}
