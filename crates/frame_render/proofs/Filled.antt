@@ -1,8 +1,8 @@
 -- Words that are written into a vector, what a file's first bytes decode to, and a header in front of a picture.
-use Rattle.std.proofs.Common.{◌≡◌, ℕ, ◌-◌, ◌≤◌, List, [], ◌++◌, length, length-take, length-drop, take, drop, refl, ap, subst, ◌∙◌, arith, append-nil, Option}
+use Rattle.std.proofs.Common.{◌≡◌, ℕ, ◌-◌, ◌*◌, ◌≤◌, List, [], ◌++◌, length, length-append, length-take, length-drop, take, drop, refl, ap, subst, ◌∙◌, arith, append-nil, Option}
 use Rattle.std.specs.Prelude.{Some, None, IfSome}
 use borrow.Rule.Slice.PartMut.{post_of}
-use Rattle.std.proofs.lemmas.List.{take-append-le, drop_all, take_all}
+use Rattle.std.proofs.lemmas.List.{take-append-le, drop_all, take_all, drop_at}
 use Rattle.cf_base.specs.declared.key.Key.{Key}
 use Rattle.dpx_header.specs.Frame.{need_of}
 use Rattle.dpx_header.specs.declared.info.FrameInfo.{FrameInfo}
@@ -13,7 +13,9 @@ use Rattle.conform_job.specs.Job.{JobData}
 use Rattle.conform_job.specs.Refusals.{file_of_key}
 use Rattle.std.specs.Prelude.{IsSomeAnd, Ok}
 use Rattle.source_reels.specs.Seen.{info_of_file}
-use Rattle.frame_render.specs.Frame.{words_of_key, words_of_file, AreWordsOf, IsFrontOf}
+use Rattle.dpx_header.specs.Writing.{header_of}
+use Rattle.conform_job.specs.Asks.{shot_of_frame}
+use Rattle.frame_render.specs.Frame.{words_of_key, words_of_file, AreWordsOf, IsFrontOf, IsFileOf, frame_file, frame_size, out_head, picture, pixel_count, old_words, new_words}
 
 -- what was lent and filled
 pub refilled : (len : ℕ) (new items : List ℕ) → length items ≡ len → length new ≡ len → take len (new ++ drop (length new) items) ≡ new
@@ -49,3 +51,18 @@ file_joined count out head pic made front made_is =
     let less : length (drop count out) ≤ length out - count = rw length-drop (omega arith) in
     let gone : drop (length out - count) (drop count out) ≡ [] = drop_all (length out - count) (drop count out) less in
     rw (gone, append-nil, front, made_is) refl
+
+-- pixels that are those of the frame's file, behind its header
+pub reheaded : (job : JobData) (told : Option World) (i : ℕ) (pixels bytes : List ℕ)
+    → length bytes ≡ frame_size job → length pixels ≡ 4 * pixel_count job
+    → bytes ≡ header_of (out_head job i) ++ pixels
+    → IfSome told (λ world. pixels ≡ drop 2048 (frame_file job (file_at world) i))
+    → IsFileOf job told i bytes
+unfolding frame_file
+reheaded job None i pixels bytes size count is pixels_are = tt
+reheaded job (Some world) i pixels bytes size count is pixels_are =
+    let head = header_of (out_head job i) in
+    let shot = shot_of_frame job.parts.timeline i in
+    let pic = picture job shot (old_words job (file_at world) shot) (new_words job (file_at world) shot) in
+    let long : length head ≡ 2048 = omega (arith, size, count, ap length is, length-append head pixels) in
+    is ∙ ap (λ bs. head ++ bs) (pixels_are ∙ drop_at head pic 2048 long)

@@ -4,3 +4,4 @@ pub mod Filled
 pub mod HandedIn
 pub mod Lines
 mod Rows
+pub mod Sizes

@@ -135,7 +135,7 @@ fn render_file_forked<R: Threads + Sync>(
 }
 
 /// Writes the header of record frame `i`.
-fn put_header(job: &Job, i: u32, out: &mut [u8])
+pub(crate) fn put_header(job: &Job, i: u32, out: &mut [u8])
     requires index { i < frame_count job.now.parts.timeline.events }
     requires room { 2048 ≤ length out.old }
     ensures header { take 2048 out.new ≡ header_of (out_head job.now i) }

@@ -7,9 +7,11 @@ mod decoded;
 mod file;
 mod line;
 mod picture;
+mod reheaded;
 mod rendered;
 
 pub use buffer::FrameBuf;
 pub use decoded::Decoded;
 pub use file::{render, render_forked};
+pub use reheaded::rehead;
 pub use rendered::Rendered;

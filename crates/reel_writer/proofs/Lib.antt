@@ -2,4 +2,4 @@ mod Checking
 pub mod Finishing
 pub mod Keeping
 pub mod ReelLaws
-mod Sizes
+pub mod Writing

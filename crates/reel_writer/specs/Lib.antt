@@ -1,3 +1,4 @@
+pub mod Changes
 pub mod Damage
 pub mod Reel
 pub mod View

@@ -13,10 +13,10 @@ use Rattle.resume_ledger.specs.Ledger.{Acks, Agrees, IsLedgerFile, IsWrittenLedg
 use Rattle.resume_ledger.specs.Sound.{WritesOnly}
 use Rattle.resume_ledger.proofs.Versions.{agrees_shown}
 use Rattle.render_board.specs.Board.{Log}
+use Rattle.reel_writer.specs.Changes.{HasKept}
 use Rattle.reel_writer.specs.Reel.{frames_of, HasAcked, HasFrameFiles, IsReelRun, IsSoundReel}
 use Rattle.reel_writer.specs.View.{IsOpening, ReelView}
-use Rattle.single_run.specs.Run.{HasKept}
-use Rattle.single_run.proofs.Closing.{writes_wider}
+use Rattle.reel_writer.proofs.Writing.{writes_wider}
 use Rattle.shared_station.specs.Station.{IsCrewFile, MayCrewWrite, at_start, start_of}
 use Rattle.shared_station.specs.StationSteps.{IsBeginning}
 use Rattle.shared_station.proofs.StationKeeps.{began_along, run_from, spares_from, writes_from}

@@ -26,12 +26,12 @@ use Rattle.render_board.specs.History.{finished_of, is_source, is_disk, is_memor
 use Rattle.render_board.proofs.Steps.{slice_get-push, isnt_other, finished_own, done_as_before, IsLegal-step, is_done-start}
 use Rattle.render_board.proofs.Histories.{finished_of-finish, finished_of-claim, finished_of-stop, stops_of-step}
 use Rattle.render_board.proofs.Holding.{claim_is_next, held_isnt_done, held_within}
+use Rattle.reel_writer.specs.Changes.{IsRunFile}
 use Rattle.reel_writer.specs.Reel.{frames_of, HasAcked, HasFrameFiles, IsReelRun, IsSoundReel, IsWrittenFile, KeepsReel}
 use Rattle.reel_writer.specs.View.{ReelView, after_finish, after_fault}
 use Rattle.reel_writer.proofs.ReelLaws.{reel_run_along}
-use Rattle.single_run.specs.Asks.{IsRunFile}
+use Rattle.reel_writer.proofs.Writing.{run_file}
 use Rattle.shared_station.specs.Station.{StationView, Totals, IsStation, IsCounted, IsCrewFile, MayCrewWrite, HasChanges, ShowsDone, start_of, at_start}
-use Rattle.single_run.proofs.Stepping.{run_file}
 use Rattle.shared_station.specs.StationSteps.{IsBeginning, MayStop, counted_by, after_claimed, after_finished, after_failed, after_stopped}
 
 -- the totals after one more step

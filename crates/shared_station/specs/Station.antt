@@ -18,11 +18,10 @@ use Rattle.render_board.specs.History.{finished_of, stops_of, is_source, is_disk
 use Rattle.render_board.specs.declared.step.Step.{Step}
 use Rattle.render_board.specs.declared.step.Step.TheVariants.{Stop}
 use Rattle.render_board.specs.declared.step.Why.TheVariants.{Changed}
+use Rattle.reel_writer.specs.Changes.{HasKept, IsRunFile}
 use Rattle.reel_writer.specs.Reel.{frames_of, HasAcked, IsReelRun}
 use Rattle.reel_writer.specs.View.{ReelView}
-use Rattle.single_run.specs.Asks.{IsRunFile}
 use Rattle.single_run.specs.Ends.{IsChanged}
-use Rattle.single_run.specs.Run.{HasKept}
 
 -- how many stops of each why were counted
 pub record Totals : Type 0 where

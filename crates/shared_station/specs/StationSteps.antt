@@ -10,10 +10,10 @@ use Rattle.render_board.specs.declared.board.Claim.{Claim}
 use Rattle.render_board.specs.declared.step.Step.TheVariants.{Finish, Stop}
 use Rattle.render_board.specs.declared.step.Why.{Why}
 use Rattle.render_board.specs.declared.step.Why.TheVariants.{Source, Disk, Memory, Changed}
+use Rattle.reel_writer.specs.Changes.{HasKept}
 use Rattle.reel_writer.specs.Reel.{frames_of, HasAcked, IsReelRun}
 use Rattle.reel_writer.specs.View.{ReelView, after_finish, after_fault}
 use Rattle.single_run.specs.Ends.{IsChanged}
-use Rattle.single_run.specs.Run.{HasKept}
 use Rattle.single_run.specs.declared.run_end.RunEnd.{RunEnd}
 use Rattle.single_run.specs.declared.run_end.RunEnd.TheVariants.{Done, OtherJob, BadLedger, Changed as IsNow, SourceFault, DiskFault, NoMemory}
 use Rattle.shared_station.specs.Station.{StationView, Totals, IsCrewFile, MayCrewWrite, start_of, at_start}

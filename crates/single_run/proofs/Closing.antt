@@ -3,25 +3,24 @@ use Rattle.std.proofs.Common.{◌≡◌, ◌≢◌, inl, inr, ℕ, zero, suc, �
 use Rattle.std.specs.Prelude.{Contains, ◌⊎◌, ◌↔◌, Option, Some, None, IfSome}
 use Rattle.std.proofs.lemmas.List.Sums.{count_by-le-length}
 use Rattle.cf_base.specs.Count.{HasRisen}
-use Rattle.cf_base.specs.declared.file.FileId.{FileId}
 use Rattle.scan_source.specs.Plan.{one_more}
 use Rattle.scan_source.specs.World.{World}
-use Rattle.conform_job.specs.Job.{JobData, file_of}
+use Rattle.conform_job.specs.Job.{JobData}
 use Rattle.frame_share.specs.declared.step.ShareStep.{ShareStep}
-use Rattle.reel_disk.specs.Disk.{Files, History, moment_of, view_of, file_of as place_of}
+use Rattle.reel_disk.specs.Disk.{Files, History, moment_of, view_of}
 use Rattle.reel_disk.specs.Runs.{Surely}
 use Rattle.reel_disk.proofs.Images.{view_is_image}
-use Rattle.resume_ledger.specs.Ledger.{Acks, Agrees, LedgerState}
-use Rattle.resume_ledger.specs.Sound.{AddsAtMost, AddsNone, WritesOnly}
+use Rattle.resume_ledger.specs.Ledger.{Acks, Agrees}
+use Rattle.resume_ledger.specs.Sound.{AddsAtMost, AddsNone}
 use Rattle.resume_ledger.specs.Attach.{IsRefused, IsRefusalFor}
 use Rattle.resume_ledger.specs.declared.attach.OpenFault.{OpenFault}
 use Rattle.resume_ledger.specs.declared.attach.OpenFault.TheVariants as open_fault
 use Rattle.resume_ledger.proofs.Versions.{agrees_shown}
-use Rattle.reel_writer.specs.Reel.{frames_of, HasAcked, HasFrameFiles, IsReelRun, IsSoundReel}
+use Rattle.reel_writer.specs.Reel.{frames_of, HasAcked, IsReelRun, IsSoundReel}
 use Rattle.reel_writer.specs.View.{ReelView, IsReelOf}
-use Rattle.single_run.specs.Asks.{IsRunFile, closed_frames}
+use Rattle.single_run.specs.Asks.{closed_frames}
 use Rattle.single_run.specs.Ends.{refused_by}
-use Rattle.single_run.specs.Run.{AreAllAcked, HasKept, HasRefused, HasWhole, IsOwnFile, IsUnkeptFile, IsWhole, MayWrite, WasRefused}
+use Rattle.single_run.specs.Run.{AreAllAcked, HasRefused, HasWhole, IsWhole, WasRefused}
 use Rattle.conform_job.specs.Answers.{count_after}
 use Rattle.single_run.specs.Ran.{WereFinished}
 use Rattle.single_run.specs.declared.run_end.Report.{Report}
@@ -100,31 +99,6 @@ whole_reel job told old new run acked = record { shown = by told run.sound }
     by (Some world) sound = λ all i within.
         let here = view_is_image (moment_of new) in
         ((sound all new.now run.extends.later (omega arith) (view_of new) here).sound i (acked.each i within (view_of new) here)).file
-
--- what writes fewer files, writes no others
-pub writes_wider : (old new : History) (Few Many : FileId → Type 0) → ((q : FileId) → Few q → Many q) → WritesOnly old new Few → WritesOnly old new Many
-writes_wider old new Few Many more writes = record {
-  files = λ m from to q other. writes.files m from to q (λ few. other (more q few));
-  loose = λ m from to p other. writes.loose m from to p (λ few. other (more (place_of p) few));
-}
-
--- a folder that was opened is one of version 2
-pub opened_has : (job : JobData) (h : History) (ledger : LedgerState) → Agrees (moment_of h) ledger → HasFrameFiles job (view_of h)
-opened_has job h ledger agrees one i acks = absurd (one.0 agrees.sealed)
-
-module _ (job : JobData) (gates : List Bool) (before : Files) (opening : (k : ℕ) → (get_or gates k false ≡ true) ↔ HasKept job k before) (q : FileId) where
-  unkept : (i : ℕ) × (i < frames_of job) × (get_or gates i false ≡ false) × (q ≡ file_of job i) → IsUnkeptFile job before q
-  unkept frame =
-      (frame.0, frame.1, λ kept. let opened : get_or gates frame.0 false ≡ true = (opening frame.0).1 kept in let shut : get_or gates frame.0 false ≡ false = frame.2 in cc, frame.3)
-
-  -- what a run writes once the folder is open is its own
-  pub own_file : IsRunFile job gates q → IsOwnFile job before q
-  own_file (inl body) = inl (inr (inr (inr body)))
-  own_file (inr frame) = inr (unkept frame)
-
-  pub own_written : IsRunFile job gates q → MayWrite job before q
-  own_written (inl body) = inl (inr body)
-  own_written (inr frame) = inr (unkept frame)
 
 -- why a folder was not opened
 refused : (job : JobData) (tells : Bool) (old new : History) (fault : OpenFault) → IsRefusalFor job.parts.digest fault → (tells ≡ true → IsRefused job.parts.digest (frames_of job) old new fault) → (tells ≡ true → AddsNone job.parts.digest (frames_of job) old new)

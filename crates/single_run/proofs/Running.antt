@@ -8,10 +8,12 @@ use Rattle.scan_source.specs.World.{World}
 use Rattle.conform_job.specs.Job.{JobData, need_at}
 use Rattle.frame_share.specs.declared.step.ShareStep.{ShareStep}
 use Rattle.frame_share.specs.Share.{ShareView}
+use Rattle.reel_writer.specs.Changes.{IsRunFile}
 use Rattle.reel_writer.specs.Reel.{frames_of}
 use Rattle.reel_writer.specs.View.{ReelView}
+use Rattle.reel_writer.proofs.Writing.{run_file_before}
 use Rattle.single_run.specs.Ends.{IsStop}
-use Rattle.single_run.specs.Asks.{IsNext, IsRunFile, closed_frames, asks_of_frames, frame_if_closed, keys_of_need}
+use Rattle.single_run.specs.Asks.{IsNext, closed_frames, asks_of_frames, frame_if_closed, keys_of_need}
 use Rattle.single_run.specs.Ran.{IsUnfinished, ArePast, WereFinished}
 use Rattle.single_run.specs.Sharing.{HasTried, IsPaired, asks_of}
 use Rattle.single_run.specs.declared.run_end.RunEnd.{RunEnd}
@@ -129,14 +131,8 @@ module _ {D : Type 0} (old mid : ReelView D) (i : ℕ) (none : old.acks ≡ []) 
 
   -- a closed gate was closed at the opening
   pub run_file_along : (job : JobData) (q : FileId) → IsRunFile job mid.ledger.gates q → IsRunFile job old.ledger.gates q
-  run_file_along job q (inl body) = inl body
-  run_file_along job q (inr frame) = inr (frame.0, frame.1, was (get_or old.ledger.gates frame.0 false) refl, frame.3)
-    where
-      was : (b : Bool) → get_or old.ledger.gates frame.0 false ≡ b → get_or old.ledger.gates frame.0 false ≡ false
-      was false is = is
-      was true is =
-          let now : get_or mid.ledger.gates frame.0 false ≡ true = past.gates frame.0 ∙ sym (or_true (get_or old.ledger.gates frame.0 false) (nat_lt frame.0 i) is) ∙ is in
-          let shut : get_or mid.ledger.gates frame.0 false ≡ false = frame.2 in cc
+  run_file_along job =
+      run_file_before job old.ledger.gates mid.ledger.gates (λ k is. past.gates k ∙ sym (or_true (get_or old.ledger.gates k false) (nat_lt k i) is) ∙ is)
 
   -- and where then no frame was finished
   module _ (new : ReelView D) (same : IsUnfinished mid new) where

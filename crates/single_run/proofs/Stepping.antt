@@ -7,13 +7,9 @@ use Rattle.std.proofs.lemmas.Bool.Decides.{nat_tests}
 use Rattle.std.proofs.lemmas.Grind.{flat_map-append}
 use Rattle.std.proofs.lemmas.List.{get_or-set_same, get_or-set_other, append-nil, append_assoc}
 use Rattle.std.proofs.lemmas.List.Elements.{filter-append, Contains-append_left, Contains-push, Contains-push_cases}
-use Rattle.cf_base.specs.declared.file.FileId.{FileId}
-use Rattle.conform_job.specs.Job.{JobData, file_of, need_at}
-use Rattle.reel_disk.specs.Disk.{History}
-use Rattle.reel_disk.proofs.Moments.{keeps_start}
-use Rattle.reel_writer.specs.Reel.{frames_of, HasAcked, IsWrittenFile, KeepsReel}
+use Rattle.conform_job.specs.Job.{JobData, need_at}
 use Rattle.reel_writer.specs.View.{ReelView, after_finish}
-use Rattle.single_run.specs.Asks.{IsRunFile, closed_frames, asks_of_frames, frame_if_closed, keys_of_need}
+use Rattle.single_run.specs.Asks.{closed_frames, asks_of_frames, frame_if_closed, keys_of_need}
 use Rattle.single_run.specs.Ran.{IsPast, ArePast}
 
 pub or_true : (b c : Bool) → b ≡ true → b ≡ (b || c)
@@ -112,15 +108,6 @@ asks_if_open job gates i is = ap (asks_of_frames job) (if_open gates i is) ∙ a
 
 pub asks_if_closed : (job : JobData) (gates : List Bool) (i : ℕ) → get_or gates i false ≡ false → asks_of_frames job (frame_if_closed gates i) ≡ keys_of_need (need_at job i)
 asks_if_closed job gates i is = ap (asks_of_frames job) (if_closed gates i is) ∙ asks_one job i
-
--- what a finish of a frame writes is the run's
-pub run_file : (job : JobData) (gates : List Bool) (i index : ℕ) → index ≡ i → i < frames_of job → get_or gates i false ≡ false → (q : FileId) → IsWrittenFile (file_of job index) q → IsRunFile job gates q
-run_file job gates i index same within closed q (inl is) = inr (i, within, closed, is ∙ ap (file_of job) same)
-run_file job gates i index same within closed q (inr body) = inl body
-
--- no call loses no acknowledgement
-pub kept_itself : (job : JobData) (h : History) → KeepsReel job h h
-kept_itself job h k = keeps_start (HasAcked job k) h
 
 module _ {D : Type 0} (old : ReelView D) (i : ℕ) where
   pub past_itself : get_or old.ledger.gates i false ≡ true → old.ledger.closed ≡ false → IsPast i old old

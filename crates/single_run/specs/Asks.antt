@@ -2,15 +2,12 @@
 --     closed_frames gates count      the frames that are still to be finished
 --     asks_of_frames job frames      the keys that these frames ask for
 --     IsNext gates count finished k      the frame that comes behind the finished ones
-use Rattle.std.specs.Prelude.{◌≡◌, ◌⊎◌, ℕ, ◌<◌, Bool, false, not, List, [], ◌∷◌, ◌++◌, Contains, drop, filter, flat_map, slice_index_or, take, Option, Some, None, if◌then◌else◌}
+use Rattle.std.specs.Prelude.{ℕ, Bool, false, not, List, [], ◌∷◌, ◌++◌, Contains, drop, filter, flat_map, slice_index_or, take, Option, Some, None, if◌then◌else◌}
 use Rattle.std.specs.List.{range_with_len}
-use Rattle.cf_base.specs.declared.file.FileId.{FileId}
-use Rattle.cf_base.specs.declared.file.FileId.TheVariants.{Body2}
 use Rattle.cf_base.specs.declared.key.Key.{Key}
 use Rattle.dpx_header.specs.declared.info.FrameInfo.{FrameInfo}
-use Rattle.conform_job.specs.Job.{JobData, file_of, need_at}
+use Rattle.conform_job.specs.Job.{JobData, need_at}
 use Rattle.conform_job.specs.declared.need.Need.{Need}
-use Rattle.reel_writer.specs.Reel.{frames_of}
 
 -- the frames below this count whose gate is closed, in order
 unfoldable pub closed_frames : List Bool → ℕ → List ℕ
@@ -37,9 +34,3 @@ IsNext gates count finished k = Contains (take 1 (drop finished (closed_frames g
 -- frame i, where its gate is closed
 abbrev pub frame_if_closed : List Bool → ℕ → List ℕ
 frame_if_closed gates i = if slice_index_or gates i false then [] else (i ∷ [])
-
--- what a run writes once the folder is open: the ledger's body, and the files of frames whose gate
--- is closed
-abbrev pub IsRunFile : JobData → List Bool → FileId → Type 0
-IsRunFile job gates q = (q ≡ Body2)
-    ⊎ ((i : ℕ) × (i < frames_of job) × (slice_index_or gates i false ≡ false) × (q ≡ file_of job i))

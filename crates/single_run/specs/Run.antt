@@ -1,20 +1,18 @@
 -- What a run on one thread promises. All of it is this project's own rule.
---     HasKept      an opening of the folder keeps the frame acknowledged
 --     WasOpened      a run whose folder was opened: what it finished, asked for and left acknowledged
 --     WasRefused      a run whose folder was not
 --     IsWhole      the folder has the whole reel
---     IsOwnFile, MayWrite      which files a run may change, and which it writes
 use Rattle.std.specs.Prelude.{◌≡◌, ◌≢◌, ◌⊎◌, ◌↔◌, ℕ, ◌<◌, Bool, true, false, List, [], length, take, count_by, Contains, slice_index_or, Option, Some, IfSome}
-use Rattle.cf_base.specs.declared.file.FileId.{FileId}
 use Rattle.scan_source.specs.World.{World, file_at}
 use Rattle.conform_job.specs.Job.{JobData, file_of}
-use Rattle.frame_render.specs.Frame.{frame_file, frame_size}
-use Rattle.reel_disk.specs.Disk.{Files, Moment, History, moment_of, view_of}
+use Rattle.frame_render.specs.Frame.{frame_file}
+use Rattle.reel_disk.specs.Disk.{Moment, History, moment_of, view_of}
 use Rattle.reel_disk.specs.Runs.{Surely}
 use Rattle.frame_share.specs.declared.step.ShareStep.{ShareStep}
-use Rattle.resume_ledger.specs.Ledger.{IsFit, IsLedgerFile, IsWrittenLedgerFile}
-use Rattle.resume_ledger.specs.Attach.{IsKept, IsOtherJob, IsBadLedger, IsUnwritten}
+use Rattle.resume_ledger.specs.Ledger.{IsFit}
+use Rattle.resume_ledger.specs.Attach.{IsOtherJob, IsBadLedger, IsUnwritten}
 use Rattle.resume_ledger.specs.Sound.{AddsNone}
+use Rattle.reel_writer.specs.Changes.{HasKept}
 use Rattle.reel_writer.specs.Reel.{frames_of, HasAcked, IsSoundReel}
 use Rattle.single_run.specs.Asks.{IsNext, closed_frames}
 use Rattle.single_run.specs.Ends.{IsEnd}
@@ -23,12 +21,6 @@ use Rattle.single_run.specs.Sharing.{WereShared}
 use Rattle.single_run.specs.declared.run_end.Report.{Report}
 use Rattle.single_run.specs.declared.run_end.RunEnd.{RunEnd}
 use Rattle.single_run.specs.declared.run_end.RunEnd.TheVariants.{Done, OtherJob, BadLedger, Changed, SourceFault, DiskFault, NoMemory}
-
--- An opening of these files keeps the frame acknowledged: they acknowledge it, and where version 1 of
--- the ledger counts its file has the length of a frame's. In sound files each acknowledged frame is
--- kept.
-abbrev pub HasKept : JobData → ℕ → Files → Type 0
-HasKept job i files = IsKept job.parts.digest (frames_of job) (file_of job) (frame_size job) files i
 
 -- The folder was unsealed or this job's. `gates` are the frames that the opening kept. The folder
 -- acknowledges now just these and those that the run finished. Where the disk failed, that is so of
@@ -87,16 +79,3 @@ pub record AreAllAcked (job : JobData) (moment : Moment) : Type 0 where
 pub record HasWhole (job : JobData) (told : Option World) (old new : History) : Type 0 where
   pub shown : IfSome told (λ world. Surely (moment_of old) (IsSoundReel job world)
       → IsWhole job world (moment_of new))
-
--- the file of a frame that an opening of these files doesn't keep acknowledged
-abbrev pub IsUnkeptFile : JobData → Files → FileId → Type 0
-IsUnkeptFile job before q = (i : ℕ) × (i < frames_of job) × (HasKept job i before → ⊥)
-    × (q ≡ file_of job i)
-
--- what a run may change: the ledger's files, and those of frames that its opening didn't keep
-abbrev pub IsOwnFile : JobData → Files → FileId → Type 0
-IsOwnFile job before q = IsLedgerFile q ⊎ IsUnkeptFile job before q
-
--- what a run writes: of the ledger's files those of version 2 alone
-abbrev pub MayWrite : JobData → Files → FileId → Type 0
-MayWrite job before q = IsWrittenLedgerFile q ⊎ IsUnkeptFile job before q

@@ -7,13 +7,14 @@ ghost use Rattle.frame_share.specs.Share.{IsBlankOf, IsLegal, misses_of};
 ghost use Rattle.reel_disk.specs.Disk.{Files, moment_of, view_of};
 ghost use Rattle.reel_disk.specs.Runs.{Spares, Surely};
 ghost use Rattle.resume_ledger.specs.Sound.{WritesOnly};
+ghost use Rattle.reel_writer.specs.Changes.{IsOwnFile, IsRunFile, MayWrite};
 ghost use Rattle.reel_writer.specs.Reel.{frames_of, HasAcked, HasFrameFiles, IsReelRun, IsSoundReel};
 ghost use Rattle.scan_source.specs.World.{World};
 ghost use Rattle.reel_writer.specs.View.{IsReelOf};
-ghost use Rattle.single_run.specs.Asks.{IsNext, IsRunFile, closed_frames};
+ghost use Rattle.single_run.specs.Asks.{IsNext, closed_frames};
 ghost use Rattle.single_run.specs.Ends.{IsChange, IsEnd, refused_by};
 ghost use Rattle.single_run.specs.Ran.{WereFinished};
-ghost use Rattle.single_run.specs.Run.{AreAllAcked, HasWhole, IsOwnFile, MayWrite, WasOpened, WasRefused};
+ghost use Rattle.single_run.specs.Run.{AreAllAcked, HasWhole, WasOpened, WasRefused};
 ghost use Rattle.single_run.specs.Scanned.{IsScanned};
 ghost use Rattle.single_run.specs.Sharing.{IsDetermined, WereShared};
 

@@ -18,16 +18,18 @@ use Rattle.render_board.specs.declared.step.Step.{Step}
 use Rattle.render_board.specs.declared.step.Step.TheVariants.{Claim, Finish, Stop}
 use Rattle.render_board.specs.declared.step.Why.{Why}
 use Rattle.render_board.specs.declared.step.Why.TheVariants.{Source, Disk, Memory, Changed}
+use Rattle.reel_writer.specs.Changes.{HasKept, IsOwnFile, MayWrite}
 use Rattle.reel_writer.specs.Reel.{frames_of, IsReelRun}
 use Rattle.single_run.specs.declared.run_end.Report.{Report}
 use Rattle.single_run.specs.declared.run_end.RunEnd.{RunEnd}
 use Rattle.single_run.specs.declared.run_end.RunEnd.TheVariants.{Done, Changed as IsNow, SourceFault, DiskFault, NoMemory}
 use Rattle.station.specs.Crews.{AreShared, IsCrewRun, WasCrewed, end_by, log_of}
 use Rattle.single_run.specs.Ends.{IsEnd}
-use Rattle.single_run.specs.Run.{AreAllAcked, HasKept, IsOwnFile, MayWrite}
+use Rattle.single_run.specs.Run.{AreAllAcked}
 use Rattle.shared_station.specs.Station.{IsStation, StationView, HasChanges, IsCrewFile, MayCrewWrite, ShowsDone, at_start, start_of}
 use Rattle.reel_writer.specs.View.{IsReelOf}
-use Rattle.single_run.proofs.Closing.{images_acked, own_file, own_written, writes_wider}
+use Rattle.reel_writer.proofs.Writing.{own_file, own_written, writes_wider}
+use Rattle.single_run.proofs.Closing.{images_acked}
 use Rattle.station.proofs.Gathering.{end_done, no_first}
 use Rattle.shared_station.proofs.Opening.{run_back, start_at}
 use Rattle.station.proofs.Resting.{closed_has_stop}

@@ -16,13 +16,14 @@ use Rattle.render_board.specs.declared.step.Step.{Step}
 use Rattle.render_board.specs.declared.step.Why.{Why}
 use Rattle.render_board.specs.declared.step.Why.TheVariants.{Source, Disk, Memory, Changed}
 use Rattle.resume_ledger.specs.Ledger.{IsFit}
+use Rattle.reel_writer.specs.Changes.{HasKept}
 use Rattle.reel_writer.specs.Reel.{frames_of, HasAcked}
 use Rattle.single_run.specs.declared.run_end.Report.{Report}
 use Rattle.single_run.specs.declared.run_end.RunEnd.{RunEnd}
 use Rattle.single_run.specs.declared.run_end.RunEnd.TheVariants.{Done, Changed as IsNow, SourceFault, DiskFault, NoMemory}
 use Rattle.single_run.specs.Ends.{IsEnd}
 use Rattle.shared_station.specs.Marks.{Tallies}
-use Rattle.single_run.specs.Run.{HasKept, WasRefused}
+use Rattle.single_run.specs.Run.{WasRefused}
 use Rattle.single_run.specs.Scanned.{IsScanned}
 use Rattle.shared_station.specs.Station.{StationView, IsStation, ShowsDone}
 use Rattle.station.specs.Worked.{HasCauses}

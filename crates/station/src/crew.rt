@@ -7,6 +7,7 @@ ghost use Rattle.reel_disk.specs.Disk.{Files, moment_of, view_of};
 ghost use Rattle.reel_disk.specs.Runs.{Spares};
 ghost use Rattle.render_board.specs.Board.{has_stop, is_done};
 ghost use Rattle.render_board.specs.History.{first_why};
+ghost use Rattle.reel_writer.specs.Changes.{IsOwnFile, MayWrite};
 ghost use Rattle.reel_writer.specs.Reel.{frames_of, HasFrameFiles, IsReelRun, IsSoundReel};
 ghost use Rattle.resume_ledger.specs.Sound.{WritesOnly};
 ghost use Rattle.scan_source.specs.World.{World};
@@ -15,7 +16,7 @@ ghost use Rattle.frame_share.specs.Units.{whole};
 ghost use Rattle.station.specs.Crews.{AreShared, AreWorked, HasDiskFailed, IsCrewRun, IsUnstepped, WasCrewed, end_by};
 ghost use Rattle.single_run.specs.Ends.{IsChange};
 ghost use Rattle.shared_station.specs.Marks.{IsBlankOf};
-ghost use Rattle.single_run.specs.Run.{AreAllAcked, HasWhole, IsOwnFile, MayWrite};
+ghost use Rattle.single_run.specs.Run.{AreAllAcked, HasWhole};
 ghost use Rattle.shared_station.specs.Station.{start_of};
 ghost use Rattle.shared_station.specs.StationSteps.{IsBeginning};
 

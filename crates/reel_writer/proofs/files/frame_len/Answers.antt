@@ -1,5 +1,5 @@
 use Rattle.std.proofs.Common.{rules, ◌≤◌, length}
-use Rattle.reel_writer.proofs.Sizes.{length-frame_file}
+use Rattle.frame_render.proofs.Sizes.{length-frame_file}
 use Rattle.reel_writer.proofs.files.frame_len.Goals as goal
 
 pub returns-clause-each : goal.returns-clause-each

@@ -5,12 +5,12 @@ use Rattle.reel_disk.proofs.Sparing.{spares_along, spares_wider}
 use Rattle.resume_ledger.specs.Ledger.{IsLedgerFile, IsWrittenLedgerFile}
 use Rattle.resume_ledger.specs.declared.attach.OpenFault.TheVariants as open_fault
 use Rattle.resume_ledger.proofs.Reading.{spares_writes, writes_along}
+use Rattle.reel_writer.specs.Changes.{IsOwnFile, IsRunFile, MayWrite}
 use Rattle.reel_writer.proofs.ReelLaws.{reel_run_along}
-use Rattle.single_run.specs.Asks.{IsRunFile}
+use Rattle.reel_writer.proofs.Writing.{opened_has, own_file, own_written, writes_wider}
 use Rattle.single_run.specs.Ends.{refused_by}
-use Rattle.single_run.specs.Run.{IsOwnFile, MayWrite}
 use Rattle.single_run.specs.declared.run_end.RunEnd.TheVariants as run_end
-use Rattle.single_run.proofs.Closing.{opened_has, own_file, own_written, was_refused, whole_reel, writes_wider}
+use Rattle.single_run.proofs.Closing.{was_refused, whole_reel}
 use Rattle.single_run.proofs.alone.run_owned.Goals as goal
 
 pub returns-in-Ok-clause-ran : goal.returns-in-Ok-clause-ran

@@ -3,15 +3,17 @@ use Rattle.cf_base.specs.declared.key.Key.{Key}
 use Rattle.reel_disk.proofs.Sparing.{spares_wider}
 use Rattle.conform_job.specs.Job.{file_of, need_at}
 use Rattle.frame_render.specs.Frame.{FrameBytes}
+use Rattle.reel_writer.specs.Changes.{IsRunFile}
 use Rattle.reel_writer.specs.Reel.{IsWrittenFile}
 use Rattle.reel_writer.proofs.ReelLaws.{reel_run_itself}
 use Rattle.reel_writer.specs.View.{ReelView, after_finish}
-use Rattle.single_run.specs.Asks.{IsRunFile, keys_of_need}
+use Rattle.reel_writer.proofs.Writing.{kept_itself, run_file}
+use Rattle.single_run.specs.Asks.{keys_of_need}
 use Rattle.single_run.specs.Ran.{IsPast}
 use Rattle.single_run.specs.Sharing.{HasAsked}
 use Rattle.single_run.proofs.Closing.{others_acked}
 use Rattle.single_run.proofs.Logs.{asked_is_tried, asked_none}
-use Rattle.single_run.proofs.Stepping.{past_finish, past_itself, asks_if_open, asks_if_closed, kept_itself, run_file}
+use Rattle.single_run.proofs.Stepping.{past_finish, past_itself, asks_if_open, asks_if_closed}
 use Rattle.single_run.proofs.frames.run_frame.Goals as goal
 
 pub returns-then-is_acked-clause-past : goal.returns-then-is_acked-clause-past

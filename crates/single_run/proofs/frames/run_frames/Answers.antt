@@ -2,9 +2,10 @@ use Rattle.std.proofs.Common.{◌≡◌, ℕ, suc, ◌+◌, ◌-◌, ◌<◌, Li
 use Rattle.std.specs.Prelude.{Err}
 use Rattle.frame_render.specs.Frame.{frame_size}
 use Rattle.reel_disk.proofs.Sparing.{spares_itself, spares_along, spares_wider}
+use Rattle.reel_writer.specs.Changes.{IsRunFile}
 use Rattle.reel_writer.specs.Reel.{frames_of}
 use Rattle.reel_writer.proofs.ReelLaws.{reel_run_itself, reel_run_along}
-use Rattle.single_run.specs.Asks.{IsNext, IsRunFile, asks_of_frames, closed_frames}
+use Rattle.single_run.specs.Asks.{IsNext, asks_of_frames, closed_frames}
 use Rattle.single_run.specs.Ran.{ArePast, WereFinished}
 use Rattle.single_run.specs.Sharing.{IsPaired, asks_of}
 use Rattle.single_run.specs.declared.run_end.RunEnd.TheVariants as end

@@ -1,8 +1,9 @@
 use Rattle.std.proofs.Common.{◌≡◌, ◌*◌, ◌≤◌, length, true}
 use Rattle.frame_render.specs.Frame.{frame_size}
 use Rattle.reel_disk.specs.Runs.{Spares}
+use Rattle.reel_writer.specs.Changes.{IsRunFile}
 use Rattle.reel_writer.specs.Reel.{frames_of, IsReelRun}
-use Rattle.single_run.specs.Asks.{IsRunFile, asks_of_frames, closed_frames}
+use Rattle.single_run.specs.Asks.{asks_of_frames, closed_frames}
 use Rattle.single_run.specs.Ran.{ArePast}
 use Rattle.single_run.specs.Scanned.{IsScanned}
 use Rattle.single_run.specs.Sharing.{IsPaired, asks_of}

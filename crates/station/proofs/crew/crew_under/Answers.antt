@@ -8,9 +8,11 @@ use Rattle.render_board.specs.History.{first_why, is_disk, stops_of}
 use Rattle.resume_ledger.specs.Ledger.{IsLedgerFile, IsWrittenLedgerFile}
 use Rattle.resume_ledger.specs.Sound.{WritesOnly}
 use Rattle.station.specs.Crews.{AreWorked, IsCrewRun, IsUnstepped, WasCrewed}
-use Rattle.single_run.specs.Run.{IsOwnFile, MayWrite, WasRefused}
+use Rattle.reel_writer.specs.Changes.{IsOwnFile, MayWrite}
+use Rattle.reel_writer.proofs.Writing.{writes_wider}
+use Rattle.single_run.specs.Run.{WasRefused}
 use Rattle.single_run.specs.declared.run_end.RunEnd.TheVariants as ends
-use Rattle.single_run.proofs.Closing.{was_refused, whole_reel, writes_wider}
+use Rattle.single_run.proofs.Closing.{was_refused, whole_reel}
 use Rattle.station.proofs.Crewing.{by_steps, crew_run, crew_spares, crew_writes, crewed, with_steps}
 use Rattle.station.proofs.Gathering.{end_disk, unworked}
 use Rattle.shared_station.proofs.Opening.{beginning}

@@ -54,7 +54,7 @@ length-all_laid start end (field ∷ fields) bytes apart within =
     let long = length-laid bytes field (omega arith) in
     length-all_laid (field.0 + length field.1) end fields (laid bytes field) rest (omega arith) ∙ long
 
-length-header : (head : OutHead) → length head.title ≤ 199 → length (header_of head) ≡ 2048
+pub length-header : (head : OutHead) → length head.title ≤ 199 → length (header_of head) ≡ 2048
 unfolding header_of
 length-header head fits = length-all_laid 0 2048 (header_fields head) (replicate 2048 0) (header_apart head fits) (omega (arith, length-replicate {A = ℕ} 2048 0)) ∙ length-replicate {A = ℕ} 2048 0
 
