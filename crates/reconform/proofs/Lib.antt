@@ -1,0 +1,7 @@
+mod Answering
+mod Donating
+mod Going
+pub mod Painting
+mod PlanOrder
+mod Planning
+mod Serving

@@ -1,0 +1,28 @@
+use Rattle.std.proofs.Common.{◌≡◌, ◌≤◌, length, true, false}
+use Rattle.frame_render.specs.Frame.{frame_size}
+use Rattle.reel_disk.specs.Disk.{view_of, IsStill}
+use Rattle.reel_disk.specs.Runs.{Spares}
+use Rattle.reel_writer.specs.Changes.{IsRunFile}
+use Rattle.reel_writer.specs.Reel.{frames_of, IsReelRun, KeepsReel}
+use Rattle.reconform.specs.Adopt.{AreServed, IsSameReel}
+use Rattle.reconform.proofs.frames.adopt_frames.Given as goal
+
+-- the frames below i are served, and nothing failed
+abbrev pub invariant-loop-i : goal.invariant-loop-i
+invariant-loop-i g l = record {
+  within : l.i ≤ frames_of g.N.Work.job;
+  ending : l.i-end ≡ frames_of g.N.Work.job;
+  served : g.D.Disk.tells ≡ true → AreServed g.N.Work.job g.O.Work.job l.fn.view (view_of (g.D.Disk.history l.fn.old)) l.i l.fn.reel.ledger.gates l.reel.ledger.gates;
+  stays : IsSameReel l.fn.reel l.reel;
+  is_open : l.reel.ledger.closed ≡ false;
+  room : length l.room ≡ frame_size g.N.Work.job;
+  file : length l.file.items ≡ frame_size g.O.Work.job;
+  run : g.E.Disk.tells ≡ true → IsReelRun g.N.Work.job g.N.Work.files (g.E.Disk.history l.fn.reel.disk) (g.E.Disk.history l.reel.disk);
+  none_lost : g.E.Disk.tells ≡ true → KeepsReel g.N.Work.job (g.E.Disk.history l.fn.reel.disk) (g.E.Disk.history l.reel.disk);
+  spares : g.E.Disk.tells ≡ true → Spares (g.E.Disk.history l.fn.reel.disk) (g.E.Disk.history l.reel.disk) (IsRunFile g.N.Work.job l.fn.reel.ledger.gates);
+  still : g.D.Disk.tells ≡ true → IsStill (g.D.Disk.history l.fn.old) (g.D.Disk.history l.old);
+  faults_old : g.D.Disk.faults l.old ≡ g.D.Disk.faults l.fn.old;
+  faults : g.E.Disk.faults l.reel.disk ≡ g.E.Disk.faults l.fn.reel.disk;
+  same_old : g.D.Disk.same l.fn.old l.old;
+  same_disk : g.E.Disk.same l.fn.reel.disk l.reel.disk;
+}

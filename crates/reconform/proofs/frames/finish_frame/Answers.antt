@@ -1,0 +1,36 @@
+use Rattle.std.proofs.Common.{ℕ, true, false, get_or, set, ap, ◌∙◌}
+use Rattle.frame_render.specs.Frame.{FrameBytes}
+use Rattle.conform_job.specs.Job.{file_of}
+use Rattle.reel_disk.proofs.Sparing.{spares_wider}
+use Rattle.reel_writer.specs.Changes.{IsRunFile}
+use Rattle.reel_writer.specs.Reel.{IsWrittenFile}
+use Rattle.reel_writer.specs.View.{ReelView}
+use Rattle.reel_writer.proofs.Writing.{run_file}
+use Rattle.reconform.proofs.Serving.{same_finish, same_fault}
+use Rattle.reconform.proofs.frames.finish_frame.Goals as goal
+
+pub finish-requires-clause-fresh : goal.finish-requires-clause-fresh
+finish-requires-clause-fresh g c =
+    ap (λ (n : ℕ). get_or c.args.reel.now.ledger.gates n false) (ap (λ (f : FrameBytes). f.index) c.of-hashed.ensures ∙ c.rehead.ensures.index) ∙ c.requires.fresh
+
+pub returns-in-Ok-clause-finished : goal.returns-in-Ok-clause-finished
+returns-in-Ok-clause-finished g c =
+    ap (λ (r : ReelView _). r.ledger.gates) c.in-Ok.ensures.finished
+    ∙ ap (λ (n : ℕ). set c.args.reel.now.ledger.gates n true) (ap (λ (f : FrameBytes). f.index) c.of-hashed.ensures ∙ c.rehead.ensures.index)
+
+pub returns-in-Ok-clause-stays : goal.returns-in-Ok-clause-stays
+returns-in-Ok-clause-stays g c = same_finish _ _ _ _
+    (ap (λ (n : ℕ). get_or c.args.reel.now.ledger.gates n false) (ap (λ (f : FrameBytes). f.index) c.of-hashed.ensures ∙ c.rehead.ensures.index) ∙ c.requires.fresh) c.in-Ok.ensures.finished
+
+pub returns-in-Err-clause-stays : goal.returns-in-Err-clause-stays
+returns-in-Err-clause-stays g c = same_fault _ 0 _ _ c.in-Err.ensures.closed
+
+pub returns-in-Ok-clause-spares : goal.returns-in-Ok-clause-spares
+returns-in-Ok-clause-spares g c told =
+    spares_wider _ _ (IsWrittenFile (file_of g.N.Work.job c.of-hashed.result.index)) (IsRunFile g.N.Work.job c.args.reel.now.ledger.gates)
+    (run_file g.N.Work.job c.args.reel.now.ledger.gates c.args.i c.of-hashed.result.index (ap (λ (f : FrameBytes). f.index) c.of-hashed.ensures ∙ c.rehead.ensures.index) c.requires.index c.requires.fresh) (c.in-Ok.ensures.spares told)
+
+pub returns-in-Err-clause-spares : goal.returns-in-Err-clause-spares
+returns-in-Err-clause-spares g c told =
+    spares_wider _ _ (IsWrittenFile (file_of g.N.Work.job c.of-hashed.result.index)) (IsRunFile g.N.Work.job c.args.reel.now.ledger.gates)
+    (run_file g.N.Work.job c.args.reel.now.ledger.gates c.args.i c.of-hashed.result.index (ap (λ (f : FrameBytes). f.index) c.of-hashed.ensures ∙ c.rehead.ensures.index) c.requires.index c.requires.fresh) (c.in-Err.ensures.spares told)

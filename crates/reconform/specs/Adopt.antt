@@ -1,0 +1,139 @@
+-- What an adoption promises. All of it is this project's own rule.
+--     CanServe      what the old folder has to be, where the source files are told
+--     WasAdopted      which frames are acknowledged at the end, and how many of them were adopted
+--     WasRefused      why there was no adoption
+--     IsCaused      a failure has its cause in one of the two disks
+use Rattle.std.specs.Prelude.{◌≡◌, ◌≢◌, ◌⊎◌, ◌↔◌, ℕ, ◌+◌, ◌<◌, ◌≤◌, Bool, true, false, List, count_by, length, slice_index_or, Result, Ok, Err}
+use Rattle.cf_base.specs.Count.{HasRisen}
+use Rattle.scan_source.specs.World.{World, file_at}
+use Rattle.conform_job.specs.Job.{JobData}
+use Rattle.reel_disk.specs.Disk.{Files, History, view_of}
+use Rattle.resume_ledger.specs.Attach.{IsOtherJob, IsBadLedger}
+use Rattle.resume_ledger.specs.Ledger.{IsFit, AreFlagsOf}
+use Rattle.resume_ledger.specs.Look.{ViewState, IsViewOf}
+use Rattle.resume_ledger.specs.Sound.{IsSound}
+use Rattle.resume_ledger.specs.declared.attach.OpenFault.{OpenFault}
+use Rattle.resume_ledger.specs.declared.attach.OpenFault.TheVariants as fault
+use Rattle.reel_writer.specs.Changes.{HasKept}
+use Rattle.reel_writer.specs.Reel.{frames_of, reel_of}
+use Rattle.reel_writer.specs.View.{ReelView}
+use Rattle.reconform.specs.Donor.{HasIntactDonor}
+use Rattle.reconform.specs.declared.adopting.Adopted.{Adopted}
+use Rattle.reconform.specs.declared.adopting.AdoptFault.{AdoptFault}
+use Rattle.reconform.specs.declared.adopting.AdoptFault.TheVariants.{OldOtherJob, OldBadLedger, OtherJob, BadLedger, DiskFault, NoMemory}
+
+-- jobs with one cube have one look
+abbrev pub HaveOneLook : JobData → JobData → Type 0
+HaveOneLook new old = new.parts.project.cube ≡ old.parts.project.cube → new.parts.look ≡ old.parts.look
+
+-- Over these source files each frame that the old folder acknowledges is the old job's.
+pub record CanServe (new old : JobData) (world : World) (tells : Bool) (files : Files) : Type 0 where
+  pub told : tells ≡ true
+  pub sound : IsSound old.parts.digest (frames_of old) (reel_of old (file_at world)) files
+  pub look : HaveOneLook new old
+
+-- the new folder was unsealed or the new job's, and its opening kept these frames
+pub record WasOpened (new : JobData) (before : Files) (kept : List Bool) : Type 0 where
+  pub fit : IsFit new.parts.digest (frames_of new) before
+  pub kept_are : (k : ℕ) → (slice_index_or kept k false ≡ true)
+      ↔ HasKept new k before
+
+-- Of the new folder's frames just these are acknowledged now, by the new job's ledger: those that its opening kept, and those
+-- that have an intact donor in the old folder. `kept` counts the first, and `adopted` the rest.
+pub record WasAdopted (new old : JobData) (tells : Bool) (old_files before after : Files) (done : Adopted) : Type 0 where
+  pub view : ViewState
+  pub looked : tells ≡ true → IsViewOf old.parts.digest (frames_of old) old_files view
+  pub kept : List Bool
+  pub opened : tells ≡ true → WasOpened new before kept
+  pub acked : List Bool
+  pub exit : tells ≡ true → AreFlagsOf new.parts.digest (frames_of new) after acked
+  pub fit : tells ≡ true → IsFit new.parts.digest (frames_of new) after
+  pub exactly : tells ≡ true → (k : ℕ) → k < frames_of new
+      → (slice_index_or acked k false ≡ true)
+      ↔ ((slice_index_or kept k false ≡ true) ⊎ HasIntactDonor new old view old_files k)
+  pub kept_is : done.kept ≡ count_by (λ gate. gate) kept
+  pub adopted_is : done.kept + done.adopted ≡ count_by (λ gate. gate) acked
+
+-- Why there was no adoption: first what is wrong with the old folder, by 20.1 and 20.2, and then with the new one.
+abbrev pub WasRefused : JobData → JobData → Bool → (old old_after before after : History) → AdoptFault → Type 0
+WasRefused new old tells h h_after before after (OldOtherJob kept wanted) = (kept ≢ wanted) × (wanted ≡ old.parts.digest)
+    × (tells ≡ true → IsOtherJob old.parts.digest kept wanted h h_after)
+WasRefused new old tells h h_after before after (OldBadLedger len) = tells ≡ true
+    → IsBadLedger old.parts.digest (frames_of old) len h h_after
+WasRefused new old tells h h_after before after (OtherJob kept wanted) = (kept ≢ wanted) × (wanted ≡ new.parts.digest)
+    × (tells ≡ true → IsFit old.parts.digest (frames_of old) (view_of h) × IsOtherJob new.parts.digest kept wanted before after)
+WasRefused new old tells h h_after before after (BadLedger len) = tells ≡ true
+    → IsFit old.parts.digest (frames_of old) (view_of h) × IsBadLedger new.parts.digest (frames_of new) len before after
+WasRefused new old tells h h_after before after DiskFault = Unit {0}
+WasRefused new old tells h h_after before after NoMemory = Unit {0}
+
+-- The answer of an adoption.
+abbrev pub HasAnswered : JobData → JobData → Bool → (old old_after before after : History) → Result Adopted AdoptFault → Type 0
+HasAnswered new old tells h h_after before after (Ok done) = WasAdopted new old tells (view_of h) (view_of before) (view_of after) done
+HasAnswered new old tells h h_after before after (Err fault) = WasRefused new old tells h h_after before after fault
+
+-- a refusal of the old folder comes before the new one is touched
+abbrev pub IsOfOld : AdoptFault → Type 0
+IsOfOld (OldOtherJob kept wanted) = Unit {0}
+IsOfOld (OldBadLedger len) = Unit {0}
+IsOfOld (OtherJob kept wanted) = ⊥
+IsOfOld (BadLedger len) = ⊥
+IsOfOld DiskFault = ⊥
+IsOfOld NoMemory = ⊥
+
+-- The counts of faults of two disks never fall, and a failure has its cause in one of them.
+pub record IsCaused (old_before old_after before after : ℕ) (Failed : Type 0) : Type 0 where
+  pub old_later : old_before ≤ old_after
+  pub later : before ≤ after
+  pub failed : Failed → HasRisen old_before old_after ⊎ HasRisen before after
+
+-- what keeps the old folder from being looked at, and the new one from being opened
+abbrev pub by_old : OpenFault → AdoptFault
+by_old (fault.OtherJob kept wanted) = OldOtherJob kept wanted
+by_old (fault.BadLedger len) = OldBadLedger len
+by_old fault.DiskFault = DiskFault
+by_old fault.NoMemory = NoMemory
+
+abbrev pub by_new : OpenFault → AdoptFault
+by_new (fault.OtherJob kept wanted) = OtherJob kept wanted
+by_new (fault.BadLedger len) = BadLedger len
+by_new fault.DiskFault = DiskFault
+by_new fault.NoMemory = NoMemory
+
+-- what ends an adoption once both folders are open
+abbrev pub IsStop : AdoptFault → Type 0
+IsStop fault = (fault ≡ DiskFault) ⊎ (fault ≡ NoMemory)
+
+-- The rest is said of the frames as they are taken in order.
+
+-- a frame that has no intact donor stays as it was, and one that has one is acknowledged
+abbrev pub IsServed : JobData → JobData → ViewState → Files → ℕ → (before after : List Bool) → Type 0
+IsServed new old view files i before after = (k : ℕ)
+    → (slice_index_or after k false ≡ true) ↔ ((slice_index_or before k false ≡ true) ⊎ ((k ≡ i) × HasIntactDonor new old view files k))
+
+-- of the first frames
+abbrev pub AreServed : JobData → JobData → ViewState → Files → ℕ → (before after : List Bool) → Type 0
+AreServed new old view files count before after = (k : ℕ)
+    → (slice_index_or after k false ≡ true) ↔ ((slice_index_or before k false ≡ true) ⊎ ((k < count) × HasIntactDonor new old view files k))
+
+-- what stays as it was in a reel while it takes over frames: which were acknowledged, among the rest
+pub record IsSameReel {D : Type 0} (before after : ReelView D) : Type 0 where
+  pub kept : after.kept ≡ before.kept
+  pub size : length after.ledger.gates ≡ length before.ledger.gates
+  pub grows : (k : ℕ) → slice_index_or before.ledger.gates k false ≡ true
+      → slice_index_or after.ledger.gates k false ≡ true
+
+-- what an adoption into an opened folder did, or why it ended
+pub record HasServed {D : Type 0} (new old : JobData) (old_tells tells : Bool) (view : ViewState) (files : Files)
+    (opened : ReelView D) (after : Files) (done : Adopted) : Type 0 where
+  pub acked : List Bool
+  pub exit : tells ≡ true → AreFlagsOf new.parts.digest (frames_of new) after acked
+  pub fit : tells ≡ true → IsFit new.parts.digest (frames_of new) after
+  pub exactly : old_tells ≡ true → AreServed new old view files (frames_of new) opened.ledger.gates acked
+  pub kept_is : done.kept ≡ opened.kept
+  pub adopted_is : done.kept + done.adopted ≡ count_by (λ gate. gate) acked
+
+abbrev pub AsOpened : {D : Type 0} → JobData → JobData → (old_tells tells : Bool) → ViewState → Files → ReelView D → Files
+    → Result Adopted AdoptFault → Type 0
+AsOpened new old old_tells tells view files opened after (Ok done) = HasServed new old old_tells tells view files opened after done
+AsOpened new old old_tells tells view files opened after (Err fault) = IsStop fault

@@ -1,0 +1,4 @@
+pub mod Adopt
+pub mod Donor
+pub mod Laws
+pub mod Plan

@@ -1,0 +1,242 @@
+//! Taking over frames of an old reel.
+ghost use Rattle.std.specs.Prelude.{◌≡◌, ◌≢◌, ◌<◌, true, false, length, Err, IfOk, IfSome, IfErr, IsErrOf};
+ghost use Rattle.reel_disk.specs.Disk.{Files, view_of, IsStill};
+ghost use Rattle.reel_disk.specs.Runs.{Spares};
+ghost use Rattle.resume_ledger.specs.Ledger.{IsInForce};
+ghost use Rattle.resume_ledger.specs.Look.{IsViewOf};
+ghost use Rattle.resume_ledger.specs.Sound.{WritesOnly};
+ghost use Rattle.reel_writer.specs.Changes.{IsOwnFile, IsRunFile, MayWrite};
+ghost use Rattle.reel_writer.specs.Reel.{frames_of, HasFrameFiles, IsReelRun, IsSoundReel, KeepsReel};
+ghost use Rattle.scan_source.specs.World.{World};
+ghost use Rattle.reconform.specs.Adopt.{AsOpened, CanServe, HasAnswered, IsCaused, IsOfOld, by_new, by_old};
+
+use crate::frames::adopt_alike;
+use conform_job::{Job, Work};
+use reel_disk::Disk;
+use reel_writer::Reel;
+use resume_ledger::{Ledger, LedgerView, OpenFault, Version};
+use std::alloc::Global;
+
+/// How many frames of the new reel were acknowledged before, and how many were taken over.
+#[derive(Clone, Copy, Debug, PartialEq, Eq)]
+pub struct Adopted {
+    pub kept: u32,
+    pub adopted: u32,
+}
+
+/// Why an adoption didn't come to its end.
+#[derive(Clone, Copy, Debug, PartialEq, Eq)]
+pub enum AdoptFault {
+    /// 20.1 of the old folder: its ledger is another job's. The digest there, and the old job's.
+    OldOtherJob { kept: [u8; 32], wanted: [u8; 32] },
+    /// 20.2 of the old folder: its ledger is bad. The length of its body in bytes.
+    OldBadLedger { len: u64 },
+    /// 20.1 of the new folder: the digest there, and the new job's.
+    OtherJob { kept: [u8; 32], wanted: [u8; 32] },
+    /// 20.2 of the new folder.
+    BadLedger { len: u64 },
+    /// One of the two disks failed.
+    DiskFault,
+    /// No memory was left.
+    NoMemory,
+}
+
+/// Takes over frames of the old job's reel, in the folder `old`, into the new job's, in the folder `disk`: each frame that the
+/// new folder doesn't acknowledge, and whose donor is intact, gets its own header over the donor's pixels, and is finished. No
+/// source file is read, and `old` is only read.
+///
+/// The donor of a frame is the least frame of the old job that the old folder acknowledges and whose plan is equal, where the
+/// two jobs are alike: of one size, one black and one cube path. It is intact where its file has the length of a frame's and,
+/// where the old folder keeps its SHA-256, that digest.
+///
+/// `OldOtherJob` and `OldBadLedger` come exactly where 20.1 and 20.2 hold of `old`, and the new folder isn't touched then;
+/// after them `OtherJob` and `BadLedger` exactly where they hold of `disk`, and nothing is written there then. `DiskFault` comes
+/// only where the count of faults of one of the two disks rose, and `NoMemory` for want of memory alone.
+pub fn adopt<N: Work, O: Work, D: Disk>(
+    alloc: Global,
+    new_job: &Job,
+    old_job: &Job,
+    old: &mut D,
+    disk: &mut D,
+) -> Result<Adopted, AdoptFault>
+    requires new_job { new_job.now ≡ N.job }
+    requires old_job { old_job.now ≡ O.job }
+    requires one_world { O.files ≡ N.files }
+    requires can_serve { IfSome N.files (λ world. CanServe N.job O.job world D.tells (view_of (D.history old.old))) }
+
+    // At Ok, which frames are acknowledged now, and how many were before; else why, the old folder first.
+    ensures answer { HasAnswered N.job O.job D.tells (D.history old.old) (D.history old.new)
+        (D.history disk.old) (D.history disk.new) result }
+    ensures untouched { IfErr result (λ fault. IsOfOld fault → disk.new ≡ disk.old) }
+
+    // A crash at any moment leaves only frames acknowledged that are the reel's. No acknowledgement is lost, where each frame
+    // that version 1 of the ledger acknowledged at the start had a file of a frame's length, as sound files have.
+    ensures run { D.tells ≡ true → IsReelRun N.job N.files (D.history disk.old) (D.history disk.new) }
+    ensures sound_has { (world : World) (files : Files) → IsSoundReel N.job world files
+        → HasFrameFiles N.job files }
+
+    // At Ok the new folder is sealed by version 2, so the next opening keeps each frame that it acknowledges.
+    ensures sealed { IfOk result (λ done. D.tells ≡ true → IsInForce Version.Two (view_of (D.history disk.new))) }
+
+    // In the new folder no file is changed but the ledger's and those of frames that the opening didn't keep. Of the
+    // ledger's those of version 2 alone are written.
+    ensures spares { D.tells ≡ true
+        → Spares (D.history disk.old) (D.history disk.new) (IsOwnFile N.job (view_of (D.history disk.old))) }
+    ensures writes { D.tells ≡ true
+        → WritesOnly (D.history disk.old) (D.history disk.new) (MayWrite N.job (view_of (D.history disk.old))) }
+
+    // What the old folder holds stays as it is, at every moment and whatever the answer is.
+    ensures still { D.tells ≡ true → IsStill (D.history old.old) (D.history old.new) }
+
+    ensures same_old { D.same old.old old.new }
+    ensures cause { IsCaused (D.faults old.old) (D.faults old.new) (D.faults disk.old) (D.faults disk.new)
+        (IsErrOf result AdoptFault.DiskFault) }
+    ensures steady_old { result ≢ Err AdoptFault.DiskFault → D.faults old.new ≡ D.faults old.old }
+    ensures steady { result ≢ Err AdoptFault.DiskFault → D.faults disk.new ≡ D.faults disk.old }
+{
+    let (result, _) = adopt_into::<N, O, D, _>(alloc, new_job, old_job, old, &mut *disk);
+    result
+}
+
+/// An adoption that hands the new disk back.
+fn adopt_into<N: Work, O: Work, D: Disk, E: Disk>(
+    alloc: Global,
+    new_job: &Job,
+    old_job: &Job,
+    old: &mut D,
+    disk: E,
+) -> (Result<Adopted, AdoptFault>, E)
+    requires new_job { new_job.now ≡ N.job }
+    requires old_job { old_job.now ≡ O.job }
+    requires can_serve { IfSome N.files (λ world. CanServe N.job O.job world D.tells (view_of (D.history old.old))) }
+    requires tells { D.tells ≡ E.tells }
+    ensures answer { HasAnswered N.job O.job E.tells (D.history old.old) (D.history old.new)
+        (E.history disk) (E.history result.1) result.0 }
+    ensures untouched { IfErr result.0 (λ fault. IsOfOld fault → result.1 ≡ disk) }
+    ensures run { E.tells ≡ true → IsReelRun N.job N.files (E.history disk) (E.history result.1) }
+    ensures sound_has { (world : World) (files : Files) → IsSoundReel N.job world files
+        → HasFrameFiles N.job files }
+    ensures sealed { IfOk result.0 (λ done. E.tells ≡ true → IsInForce Version.Two (view_of (E.history result.1))) }
+    ensures spares { E.tells ≡ true
+        → Spares (E.history disk) (E.history result.1) (IsOwnFile N.job (view_of (E.history disk))) }
+    ensures writes { E.tells ≡ true
+        → WritesOnly (E.history disk) (E.history result.1) (MayWrite N.job (view_of (E.history disk))) }
+    ensures still { D.tells ≡ true → IsStill (D.history old.old) (D.history old.new) }
+    ensures same_old { D.same old.old old.new }
+    ensures same_disk { E.same disk result.1 }
+    ensures cause { IsCaused (D.faults old.old) (D.faults old.new) (E.faults disk) (E.faults result.1)
+        (IsErrOf result.0 AdoptFault.DiskFault) }
+    ensures steady_old { result.0 ≢ Err AdoptFault.DiskFault → D.faults old.new ≡ D.faults old.old }
+    ensures steady { result.0 ≢ Err AdoptFault.DiskFault → E.faults result.1 ≡ E.faults disk }
+{
+    // How long a title may be is said of its bytes.
+    let _ = new_job.project().title.bytes();
+    match Ledger::look(alloc, old, old_job.digest(), old_job.timeline().count()) {
+        Ok(view) => adopt_owned::<N, O, D, E>(alloc, new_job, old_job, old, &view, disk),
+        Err(fault) => (Err(of_old(fault)), disk),
+    }
+}
+
+/// An adoption that hands the new disk back; the old folder was looked at.
+fn adopt_owned<N: Work, O: Work, D: Disk, E: Disk>(
+    alloc: Global,
+    new_job: &Job,
+    old_job: &Job,
+    old: &mut D,
+    view: &LedgerView,
+    disk: E,
+) -> (Result<Adopted, AdoptFault>, E)
+    requires new_job { new_job.now ≡ N.job }
+    requires old_job { old_job.now ≡ O.job }
+    requires can_serve { IfSome N.files (λ world. CanServe N.job O.job world D.tells (view_of (D.history old.old))) }
+    requires tells { D.tells ≡ E.tells }
+    requires viewed { D.tells ≡ true → IsViewOf O.job.parts.digest (frames_of O.job) (view_of (D.history old.old)) view.now }
+    requires flags { length view.now.gates ≡ frames_of O.job }
+    ensures answer { HasAnswered N.job O.job E.tells (D.history old.old) (D.history old.new)
+        (E.history disk) (E.history result.1) result.0 }
+    ensures not_old { IfErr result.0 (λ fault. IsOfOld fault → ⊥) }
+    ensures run { E.tells ≡ true → IsReelRun N.job N.files (E.history disk) (E.history result.1) }
+    ensures sound_has { (world : World) (files : Files) → IsSoundReel N.job world files
+        → HasFrameFiles N.job files }
+    ensures sealed { IfOk result.0 (λ done. E.tells ≡ true → IsInForce Version.Two (view_of (E.history result.1))) }
+    ensures spares { E.tells ≡ true
+        → Spares (E.history disk) (E.history result.1) (IsOwnFile N.job (view_of (E.history disk))) }
+    ensures writes { E.tells ≡ true
+        → WritesOnly (E.history disk) (E.history result.1) (MayWrite N.job (view_of (E.history disk))) }
+    ensures still { D.tells ≡ true → IsStill (D.history old.old) (D.history old.new) }
+    ensures same_old { D.same old.old old.new }
+    ensures same_disk { E.same disk result.1 }
+    ensures cause { IsCaused (D.faults old.old) (D.faults old.new) (E.faults disk) (E.faults result.1)
+        (IsErrOf result.0 AdoptFault.DiskFault) }
+    ensures steady_old { result.0 ≢ Err AdoptFault.DiskFault → D.faults old.new ≡ D.faults old.old }
+    ensures steady { result.0 ≢ Err AdoptFault.DiskFault → E.faults result.1 ≡ E.faults disk }
+{
+    match Reel::<E, N>::begin(alloc, disk, new_job) {
+        Ok(reel) => adopt_opened::<N, O, D, E>(alloc, new_job, old_job, old, view, reel),
+        Err((fault, disk)) => (Err(of_new(fault)), disk),
+    }
+}
+
+/// What keeps the old folder from being looked at.
+fn of_old(fault: OpenFault) -> AdoptFault
+    ensures { result ≡ by_old fault }
+{
+    match fault {
+        OpenFault::OtherJob { kept, wanted } => AdoptFault::OldOtherJob { kept, wanted },
+        OpenFault::BadLedger { len } => AdoptFault::OldBadLedger { len },
+        OpenFault::DiskFault => AdoptFault::DiskFault,
+        OpenFault::NoMemory => AdoptFault::NoMemory,
+    }
+}
+
+/// What keeps the new folder from being opened.
+fn of_new(fault: OpenFault) -> AdoptFault
+    ensures { result ≡ by_new fault }
+{
+    match fault {
+        OpenFault::OtherJob { kept, wanted } => AdoptFault::OtherJob { kept, wanted },
+        OpenFault::BadLedger { len } => AdoptFault::BadLedger { len },
+        OpenFault::DiskFault => AdoptFault::DiskFault,
+        OpenFault::NoMemory => AdoptFault::NoMemory,
+    }
+}
+
+/// An adoption into a folder that was opened; it hands the disk back.
+fn adopt_opened<N: Work, O: Work, D: Disk, E: Disk>(
+    alloc: Global,
+    new_job: &Job,
+    old_job: &Job,
+    old: &mut D,
+    view: &LedgerView,
+    reel: Reel<E, N>,
+) -> (Result<Adopted, AdoptFault>, E)
+    requires new_job { new_job.now ≡ N.job }
+    requires old_job { old_job.now ≡ O.job }
+    requires can_serve { IfSome N.files (λ world. CanServe N.job O.job world D.tells (view_of (D.history old.old))) }
+    requires viewed { D.tells ≡ true → IsViewOf O.job.parts.digest (frames_of O.job) (view_of (D.history old.old)) view.now }
+    requires flags { length view.now.gates ≡ frames_of O.job }
+    requires is_open { reel.ledger.closed ≡ false }
+    requires size { length reel.ledger.gates ≡ frames_of N.job }
+    ensures answer { AsOpened N.job O.job D.tells E.tells view.now (view_of (D.history old.old)) reel (view_of (E.history result.1)) result.0 }
+    ensures run { E.tells ≡ true → IsReelRun N.job N.files (E.history reel.disk) (E.history result.1) }
+    ensures none_lost { E.tells ≡ true → KeepsReel N.job (E.history reel.disk) (E.history result.1) }
+    ensures sealed { IfOk result.0 (λ done. E.tells ≡ true → IsInForce Version.Two (view_of (E.history result.1))) }
+    ensures spares { E.tells ≡ true → Spares (E.history reel.disk) (E.history result.1) (IsRunFile N.job reel.ledger.gates) }
+    ensures still { D.tells ≡ true → IsStill (D.history old.old) (D.history old.new) }
+    ensures same_old { D.same old.old old.new }
+    ensures same_disk { E.same reel.disk result.1 }
+    ensures cause { IsCaused (D.faults old.old) (D.faults old.new) (E.faults reel.disk) (E.faults result.1)
+        (IsErrOf result.0 AdoptFault.DiskFault) }
+    ensures steady_old { result.0 ≢ Err AdoptFault.DiskFault → D.faults old.new ≡ D.faults old.old }
+    ensures steady { result.0 ≢ Err AdoptFault.DiskFault → E.faults result.1 ≡ E.faults reel.disk }
+{
+    let mut reel = reel;
+    match adopt_alike::<N, O, D, E>(alloc, new_job, old_job, old, view, &mut reel) {
+        Ok(()) => {
+            let kept = reel.kept();
+            let adopted = reel.acks().len() as u32;
+            (Ok(Adopted { kept, adopted }), reel.close())
+        }
+        Err(fault) => (Err(fault), reel.close()),
+    }
+}

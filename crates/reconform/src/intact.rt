@@ -1,0 +1,81 @@
+//! The file of a donor.
+ghost use Rattle.std.specs.Prelude.{◌≡◌, ◌<◌, ◌↔◌, true, length, Some, IfOk, OnOk, IsErr};
+ghost use Rattle.cf_base.specs.Count.{HasCause};
+ghost use Rattle.conform_job.specs.Job.{file_of};
+ghost use Rattle.frame_render.specs.Frame.{frame_size};
+ghost use Rattle.reel_disk.specs.Disk.{view_of, IsStill};
+ghost use Rattle.resume_ledger.specs.Sound.{HasSize};
+ghost use Rattle.reel_writer.specs.Reel.{frames_of};
+ghost use Rattle.reconform.specs.Donor.{IsIntact, IsOfHash};
+
+use cf_base::FileId;
+use conform_job::Job;
+use reel_disk::{Disk, DiskFault, Got, Length};
+use resume_ledger::LedgerView;
+use sha2::{Digest, Sha256};
+
+/// Reads the file of frame `j` of the old reel, where it is intact: by its length, and by its SHA-256 where the ledger keeps
+/// one. Whether it is so; its bytes are in `into` then.
+pub(crate) fn read_intact<D: Disk>(
+    disk: &mut D,
+    job: &Job,
+    view: &LedgerView,
+    j: u32,
+    into: &mut [u8],
+) -> Result<bool, DiskFault>
+    requires size { length view.now.gates ≡ frames_of job.now }
+    requires within { j < frames_of job.now }
+    requires room { length into.old ≡ frame_size job.now }
+    ensures intact { IfOk result (λ is. D.tells ≡ true
+        → (is ≡ true) ↔ IsIntact job.now view.now (view_of (D.history disk.old)) j) }
+    ensures bytes { IfOk result (λ is. is ≡ true → D.tells ≡ true
+        → view_of (D.history disk.old) (file_of job.now j) ≡ Some into.new) }
+    ensures room { length into.new ≡ frame_size job.now }
+    ensures still { D.tells ≡ true → IsStill (D.history disk.old) (D.history disk.new) }
+    ensures same { D.same disk.old disk.new }
+    ensures cause { HasCause (D.faults disk.old) (D.faults disk.new) (IsErr result) }
+    ensures steady { OnOk result (D.faults disk.new ≡ D.faults disk.old) }
+{
+    match read_whole(disk, job.file_of(j), into) {
+        Ok(true) => Ok(is_of_hash(view.hash_of(j), into)),
+        Ok(false) => Ok(false),
+        Err(DiskFault) => Err(DiskFault),
+    }
+}
+
+/// Reads a file that has as many bytes as `into`: whether it has. The calls on the disk are its length and one read.
+fn read_whole<D: Disk>(disk: &mut D, id: FileId, into: &mut [u8]) -> Result<bool, DiskFault>
+    ensures whole { IfOk result (λ is. D.tells ≡ true
+        → (is ≡ true) ↔ HasSize (length into.old) (view_of (D.history disk.old) id)) }
+    ensures bytes { IfOk result (λ is. is ≡ true → D.tells ≡ true
+        → view_of (D.history disk.old) id ≡ Some into.new) }
+    ensures room { length into.new ≡ length into.old }
+    ensures still { D.tells ≡ true → IsStill (D.history disk.old) (D.history disk.new) }
+    ensures same { D.same disk.old disk.new }
+    ensures cause { HasCause (D.faults disk.old) (D.faults disk.new) (IsErr result) }
+    ensures steady { OnOk result (D.faults disk.new ≡ D.faults disk.old) }
+{
+    let len = match disk.length(id) {
+        Length::There(len) => len,
+        Length::Absent => return Ok(false),
+        Length::Failed => return Err(DiskFault),
+    };
+    if len != into.len() as u64 {
+        return Ok(false);
+    }
+    match disk.read(id, 0, into) {
+        Got::Bytes(n) => Ok(n == into.len()),
+        Got::Absent => Ok(false),
+        Got::Failed => Err(DiskFault),
+    }
+}
+
+/// Whether these bytes have the SHA-256 that was kept, if one was.
+fn is_of_hash(kept: Option<[u8; 32]>, bytes: &[u8]) -> bool
+    ensures { (result ≡ true) ↔ IsOfHash kept bytes.now }
+{
+    match kept {
+        Some(hash) => hash == Sha256::digest(bytes),
+        None => true,
+    }
+}
