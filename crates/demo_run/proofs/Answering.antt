@@ -32,6 +32,9 @@ module _ (events : ℕ) (told : Option World) (files : List File) (tells : told 
         by outcome.Usage has never = has
         by (outcome.OtherJob kept wanted) has never = has
         by (outcome.BadLedger len) has never = has
+        by (outcome.OldRefused refusal) has never = has
+        by (outcome.OldOtherJob kept wanted) has never = has
+        by (outcome.OldBadLedger len) has never = has
         by (outcome.Damaged frame kept found) has never = has
         by (outcome.Changed reel key was now) has never = has
         by outcome.DiskFault has never = has

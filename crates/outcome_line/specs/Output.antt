@@ -27,7 +27,7 @@ use Rattle.source_reels.specs.declared.table.ReelKind.TheVariants as reels
 use Rattle.conform_job.specs.declared.parts.JobFault.{JobFault}
 use Rattle.conform_job.specs.declared.parts.JobFault.TheVariants as job
 use Rattle.outcome_line.specs.declared.outcome.Outcome.{Outcome}
-use Rattle.outcome_line.specs.declared.outcome.Outcome.TheVariants.{Done, Usage, Refused as IsRefused, OtherJob, BadLedger, Damaged, Changed, SourceFault, DiskFault, SinkFault, NoMemory}
+use Rattle.outcome_line.specs.declared.outcome.Outcome.TheVariants.{Done, Usage, Refused as IsRefused, OtherJob, BadLedger, OldRefused, OldOtherJob, OldBadLedger, Damaged, Changed, SourceFault, DiskFault, SinkFault, NoMemory}
 use Rattle.outcome_line.specs.declared.outcome.Refused.{Refused}
 use Rattle.outcome_line.specs.declared.outcome.Refused.TheVariants as refused
 use Rattle.outcome_line.specs.declared.outcome.Which.{Which}
@@ -39,6 +39,9 @@ status_of Usage = 1
 status_of (IsRefused refusal) = 2
 status_of (OtherJob kept wanted) = 3
 status_of (BadLedger len) = 4
+status_of (OldRefused refusal) = 2
+status_of (OldOtherJob kept wanted) = 3
+status_of (OldBadLedger len) = 4
 status_of (Damaged frame kept found) = 5
 status_of (Changed reel key was now) = 6
 status_of SourceFault = 7
@@ -178,6 +181,9 @@ plain_line Usage = ended (codes "usage: conform COMMAND SUBJECT [EXTRA] [--worke
 plain_line (IsRefused refusal) = []
 plain_line (OtherJob kept wanted) = []
 plain_line (BadLedger len) = []
+plain_line (OldRefused refusal) = []
+plain_line (OldOtherJob kept wanted) = []
+plain_line (OldBadLedger len) = []
 plain_line (Damaged frame kept found) = []
 plain_line (Changed reel key was now) = []
 plain_line SourceFault = ended (codes "source fault")
@@ -192,6 +198,10 @@ other_job_line kept wanted = ended (codes "other job " ++ encode_lower kept ++ c
 abbrev pub bad_ledger_line : ℕ → List ℕ
 bad_ledger_line len = ended (codes "bad ledger " ++ decimal len)
 
+-- the line of an old project, or of an old reel's folder
+abbrev pub old_line : List ℕ → List ℕ
+old_line line = codes "old " ++ line
+
 -- a frame, the digest that is kept of it and the one that was found
 abbrev pub damaged_line : ℕ → (kept found : List ℕ) → List ℕ
 damaged_line frame kept found = ended (codes "damaged frame " ++ decimal frame ++ codes " " ++ encode_lower kept ++ codes " " ++ encode_lower found)
@@ -203,6 +213,9 @@ abbrev pub line_of : Outcome → List ℕ
 line_of (IsRefused refusal) = refused_line refusal
 line_of (OtherJob kept wanted) = other_job_line kept wanted
 line_of (BadLedger len) = bad_ledger_line len
+line_of (OldRefused refusal) = old_line (refused_line refusal)
+line_of (OldOtherJob kept wanted) = old_line (other_job_line kept wanted)
+line_of (OldBadLedger len) = old_line (bad_ledger_line len)
 line_of (Damaged frame kept found) = damaged_line frame kept found
 line_of (Changed reel key was now) = changed_line reel key.source
 line_of outcome = plain_line outcome
@@ -212,6 +225,9 @@ abbrev pub IsMade : Outcome → Type 0
 IsMade (IsRefused refusal) = Unit {0}
 IsMade (OtherJob kept wanted) = Unit {0}
 IsMade (BadLedger len) = Unit {0}
+IsMade (OldRefused refusal) = Unit {0}
+IsMade (OldOtherJob kept wanted) = Unit {0}
+IsMade (OldBadLedger len) = Unit {0}
 IsMade (Damaged frame kept found) = Unit {0}
 IsMade (Changed reel key was now) = Unit {0}
 IsMade other = ⊥

@@ -1,7 +1,7 @@
 //! The lines that are put for outcomes.
 ghost use Rattle.std.specs.Prelude.{◌≡◌, ◌++◌, IfOk, OnOk, MatchOption};
 ghost use Rattle.std.specs.Option.{option_copied};
-ghost use Rattle.outcome_line.specs.Output.{plain_line, refused_line, absent_line, numbered_line, timeline_line, reels_line, project_line, cut_line, job_line, source_line, fault_text, line_of, other_job_line, bad_ledger_line, damaged_line, changed_line, IsMade};
+ghost use Rattle.outcome_line.specs.Output.{plain_line, refused_line, absent_line, numbered_line, timeline_line, reels_line, project_line, cut_line, job_line, source_line, fault_text, line_of, other_job_line, bad_ledger_line, damaged_line, changed_line, old_line, IsMade};
 
 use crate::outcome::{
     Outcome, Refused, Which, cube_number, header_number, list_number, project_number, reels_number,
@@ -27,6 +27,9 @@ pub fn plain_line(outcome: &Outcome) -> &'static str
         | Outcome::Refused(_)
         | Outcome::OtherJob { .. }
         | Outcome::BadLedger { .. }
+        | Outcome::OldRefused(_)
+        | Outcome::OldOtherJob { .. }
+        | Outcome::OldBadLedger { .. }
         | Outcome::Damaged { .. }
         | Outcome::Changed { .. }
         | Outcome::SinkFault { .. } => "",
@@ -41,6 +44,9 @@ pub fn made_line(alloc: Global, outcome: &Outcome) -> Option<Result<Vec<u8>, All
         Outcome::Refused(refused) => Some(refused_line(alloc, refused)),
         Outcome::OtherJob { kept, wanted } => Some(other_job_line(alloc, kept, wanted)),
         Outcome::BadLedger { len } => Some(bad_ledger_line(alloc, *len)),
+        Outcome::OldRefused(refused) => Some(old_refused_line(alloc, refused)),
+        Outcome::OldOtherJob { kept, wanted } => Some(old_other_job_line(alloc, kept, wanted)),
+        Outcome::OldBadLedger { len } => Some(old_bad_ledger_line(alloc, *len)),
         Outcome::Damaged { frame, kept, found } => Some(damaged_line(alloc, *frame, kept, found)),
         Outcome::Changed { reel, key, .. } => Some(changed_line(alloc, reel, key.source)),
         _ => None,
@@ -68,6 +74,44 @@ fn bad_ledger_line(alloc: Global, len: u64) -> Result<Vec<u8>, AllocError>
     put_bytes(&mut text, b"bad ledger ")?;
     put_number(&mut text, len)?;
     put_bytes(&mut text, b"\n")?;
+    Ok(text)
+}
+
+/// The line of an old project's refusal.
+fn old_refused_line(alloc: Global, refused: &Refused) -> Result<Vec<u8>, AllocError>
+    ensures { IfOk result (λ text. text.items ≡ old_line (refused_line refused.now)) }
+{
+    let line = refused_line(alloc, refused)?;
+    old_line(alloc, &line)
+}
+
+/// The line of an old reel's folder that is another job's.
+fn old_other_job_line(
+    alloc: Global,
+    kept: &[u8; 32],
+    wanted: &[u8; 32],
+) -> Result<Vec<u8>, AllocError>
+    ensures { IfOk result (λ text. text.items ≡ old_line (other_job_line kept.now wanted.now)) }
+{
+    let line = other_job_line(alloc, kept, wanted)?;
+    old_line(alloc, &line)
+}
+
+/// The line of an old reel's bad ledger.
+fn old_bad_ledger_line(alloc: Global, len: u64) -> Result<Vec<u8>, AllocError>
+    ensures { IfOk result (λ text. text.items ≡ old_line (bad_ledger_line len)) }
+{
+    let line = bad_ledger_line(alloc, len)?;
+    old_line(alloc, &line)
+}
+
+/// A line of what is old.
+fn old_line(alloc: Global, line: &[u8]) -> Result<Vec<u8>, AllocError>
+    ensures { IfOk result (λ text. text.items ≡ old_line line.now) }
+{
+    let mut text = Vec::new(alloc);
+    put_bytes(&mut text, b"old ")?;
+    put_bytes(&mut text, line)?;
     Ok(text)
 }
 

@@ -31,6 +31,17 @@ pub enum Outcome {
     BadLedger {
         len: u64,
     },
+    /// Of the two projects of an adoption the old one's inputs have a refusal: it is the first one.
+    OldRefused(Refused),
+    /// 20.1 of the folder of the old reel: the digest there, and that of the old project's job.
+    OldOtherJob {
+        kept: [u8; 32],
+        wanted: [u8; 32],
+    },
+    /// 20.2 of the folder of the old reel; `len` as above.
+    OldBadLedger {
+        len: u64,
+    },
     /// A frame's file has another SHA-256 than the ledger keeps of it: the first such frame, from 0, the record, and what was
     /// found.
     Damaged {
@@ -89,16 +100,17 @@ pub enum Which {
 
 impl Outcome {
     /// The status that the program ends with: 0 Done, 1 Usage, 2 Refused, 3 OtherJob, 4 BadLedger,
-    /// 5 Damaged, 6 Changed, 7 SourceFault, 8 DiskFault, 9 SinkFault, 10 NoMemory.
+    /// 5 Damaged, 6 Changed, 7 SourceFault, 8 DiskFault, 9 SinkFault, 10 NoMemory. What is said of an old project or its
+    /// folder has the status of the same outcome.
     pub fn status(&self) -> u8
         ensures { result ≡ status_of self.now }
     {
         match self {
             Outcome::Done => 0,
             Outcome::Usage => 1,
-            Outcome::Refused(_) => 2,
-            Outcome::OtherJob { .. } => 3,
-            Outcome::BadLedger { .. } => 4,
+            Outcome::Refused(_) | Outcome::OldRefused(_) => 2,
+            Outcome::OtherJob { .. } | Outcome::OldOtherJob { .. } => 3,
+            Outcome::BadLedger { .. } | Outcome::OldBadLedger { .. } => 4,
             Outcome::Damaged { .. } => 5,
             Outcome::Changed { .. } => 6,
             Outcome::SourceFault => 7,
