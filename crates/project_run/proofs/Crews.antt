@@ -8,11 +8,12 @@ use Rattle.frame_share.specs.declared.step.ShareStep.{ShareStep}
 use Rattle.reel_disk.specs.Disk.{Files, moment_of, view_of}
 use Rattle.reel_disk.specs.Runs.{Spares}
 use Rattle.resume_ledger.specs.Sound.{WritesOnly}
+use Rattle.reel_writer.specs.Changes.{IsOwnFile, MayWrite}
 use Rattle.reel_writer.specs.Reel.{frames_of, HasFrameFiles, IsReelRun, IsSoundReel}
 use Rattle.render_board.specs.declared.step.Step.{Step}
 use Rattle.station.specs.Crews.{AreWorked, IsUnstepped, WasCrewed}
 use Rattle.single_run.specs.Ends.{IsChange}
-use Rattle.single_run.specs.Run.{AreAllAcked, HasWhole, IsOwnFile, MayWrite}
+use Rattle.single_run.specs.Run.{AreAllAcked, HasWhole}
 use Rattle.single_run.specs.declared.run_end.Report.{Report}
 use Rattle.single_run.specs.declared.run_end.RunEnd.{RunEnd}
 use Rattle.single_run.specs.declared.run_end.RunEnd.TheVariants as ends

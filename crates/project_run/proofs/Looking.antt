@@ -1,29 +1,45 @@
 -- A look at the ledger, and then at the files.
-use Rattle.std.proofs.Common.{◌≡◌, ℕ, true, List, length, Ok, sym, subst}
+use Rattle.std.proofs.Common.{◌≡◌, ℕ, false, true, List, length, Option, Some, Ok, Err, ap, inl, refl, sym, subst}
+use Rattle.cf_base.specs.declared.file.FileId.{FileId}
+use Rattle.cf_base.specs.declared.file.FileId.TheVariants as file
 use Rattle.conform_job.specs.Job.{JobData}
-use Rattle.reel_disk.specs.Disk.{Files, IsStill, view_of}
+use Rattle.reel_disk.specs.Disk.{Files, History, IsStill, moment_of, view_of}
+use Rattle.reel_disk.specs.Runs.{Extends, Spares}
+use Rattle.reel_disk.proofs.Moments.{passes_extends}
+use Rattle.reel_disk.proofs.Sparing.{spares_along, still_spares}
 use Rattle.resume_ledger.proofs.Reading.{still_along, still_view}
-use Rattle.resume_ledger.specs.Look.{ViewState, IsViewOf}
+use Rattle.resume_ledger.specs.Look.{ViewState, HasLooked, IsLookFor, IsViewOf}
+use Rattle.resume_ledger.specs.declared.attach.OpenFault.{OpenFault}
 use Rattle.reel_writer.specs.Reel.{frames_of, IsSoundReel}
 use Rattle.reel_writer.specs.Damage.{HasChecked}
 use Rattle.reel_qc.specs.Table.{quality_table}
 use Rattle.reel_qc.specs.declared.probe.ProbeKind.{ProbeKind}
+use Rattle.reel_qc.proofs.SheetLaws.{sheet_firmly, stays_acked, stays_sound}
+use Rattle.reel_qc.specs.Sheet.{sheet_file, sheet_peak, cell_frames}
 use Rattle.outcome_line.specs.declared.outcome.Outcome.{Outcome}
-use Rattle.project_run.specs.Look.{HasSeen}
+use Rattle.project_run.specs.Look.{HasFound, HasSeen, outcome_of_fault}
 use Rattle.project_run.specs.Quality.{IsCounted, IsTabled}
 use Rattle.project_run.specs.Run.{DiskState}
+use Rattle.project_run.specs.Sheet.{HasSheet, IsSheeted, sheet_text}
 use Rattle.project_run.specs.Verify.{IsChecked, IsVerified}
 
 -- what was found of the view of a look
+abbrev found_by : (Found : ViewState → Type 0) (job : JobData) (disk after : DiskState) (view : ViewState) (digest : List ℕ) (count : ℕ) → digest ≡ job.parts.digest → count ≡ frames_of job
+    → (disk.tells ≡ true → IsViewOf digest count (view_of disk.history) view) → length view.gates ≡ count
+    → (reached : Outcome) → Found view → HasFound job disk after reached Found
+found_by Found job disk after view digest count digest_is count_is shown size reached found = record {
+  ledger = Ok view;
+  looked = λ t. subst (λ d. IsViewOf d (frames_of job) (view_of disk.history) view) digest_is (subst (λ n. IsViewOf digest n (view_of disk.history) view) count_is (shown t));
+  known = subst (λ n. length view.gates ≡ n) count_is size;
+  found = found;
+}
+
 seen_by : (Found : ViewState → Type 0) (job : JobData) (disk mid after : DiskState) (view : ViewState) (digest : List ℕ) (count : ℕ) → digest ≡ job.parts.digest → count ≡ frames_of job
     → (disk.tells ≡ true → IsStill disk.history mid.history) → (disk.tells ≡ true → IsStill mid.history after.history)
     → (disk.tells ≡ true → IsViewOf digest count (view_of disk.history) view) → length view.gates ≡ count
     → (reached : Outcome) → Found view → HasSeen job disk after reached Found
 seen_by Found job disk mid after view digest count digest_is count_is looked still shown size reached found = record {
-  ledger = Ok view;
-  looked = λ t. subst (λ d. IsViewOf d (frames_of job) (view_of disk.history) view) digest_is (subst (λ n. IsViewOf digest n (view_of disk.history) view) count_is (shown t));
-  known = subst (λ n. length view.gates ≡ n) count_is size;
-  found = found;
+  seen = found_by Found job disk after view digest count digest_is count_is shown size reached found;
   still = λ t. still_along disk.history mid.history after.history (looked t) (still t);
 }
 
@@ -49,6 +65,22 @@ counted_before kinds job disk mid view tells looked reached output was = record 
   known = was.known;
 }
 
+-- and a sheet is made of it as it was
+sheeted_before : (tone : List ℕ) (job : JobData) (disk mid after : DiskState) (view : ViewState) → mid.tells ≡ disk.tells → (disk.tells ≡ true → IsStill disk.history mid.history)
+    → (reached : Outcome) (output : List ℕ) → IsSheeted tone job view mid after reached output → IsSheeted tone job view disk after reached output
+sheeted_before tone job disk mid after view tells looked reached output was = record {
+  kind = was.kind;
+  sheet = λ done t. sheet_firmly disk.history mid.history after.history _ _ (looked t)
+      (ap (λ (files : Files). sheet_file tone job view files) (still_view disk.history mid.history (looked t))) (was.sheet done (subst (λ b. b ≡ true) (sym tells) t));
+  form = λ done t. subst (λ (files : Files). output ≡ sheet_text (length (cell_frames job)) (sheet_peak tone job view files)) (still_view disk.history mid.history (looked t))
+      (was.form done (subst (λ b. b ≡ true) (sym tells) t));
+  known = was.known;
+}
+
+-- a folder that was looked at, and then spared
+spared_along : (old mid new : History) (Mine : FileId → Type 0) → IsStill old mid → Extends mid new → Spares mid new Mine → Spares old new Mine
+spared_along old mid new Mine still later spares = spares_along old mid new Mine (passes_extends old mid (moment_of old) still.passes) later (still_spares old mid Mine still) spares
+
 module _ (job : JobData) (disk mid after : DiskState) (view : ViewState) (digest : List ℕ) (count : ℕ) where
   pub verified_by : digest ≡ job.parts.digest → count ≡ frames_of job → mid.tells ≡ disk.tells
       → (disk.tells ≡ true → IsStill disk.history mid.history) → (disk.tells ≡ true → IsStill mid.history after.history)
@@ -65,3 +97,33 @@ module _ (job : JobData) (disk mid after : DiskState) (view : ViewState) (digest
   tabled_by kinds digest_is count_is tells looked still shown size reached output was =
       seen_by (λ v. IsCounted kinds job v disk reached output) job disk mid after view digest count digest_is count_is looked still shown size reached
       (counted_before kinds job disk mid view tells looked reached output was)
+
+  pub sheet_by : (tone : List ℕ) → digest ≡ job.parts.digest → count ≡ frames_of job → mid.tells ≡ disk.tells
+      → (disk.tells ≡ true → IsStill disk.history mid.history) → (disk.tells ≡ true → Extends mid.history after.history) → (disk.tells ≡ true → Spares mid.history after.history (λ q. q ≡ file.Sheet))
+      → (disk.tells ≡ true → IsViewOf digest count (view_of disk.history) view) → length view.gates ≡ count
+      → (reached : Outcome) (output : List ℕ) → IsSheeted tone job view mid after reached output → HasSheet tone job disk after reached output
+  sheet_by tone digest_is count_is tells looked later spared shown size reached output was = record {
+    seen = found_by (λ v. IsSheeted tone job v disk after reached output) job disk after view digest count digest_is count_is shown size reached
+        (sheeted_before tone job disk mid after view tells looked reached output was);
+    spares = λ t. spared_along disk.history mid.history after.history (λ q. q ≡ file.Sheet) (looked t) (later t) (spared t);
+    sound = λ t world. stays_sound disk.history after.history (spared_along disk.history mid.history after.history (λ q. q ≡ file.Sheet) (looked t) (later t) (spared t)) job world;
+    kept = λ t i. stays_acked disk.history after.history (spared_along disk.history mid.history after.history (λ q. q ≡ file.Sheet) (looked t) (later t) (spared t)) job i;
+    refused = λ t refused. absurd (let no : false ≡ true = refused in cc);
+  }
+
+-- the ledger can't be had, and there is no sheet
+pub unsheeted : (tone : List ℕ) (job : JobData) (disk after : DiskState) (fault : OpenFault) (digest : List ℕ) (count : ℕ) → digest ≡ job.parts.digest → count ≡ frames_of job
+    → (disk.tells ≡ true → HasLooked digest count disk.history after.history (Err fault)) → IsLookFor digest count (Err fault)
+    → (disk.tells ≡ true → IsStill disk.history after.history) → (output : List ℕ) → HasSheet tone job disk after (outcome_of_fault fault) output
+unsheeted tone job disk after fault digest count digest_is count_is looked known still output = record {
+  seen = record {
+    ledger = Err fault;
+    looked = λ t. subst (λ d. HasLooked d (frames_of job) disk.history after.history (Err fault)) digest_is (subst (λ n. HasLooked digest n disk.history after.history (Err fault)) count_is (looked t));
+    known = subst (λ d. IsLookFor d (frames_of job) (Err fault)) digest_is (subst (λ n. IsLookFor digest n (Err fault)) count_is known);
+    found = inl refl;
+  };
+  spares = λ t. still_spares disk.history after.history (λ q. q ≡ file.Sheet) (still t);
+  sound = λ t world. stays_sound disk.history after.history (still_spares disk.history after.history (λ q. q ≡ file.Sheet) (still t)) job world;
+  kept = λ t i. stays_acked disk.history after.history (still_spares disk.history after.history (λ q. q ≡ file.Sheet) (still t)) job i;
+  refused = λ t refused. still t;
+}

@@ -2,5 +2,6 @@ pub mod Crew
 pub mod Look
 pub mod Quality
 pub mod Run
+pub mod Sheet
 pub mod Status
 pub mod Verify

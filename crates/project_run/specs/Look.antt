@@ -1,7 +1,8 @@
--- A command that looks at the reel folder of a project, and never changes it: `status`, `verify` and `qc`. All of it is this
--- project's own rule.
+-- A command that looks at the reel folder of a project: `status`, `verify` and `qc`, which never change it, and `sheet`, which
+-- writes a file behind its look. All of it is this project's own rule.
 --     IsLookReply      the project came to a job, and the folder was looked at, or it came to none
---     HasSeen      the ledger was looked at, and of what it has this was found
+--     HasFound      the ledger was looked at, and of what it has this was found
+--     HasSeen      the same, and the folder was never changed
 use Rattle.std.specs.Prelude.{◌≡◌, ◌⊎◌, ℕ, ◌+◌, true, List, Option, IfSome, Result, Ok, MatchResult}
 use Rattle.scan_source.specs.World.{World, file_at}
 use Rattle.reel_disk.specs.Disk.{IsStill}
@@ -23,12 +24,23 @@ outcome_of_fault (faults.BadLedger len) = outcome.BadLedger len
 outcome_of_fault faults.DiskFault = outcome.DiskFault
 outcome_of_fault faults.NoMemory = outcome.NoMemory
 
--- The ledger was looked at, and of what it has this was found, or it can't be had. At no moment was the folder changed.
-pub record HasSeen (job : JobData) (disk disk_after : DiskState) (reached : Outcome) (Found : ViewState → Type 0) : Type 0 where
+-- what a command may come to behind its look at the ledger
+abbrev pub IsBehindLook : Outcome → Type 0
+IsBehindLook outcome.Done = Unit {0}
+IsBehindLook outcome.DiskFault = Unit {0}
+IsBehindLook outcome.NoMemory = Unit {0}
+IsBehindLook other = ⊥
+
+-- The ledger was looked at, and of what it has this was found, or it can't be had.
+pub record HasFound (job : JobData) (disk disk_after : DiskState) (reached : Outcome) (Found : ViewState → Type 0) : Type 0 where
   pub ledger : Result ViewState OpenFault
   pub looked : disk.tells ≡ true → HasLooked job.parts.digest (frames_of job) disk.history disk_after.history ledger
   pub known : IsLookFor job.parts.digest (frames_of job) ledger
   pub found : MatchResult ledger Found (λ fault. (reached ≡ outcome_of_fault fault) ⊎ (reached ≡ outcome.NoMemory))
+
+-- And at no moment was the folder changed.
+pub record HasSeen (job : JobData) (disk disk_after : DiskState) (reached : Outcome) (Found : ViewState → Type 0) : Type 0 where
+  pub seen : HasFound job disk disk_after reached Found
   pub still : disk.tells ≡ true → IsStill disk.history disk_after.history
 
 -- The project came to this job, and its folder was looked at so.

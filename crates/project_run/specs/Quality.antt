@@ -10,19 +10,12 @@ use Rattle.reel_qc.specs.Table.{IsTable, defined_table, quality_table}
 use Rattle.reel_qc.specs.declared.probe.ProbeKind.{ProbeKind}
 use Rattle.outcome_line.specs.declared.outcome.Outcome.{Outcome}
 use Rattle.outcome_line.specs.declared.outcome.Outcome.TheVariants as outcome
-use Rattle.project_run.specs.Look.{HasSeen, IsLookReply}
+use Rattle.project_run.specs.Look.{HasSeen, IsBehindLook, IsLookReply}
 use Rattle.project_run.specs.Run.{DiskState}
-
--- there is a table, the disk failed, or no memory was left
-abbrev pub IsOfCount : Outcome → Type 0
-IsOfCount outcome.Done = Unit {0}
-IsOfCount outcome.DiskFault = Unit {0}
-IsOfCount outcome.NoMemory = Unit {0}
-IsOfCount other = ⊥
 
 -- The frames of what the ledger has were counted, each kind in its column: it came to their table, over the files of the folder.
 pub record IsCounted (kinds : List ProbeKind) (job : JobData) (view : ViewState) (disk : DiskState) (reached : Outcome) (output : List ℕ) : Type 0 where
-  pub kind : IsOfCount reached
+  pub kind : IsBehindLook reached
   pub form : reached ≡ outcome.Done → disk.tells ≡ true → output ≡ quality_table kinds job view (view_of disk.history)
   -- of a folder that is sound it is the table over the definition's files
   pub sound : reached ≡ outcome.Done → disk.tells ≡ true → (world : World) → IsSoundReel job world (view_of disk.history)

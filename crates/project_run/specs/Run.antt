@@ -11,12 +11,13 @@ use Rattle.frame_share.specs.declared.step.ShareStep.{ShareStep}
 use Rattle.reel_disk.specs.Disk.{Files, History, moment_of, view_of}
 use Rattle.reel_disk.specs.Runs.{Spares}
 use Rattle.resume_ledger.specs.Sound.{WritesOnly}
+use Rattle.reel_writer.specs.Changes.{IsOwnFile, MayWrite}
 use Rattle.reel_writer.specs.Reel.{frames_of, HasFrameFiles, IsReelRun, IsSoundReel}
 use Rattle.conform_job.specs.Answers.{count_after}
 use Rattle.conform_job.specs.Job.{JobData}
 use Rattle.conform_job.specs.Keys.{info_at}
 use Rattle.single_run.specs.Ends.{IsChange}
-use Rattle.single_run.specs.Run.{WasOpened, WasRefused, AreAllAcked, HasWhole, IsOwnFile, MayWrite}
+use Rattle.single_run.specs.Run.{WasOpened, WasRefused, AreAllAcked, HasWhole}
 use Rattle.single_run.specs.declared.run_end.Report.{Report}
 use Rattle.single_run.specs.declared.run_end.RunEnd.{RunEnd}
 use Rattle.single_run.specs.declared.run_end.RunEnd.TheVariants as ends
@@ -118,6 +119,9 @@ IsRunReply told path share disk disk_after loads loads_after reached output =
 abbrev pub IsOfRun : Outcome → Type 0
 IsOfRun outcome.Done = ⊥
 IsOfRun outcome.Usage = ⊥
+IsOfRun (outcome.OldRefused refusal) = ⊥
+IsOfRun (outcome.OldOtherJob kept wanted) = ⊥
+IsOfRun (outcome.OldBadLedger len) = ⊥
 IsOfRun (outcome.Damaged frame kept found) = ⊥
 IsOfRun (outcome.SinkFault instead) = ⊥
 IsOfRun other = Unit {0}

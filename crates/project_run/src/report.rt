@@ -51,7 +51,7 @@ fn run_text(alloc: Global, report: &Report) -> Result<Vec<u8>, AllocError>
 }
 
 /// Appends a line: what is counted, and how many there are.
-pub(crate) fn put_count(text: &mut Vec<u8>, word: &[u8], count: u32) -> Result<(), AllocError>
+pub fn put_count(text: &mut Vec<u8>, word: &[u8], count: u32) -> Result<(), AllocError>
     ensures { OnOk result (text.new.items ≡ text.old.items ++ spaced_line (word.now ∷ decimal count ∷ [])) }
 {
     put_bytes(text, word)?;
@@ -61,7 +61,7 @@ pub(crate) fn put_count(text: &mut Vec<u8>, word: &[u8], count: u32) -> Result<(
 }
 
 /// The outcome of a run that ended so.
-fn outcome_of_end(job: &Job, end: RunEnd) -> Outcome
+pub fn outcome_of_end(job: &Job, end: RunEnd) -> Outcome
     requires { IsKnown job.now end }
     ensures { result ≡ outcome_of_end job.now.parts.reels end }
 {

@@ -1,0 +1,128 @@
+//! The command `sheet`.
+ghost use Rattle.std.specs.Prelude.{◌≡◌, ◌≢◌, ◌≤◌, true, length, Err, IfOk, MatchResult};
+ghost use Rattle.cf_base.specs.Count.{HasRisen};
+ghost use Rattle.cf_base.specs.declared.file.FileId.TheVariants as file;
+ghost use Rattle.reel_disk.specs.Runs.{Extends, Spares};
+ghost use Rattle.reel_writer.specs.Reel.{frames_of};
+ghost use Rattle.outcome_line.specs.Output.{line_of};
+ghost use Rattle.project_run.specs.Look.{IsOfLook};
+ghost use Rattle.project_run.specs.Run.{disk_state};
+ghost use Rattle.project_run.specs.Sheet.{HasSheet, IsSheetReply, IsSheeted, sheet_text};
+
+use crate::progress::outcome_of_fault;
+use crate::report::put_count;
+use cf_base::PathText;
+use conform_job::Job;
+use outcome_line::Outcome;
+use project_job::planned;
+use reel_disk::Disk;
+use reel_qc::{SheetDone, SheetFault, Tone, make_sheet};
+use resume_ledger::{Ledger, LedgerView};
+use scan_source::Scans;
+use std::alloc::{AllocError, Global};
+
+/// Makes the contact sheet of the reel of the project at a path, of the frames that the reel folder acknowledges, under the
+/// tone, and writes it into the folder: how many cells it has and its greatest code, or the outcome that was reached. No other
+/// file of the folder is changed, and where the project or the folder is refused nothing is written.
+///
+/// A file is drawn as it lies there, also where it is damaged. `OtherJob`, `BadLedger` and `DiskFault` come as they do for
+/// `status`.
+pub fn sheet<S: Scans, D: Disk>(
+    alloc: Global,
+    path: &PathText,
+    scan: &mut S,
+    disk: &mut D,
+    tone: &Tone,
+) -> Result<Vec<u8>, Outcome>
+    ensures folder { MatchResult result
+        (λ text. IsSheetReply tone.now.table (S.world scan.old) path.now (disk_state D.tells D.history D.faults disk.old) (disk_state D.tells D.history D.faults disk.new) (S.loads scan.old) (S.loads scan.new) Outcome.Done text.items)
+        (λ outcome. IsSheetReply tone.now.table (S.world scan.old) path.now (disk_state D.tells D.history D.faults disk.old) (disk_state D.tells D.history D.faults disk.new) (S.loads scan.old) (S.loads scan.new) outcome (line_of outcome)) }
+    ensures kind { MatchResult result (λ text. Unit {0}) IsOfLook }
+
+    ensures failed { result ≡ Err Outcome.SourceFault → HasRisen (S.faults scan.old) (S.faults scan.new) }
+    ensures steady { result ≢ Err Outcome.SourceFault → S.faults scan.new ≡ S.faults scan.old }
+    ensures later { S.faults scan.old ≤ S.faults scan.new }
+    ensures world { S.world scan.new ≡ S.world scan.old }
+    ensures same { S.same scan.old scan.new }
+
+    ensures disk_fault { result ≡ Err Outcome.DiskFault → HasRisen (D.faults disk.old) (D.faults disk.new) }
+    ensures disk_steady { result ≢ Err Outcome.DiskFault → D.faults disk.new ≡ D.faults disk.old }
+    ensures disk_later { D.faults disk.old ≤ D.faults disk.new }
+{
+    let job = match planned(alloc, path, scan) {
+        Ok(job) => job,
+        Err(outcome) => return Err(outcome),
+    };
+    let reply = sheet_of(alloc, &job, disk, tone);
+    // By a call, as in a run.
+    drop(job);
+    reply
+}
+
+/// The sheet of what the ledger of a job's reel has, or the outcome that was reached.
+fn sheet_of<D: Disk>(
+    alloc: Global,
+    job: &Job,
+    disk: &mut D,
+    tone: &Tone,
+) -> Result<Vec<u8>, Outcome>
+    ensures made { MatchResult result
+        (λ text. HasSheet tone.now.table job.now (disk_state D.tells D.history D.faults disk.old) (disk_state D.tells D.history D.faults disk.new) Outcome.Done text.items)
+        (λ outcome. HasSheet tone.now.table job.now (disk_state D.tells D.history D.faults disk.old) (disk_state D.tells D.history D.faults disk.new) outcome (line_of outcome)) }
+    ensures kind { MatchResult result (λ text. Unit {0}) IsOfLook }
+    ensures never { result ≢ Err Outcome.SourceFault }
+
+    ensures disk_fault { result ≡ Err Outcome.DiskFault → HasRisen (D.faults disk.old) (D.faults disk.new) }
+    ensures disk_steady { result ≢ Err Outcome.DiskFault → D.faults disk.new ≡ D.faults disk.old }
+    ensures disk_later { D.faults disk.old ≤ D.faults disk.new }
+{
+    match Ledger::look(alloc, disk, job.digest(), job.timeline().count()) {
+        Ok(view) => {
+            let reply = sheeted(alloc, job, &view, disk, tone);
+            drop(view);
+            reply
+        }
+        Err(fault) => Err(outcome_of_fault(fault)),
+    }
+}
+
+/// The sheet of a view, or the outcome that was reached.
+fn sheeted<D: Disk>(
+    alloc: Global,
+    job: &Job,
+    view: &LedgerView,
+    disk: &mut D,
+    tone: &Tone,
+) -> Result<Vec<u8>, Outcome>
+    requires size { length view.now.gates ≡ frames_of job.now }
+    ensures sheeted { MatchResult result
+        (λ text. IsSheeted tone.now.table job.now view.now (disk_state D.tells D.history D.faults disk.old) (disk_state D.tells D.history D.faults disk.new) Outcome.Done text.items)
+        (λ outcome. IsSheeted tone.now.table job.now view.now (disk_state D.tells D.history D.faults disk.old) (disk_state D.tells D.history D.faults disk.new) outcome (line_of outcome)) }
+    ensures past { D.tells ≡ true → Extends (D.history disk.old) (D.history disk.new) }
+    ensures spares { D.tells ≡ true → Spares (D.history disk.old) (D.history disk.new) (λ q. q ≡ file.Sheet) }
+    ensures kind { MatchResult result (λ text. Unit {0}) IsOfLook }
+    ensures never { result ≢ Err Outcome.SourceFault }
+
+    ensures disk_fault { result ≡ Err Outcome.DiskFault → HasRisen (D.faults disk.old) (D.faults disk.new) }
+    ensures disk_steady { result ≢ Err Outcome.DiskFault → D.faults disk.new ≡ D.faults disk.old }
+    ensures disk_later { D.faults disk.old ≤ D.faults disk.new }
+{
+    match make_sheet(alloc, disk, job, view, tone) {
+        Ok(done) => match sheet_text(alloc, done) {
+            Ok(text) => Ok(text),
+            Err(_) => Err(Outcome::NoMemory),
+        },
+        Err(SheetFault::DiskFault) => Err(Outcome::DiskFault),
+        Err(SheetFault::NoMemory) => Err(Outcome::NoMemory),
+    }
+}
+
+/// The cells of a sheet, and its greatest code.
+fn sheet_text(alloc: Global, done: SheetDone) -> Result<Vec<u8>, AllocError>
+    ensures { IfOk result (λ text. text.items ≡ sheet_text done.cells done.peak) }
+{
+    let mut text = Vec::new(alloc);
+    put_count(&mut text, b"cells", done.cells)?;
+    put_count(&mut text, b"peak", u32::from(done.peak))?;
+    Ok(text)
+}
