@@ -1,0 +1,5 @@
+mod Composing
+mod Deciding
+mod Looks
+mod Names
+mod Planning

@@ -1,0 +1,22 @@
+-- The project comes to its job, and the old one is looked at; or it comes to none.
+use Rattle.std.proofs.Common.{inr, refl}
+use Rattle.project_run.proofs.Runs.{match_each}
+use Rattle.project_adopt.proofs.Planning.{job_adopts, job_in}
+use Rattle.project_adopt.proofs.plans.adopt.Goals as goal
+
+pub returns-clause-folders : goal.returns-clause-folders
+returns-clause-folders g c =
+    let planned = c.in-Ok.ensures in
+    let by = job_in (g.S.Scans.world c.planned.new.scan) (g.S.Scans.world c.args.scan.now) c.in-Ok.job c.args.path.now c.args.old_path.now _ _ _ _ (g.S.Scans.loads c.args.scan.now) (g.S.Scans.loads c.planned.new.scan) _ in
+    match_each _ _ _ _ _ c.adopt_onto-reply.ensures.folders (λ text went. by _ _ planned.world planned.told planned.loaded went) (λ outcome went. by _ _ planned.world planned.told planned.loaded went)
+
+pub returns-in-Err-clause-folders : goal.returns-in-Err-clause-folders
+returns-in-Err-clause-folders g c =
+    let planned = c.in-Err.ensures in
+    inr (record {
+      unplanned = record { why = planned.told; kind = planned.kind; untouched = refl; texts = planned.loads };
+      untouched = refl;
+    })
+
+pub returns-in-Err-clause-kind : goal.returns-in-Err-clause-kind
+returns-in-Err-clause-kind g c = job_adopts _ c.in-Err.ensures.kind

@@ -1,0 +1,33 @@
+-- The old project comes to its job, and both are conformed; or it comes to none.
+use Rattle.std.proofs.Common.{inr, refl, sym, subst}
+use Rattle.project_run.proofs.Runs.{match_each}
+use Rattle.project_adopt.specs.Adopt.{IsJobOver, IsOfAdopt}
+use Rattle.project_adopt.proofs.Planning.{adopted_in, all_three, is_over, old_adopts}
+use Rattle.project_adopt.proofs.plans.adopt_onto.Goals as goal
+
+pub adopt_jobs-reply-requires-clause-over : goal.adopt_jobs-reply-requires-clause-over
+adopt_jobs-reply-requires-clause-over g c = subst (λ t. IsJobOver t c.args.job.now) (sym c.in-Ok.ensures.world) c.requires.over
+
+pub adopt_jobs-reply-requires-clause-old_over : goal.adopt_jobs-reply-requires-clause-old_over
+adopt_jobs-reply-requires-clause-old_over g c = subst (λ t. IsJobOver t c.in-Ok.job) (sym c.in-Ok.ensures.world) (is_over (g.S.Scans.world c.args.scan.now) c.args.old_path.now c.in-Ok.job c.in-Ok.ensures.told)
+
+pub returns-clause-folders : goal.returns-clause-folders
+returns-clause-folders g c =
+    let planned = c.in-Ok.ensures in
+    let adopted = c.adopt_jobs-reply.ensures in
+    let by = adopted_in (g.S.Scans.world c.planned.new.scan) (g.S.Scans.world c.args.scan.now) c.args.job.now c.in-Ok.job c.args.old_path.now _ _ _ _ (g.S.Scans.loads c.args.scan.now) (g.S.Scans.loads c.planned.new.scan) _ in
+    match_each _ _ _ _ _ (all_three _ _ _ _ _ _ _ adopted.went adopted.promise adopted.sound)
+    (λ text three. by _ _ planned.world planned.told planned.loaded three.0 three.1 three.2) (λ outcome three. by _ _ planned.world planned.told planned.loaded three.0 three.1 three.2)
+
+pub returns-in-Err-clause-folders : goal.returns-in-Err-clause-folders
+returns-in-Err-clause-folders g c =
+    let planned = c.in-Err.ensures in
+    inr (record {
+      found = c.in-Err.outcome;
+      reached_is = c.of_old_project.ensures;
+      unplanned = record { why = planned.told; kind = planned.kind; untouched = refl; texts = planned.loads };
+      untouched = refl;
+    })
+
+pub returns-in-Err-clause-kind : goal.returns-in-Err-clause-kind
+returns-in-Err-clause-kind g c = subst IsOfAdopt (sym c.of_old_project.ensures) (old_adopts c.in-Err.outcome c.in-Err.ensures.kind)

@@ -1,0 +1,40 @@
+-- The rest is run as the command `run` does.
+use Rattle.std.proofs.Common.{ℕ, List, refl}
+use Rattle.outcome_line.specs.declared.outcome.Outcome.{Outcome}
+use Rattle.project_run.specs.Run.{disk_state, run_text}
+use Rattle.project_run.proofs.Runs.{is_known, match_each}
+use Rattle.project_adopt.specs.Adopt.{IsReplyTo, IsRest}
+use Rattle.project_adopt.proofs.reels.run_rest.Goals as goal
+
+pub reply_of-requires : goal.reply_of-requires
+reply_of-requires g c = is_known _ _ _ _ _ _ _ c.run_alone-end.ensures.ran
+
+pub returns-clause-ran : goal.returns-clause-ran
+returns-clause-ran g c =
+    let run = c.run_alone-end.ensures in
+    let end = c.run_alone-end.result.0 in
+    let report = c.run_alone-end.result.1 in
+    let at = disk_state g.D.Disk.tells g.D.Disk.history g.D.Disk.faults in
+    let by : (reached : Outcome) (output : List ℕ) → IsReplyTo c.args.job.now c.args.done end report reached output
+    → IsRest c.args.job.now (g.S.Scans.world c.args.scan.now) c.args.done (at c.args.disk.now) (at c.run_alone-end.new.disk) (g.S.Scans.loads c.args.scan.now) (g.S.Scans.loads c.run_alone-end.new.scan) reached output =
+    λ reached output reply. record {
+      run_output = run_text report;
+      run = record {
+        how = end;
+        report = report;
+        reply = record { reached_is = reply.reached_is; form = λ done. refl };
+        frames = run.frames;
+        log = c.run_alone-end.result.2;
+        ran = run.ran;
+        run = run.run;
+        acked = run.acked;
+        whole = run.whole;
+        sound_has = run.sound_has;
+        spares = run.spares;
+        writes = run.writes;
+        loaded = run.scan.asked;
+        changed = run.changed;
+      };
+      form = reply.form;
+    } in
+    match_each _ _ _ _ _ c.reply_of.ensures.reply (λ text reply. by _ _ reply) (λ outcome reply. by _ _ reply)

@@ -1,0 +1,165 @@
+-- The command `adopt`: the reel of a project's job in the reel folder, with frames of an old project's reel taken over and the
+-- rest rendered. All of it is this project's own rule.
+--     IsAdoptReply      the project came to a job, or to none
+--     GoesOn      then so did the old one, or to none
+--     HasAdopted      both came to a job: frames were taken over, the rest was run, and the crash promise of both together
+--     IsOldSound      what that promise has as a premise where it speaks of the source files
+use Rattle.std.specs.Prelude.{◌≡◌, ◌⊎◌, ℕ, ◌+◌, true, List, [], ◌∷◌, ◌++◌, codes, decimal, Option, None, IfSome, Result, Ok, MatchResult}
+use Rattle.scan_source.specs.World.{World, file_at}
+use Rattle.conform_job.specs.Answers.{count_after}
+use Rattle.conform_job.specs.Job.{JobData}
+use Rattle.reel_disk.specs.Disk.{Files, moment_of, view_of, IsStill}
+use Rattle.reel_disk.specs.Runs.{Spares}
+use Rattle.resume_ledger.specs.Ledger.{IsInForce}
+use Rattle.resume_ledger.specs.Sound.{IsSound, WritesOnly}
+use Rattle.resume_ledger.specs.declared.layout.Version.TheVariants.{Two}
+use Rattle.reel_writer.specs.Reel.{frames_of, reel_of, HasFrameFiles, IsReelRun, IsSoundReel}
+use Rattle.reconform.specs.Adopt.{HasAnswered, IsOfOld}
+use Rattle.reconform.specs.declared.adopting.Adopted.{Adopted}
+use Rattle.reconform.specs.declared.adopting.AdoptFault.{AdoptFault}
+use Rattle.reconform.specs.declared.adopting.AdoptFault.TheVariants as fault
+use Rattle.reel_writer.specs.Changes.{IsOwnFile, MayWrite}
+use Rattle.single_run.specs.Run.{AreAllAcked, HasWhole}
+use Rattle.single_run.specs.declared.run_end.Report.{Report}
+use Rattle.single_run.specs.declared.run_end.RunEnd.{RunEnd}
+use Rattle.printed_text.specs.Text.{spaced_line}
+use Rattle.outcome_line.specs.declared.outcome.Outcome.{Outcome}
+use Rattle.outcome_line.specs.declared.outcome.Outcome.TheVariants as outcome
+use Rattle.project_job.specs.Jobs.{ComesTo, cube_count}
+use Rattle.project_run.specs.Run.{DiskState, IsJobRun, IsOfRun, IsUnplanned, outcome_of_end}
+
+-- the frames of the reel, those that were acknowledged at the opening, those that were taken over, and the rendered ones
+abbrev pub adopt_text : Adopted → Report → List ℕ
+adopt_text done report =
+    spaced_line (codes "frames" ∷ decimal report.frames ∷ [])
+    ++ spaced_line (codes "kept" ∷ decimal done.kept ∷ [])
+    ++ spaced_line (codes "adopted" ∷ decimal done.adopted ∷ [])
+    ++ spaced_line (codes "rendered" ∷ decimal report.rendered ∷ [])
+
+-- the outcome of an old project that came to no job
+abbrev pub of_old_project : Outcome → Outcome
+of_old_project (outcome.Refused refusal) = outcome.OldRefused refusal
+of_old_project other = other
+
+-- the outcome of an adoption that didn't come to its end
+abbrev pub outcome_of_fault : AdoptFault → Outcome
+outcome_of_fault (fault.OldOtherJob kept wanted) = outcome.OldOtherJob kept wanted
+outcome_of_fault (fault.OldBadLedger len) = outcome.OldBadLedger len
+outcome_of_fault (fault.OtherJob kept wanted) = outcome.OtherJob kept wanted
+outcome_of_fault (fault.BadLedger len) = outcome.BadLedger len
+outcome_of_fault fault.DiskFault = outcome.DiskFault
+outcome_of_fault fault.NoMemory = outcome.NoMemory
+
+-- Each frame that the old folder acknowledges is the old job's, over these source files.
+abbrev pub IsOldSound : JobData → World → Files → Type 0
+IsOldSound old world files = IsSound old.parts.digest (frames_of old) (reel_of old (file_at world)) files
+
+-- What a run that ended so comes to behind an adoption: the outcome of its end, or want of memory for the report.
+pub record IsReplyTo (job : JobData) (done : Adopted) (how : RunEnd) (report : Report) (reached : Outcome) (output : List ℕ) : Type 0 where
+  pub reached_is : (reached ≡ outcome_of_end job.parts.reels how) ⊎ (reached ≡ outcome.NoMemory)
+  pub form : reached ≡ outcome.Done → output ≡ adopt_text done report
+
+-- how many decoded source frames a run of the command shares
+abbrev pub share_count : ℕ
+share_count = 8
+
+-- The rest was run in the folder as `run` does, and its report put with the number of frames that were taken over.
+pub record IsRest (job : JobData) (told : Option World) (done : Adopted) (disk disk_after : DiskState) (loads loads_after : ℕ) (reached : Outcome) (output : List ℕ) : Type 0 where
+  -- what `run` would have put
+  pub run_output : List ℕ
+  pub run : IsJobRun job told share_count disk disk_after loads loads_after reached run_output
+  pub form : reached ≡ outcome.Done → output ≡ adopt_text done run.report
+
+-- The adoption didn't come to its end, and nothing was loaded or written after it.
+pub record IsUnadopted (why : AdoptFault) (disk disk_after : DiskState) (loads loads_after : ℕ) (reached : Outcome) : Type 0 where
+  pub reached_is : reached ≡ outcome_of_fault why
+  pub unchanged : disk_after ≡ disk
+  pub unloaded : loads_after ≡ loads
+
+-- The crash promise. At every moment each frame that a crash leaves acknowledged is the definition's, and no acknowledgement
+-- is lost; at Done the folder has the whole reel.
+pub record IsPromised (job : JobData) (told : Option World) (disk disk_after : DiskState) (reached : Outcome) : Type 0 where
+  pub run : IsReelRun job told disk.history disk_after.history
+  pub whole : reached ≡ outcome.Done → HasWhole job told disk.history disk_after.history
+
+-- Frames of the old folder were taken over into the new one, as far as they have an intact donor, and the rest was run.
+pub record IsAdoption (job old_job : JobData) (told : Option World) (old old_after disk disk_after : DiskState) (loads loads_after : ℕ) (reached : Outcome) (output : List ℕ) : Type 0 where
+  -- what the adoption came to, and the new folder behind it
+  pub adopted : Result Adopted AdoptFault
+  pub between : DiskState
+  pub tells : between.tells ≡ disk.tells
+  pub answer : HasAnswered job old_job disk.tells old.history old_after.history disk.history between.history adopted
+  pub went : MatchResult adopted
+      (λ done. IsRest job told done between disk_after loads loads_after reached output)
+      (λ why. IsUnadopted why between disk_after loads loads_after reached)
+  -- at its end the new folder is of version 2, so the run keeps all that it acknowledges
+  pub sealed : MatchResult adopted (λ done. disk.tells ≡ true → IsInForce Two (view_of between.history)) (λ why. Unit {0})
+  -- a refusal of the old folder leaves the new one as it was
+  pub untouched : MatchResult adopted (λ done. Unit {0}) (λ why. IsOfOld why → disk_after ≡ disk)
+  -- the old folder was changed at no moment
+  pub still : disk.tells ≡ true → IsStill old.history old_after.history
+  pub acked : reached ≡ outcome.Done → disk.tells ≡ true → AreAllAcked job (moment_of disk_after.history)
+  -- what may have changed in the new one, and what was written, as in a run
+  pub spares : disk.tells ≡ true → Spares disk.history disk_after.history (IsOwnFile job (view_of disk.history))
+  pub writes : disk.tells ≡ true → WritesOnly disk.history disk_after.history (MayWrite job (view_of disk.history))
+  -- sound files lose none
+  pub sound_has : (world : World) (files : Files) → IsSoundReel job world files → HasFrameFiles job files
+
+-- The project at the path came to this job.
+pub record CameTo (told : Option World) (path : List ℕ) (job : JobData) (loads loads_after : ℕ) : Type 0 where
+  pub comes : IfSome told (λ world. ComesTo (file_at world) path (Ok job.parts))
+  pub texts : loads_after ≡ count_after (2 + cube_count job.parts.project.cube) loads
+
+-- The old project came to this job, frames were taken over, and the rest was run.
+pub record HasAdopted (job : JobData) (told : Option World) (old_path : List ℕ) (old old_after disk disk_after : DiskState) (loads loads_after : ℕ) (reached : Outcome) (output : List ℕ) : Type 0 where
+  pub old_job : JobData
+  -- the loads when it was planned
+  pub planned : ℕ
+  pub came : CameTo told old_path old_job loads planned
+  pub went : IsAdoption job old_job told old old_after disk disk_after planned loads_after reached output
+  -- the crash promise; where the old folder may hold anything, nothing is said of the source files
+  pub promise : disk.tells ≡ true → IsPromised job None disk disk_after reached
+  pub sound : disk.tells ≡ true → IfSome told (λ world. IsOldSound old_job world (view_of old.history)) → IsPromised job told disk disk_after reached
+
+-- The old project came to no job, and both folders are as they were.
+pub record HasNoOldJob (told : Option World) (old_path : List ℕ) (old old_after disk disk_after : DiskState) (loads loads_after : ℕ) (reached : Outcome) : Type 0 where
+  -- what it came to
+  pub found : Outcome
+  pub reached_is : reached ≡ of_old_project found
+  pub unplanned : IsUnplanned told old_path disk disk_after loads loads_after found
+  pub untouched : old_after ≡ old
+
+-- what the command comes to once its project came to this job
+abbrev pub GoesOn : JobData → Option World → (old_path : List ℕ) → (old old_after disk disk_after : DiskState) → (loads loads_after : ℕ) → Outcome → List ℕ → Type 0
+GoesOn job told old_path old old_after disk disk_after loads loads_after reached output =
+    HasAdopted job told old_path old old_after disk disk_after loads loads_after reached output
+    ⊎ HasNoOldJob told old_path old old_after disk disk_after loads loads_after reached
+
+-- The project came to a job, and then the old one was looked at.
+pub record HasJob (told : Option World) (path old_path : List ℕ) (old old_after disk disk_after : DiskState) (loads loads_after : ℕ) (reached : Outcome) (output : List ℕ) : Type 0 where
+  pub job : JobData
+  -- the loads when it was planned
+  pub planned : ℕ
+  pub came : CameTo told path job loads planned
+  pub went : GoesOn job told old_path old old_after disk disk_after planned loads_after reached output
+
+-- The project came to no job. Both folders are as they were, and the old project was not looked at.
+pub record HasNoJob (told : Option World) (path : List ℕ) (old old_after disk disk_after : DiskState) (loads loads_after : ℕ) (reached : Outcome) : Type 0 where
+  pub unplanned : IsUnplanned told path disk disk_after loads loads_after reached
+  pub untouched : old_after ≡ old
+
+abbrev pub IsAdoptReply : Option World → (path old_path : List ℕ) → (old old_after disk disk_after : DiskState) → (loads loads_after : ℕ) → Outcome → List ℕ → Type 0
+IsAdoptReply told path old_path old old_after disk disk_after loads loads_after reached output =
+    HasJob told path old_path old old_after disk disk_after loads loads_after reached output
+    ⊎ HasNoJob told path old old_after disk disk_after loads loads_after reached
+
+-- the outcomes that it may come to in place of Done
+abbrev pub IsOfAdopt : Outcome → Type 0
+IsOfAdopt (outcome.OldRefused refusal) = Unit {0}
+IsOfAdopt (outcome.OldOtherJob kept wanted) = Unit {0}
+IsOfAdopt (outcome.OldBadLedger len) = Unit {0}
+IsOfAdopt other = IsOfRun other
+
+-- the job is that of a project over these source files
+abbrev pub IsJobOver : Option World → JobData → Type 0
+IsJobOver told job = IfSome told (λ world. (path : List ℕ) × ComesTo (file_at world) path (Ok job.parts))

@@ -1,0 +1,98 @@
+//! From the paths of two projects to their jobs.
+ghost use Rattle.std.specs.Prelude.{◌≡◌, ◌≢◌, ◌≤◌, ◌⊎◌, Err, MatchResult};
+ghost use Rattle.cf_base.specs.Count.{HasRisen};
+ghost use Rattle.conform_job.specs.Answers.{AreInfosOf};
+ghost use Rattle.outcome_line.specs.Output.{line_of};
+ghost use Rattle.project_run.specs.Run.{disk_state};
+ghost use Rattle.project_adopt.specs.Adopt.{GoesOn, IsAdoptReply, IsJobOver, IsOfAdopt};
+
+use crate::reels::adopt_jobs;
+use crate::report::of_old_project;
+use cf_base::PathText;
+use conform_job::Job;
+use outcome_line::Outcome;
+use project_job::planned;
+use reel_disk::Disk;
+use scan_source::Scans;
+use std::alloc::Global;
+
+/// Conforms the project at `path` into the folder `disk`, and takes over the pixels of those frames of the reel in the folder
+/// `old`, of the project at `old_path`, that have an equal plan. The report says how many frames the reel has, how many were
+/// acknowledged before, how many were taken over and how many were rendered. It runs on one thread, with a share of 8.
+///
+/// First the project is planned, then the old one: what refuses the first comes as it is, a refusal of the old one as
+/// `OldRefused`, and `SourceFault` and `NoMemory` of both as they are; both folders are as they were then. Then frames are taken
+/// over: `OldOtherJob` and `OldBadLedger` come where the old folder is so, then `OtherJob` and `BadLedger` where the new one is.
+/// Last the rest is run, as the command `run` does. `SourceFault` comes only where the count of the scan rose, and `DiskFault`
+/// only where that of one of the two disks did. The old folder is only read.
+pub fn adopt<S: Scans, D: Disk>(
+    alloc: Global,
+    path: &PathText,
+    old_path: &PathText,
+    scan: &mut S,
+    disk: &mut D,
+    old: &mut D,
+) -> Result<Vec<u8>, Outcome>
+    ensures folders { MatchResult result
+        (λ text. IsAdoptReply (S.world scan.old) path.now old_path.now (disk_state D.tells D.history D.faults old.old) (disk_state D.tells D.history D.faults old.new) (disk_state D.tells D.history D.faults disk.old) (disk_state D.tells D.history D.faults disk.new) (S.loads scan.old) (S.loads scan.new) Outcome.Done text.items)
+        (λ outcome. IsAdoptReply (S.world scan.old) path.now old_path.now (disk_state D.tells D.history D.faults old.old) (disk_state D.tells D.history D.faults old.new) (disk_state D.tells D.history D.faults disk.old) (disk_state D.tells D.history D.faults disk.new) (S.loads scan.old) (S.loads scan.new) outcome (line_of outcome)) }
+    ensures kind { MatchResult result (λ text. Unit {0}) IsOfAdopt }
+
+    ensures failed { result ≡ Err Outcome.SourceFault → HasRisen (S.faults scan.old) (S.faults scan.new) }
+    ensures steady { result ≢ Err Outcome.SourceFault → S.faults scan.new ≡ S.faults scan.old }
+    ensures later { S.faults scan.old ≤ S.faults scan.new }
+    ensures world { S.world scan.new ≡ S.world scan.old }
+    ensures same { S.same scan.old scan.new }
+
+    ensures disk_fault { result ≡ Err Outcome.DiskFault → HasRisen (D.faults old.old) (D.faults old.new) ⊎ HasRisen (D.faults disk.old) (D.faults disk.new) }
+    ensures disk_steady { result ≢ Err Outcome.DiskFault → D.faults disk.new ≡ D.faults disk.old }
+    ensures disk_later { D.faults disk.old ≤ D.faults disk.new }
+    ensures old_steady { result ≢ Err Outcome.DiskFault → D.faults old.new ≡ D.faults old.old }
+    ensures old_later { D.faults old.old ≤ D.faults old.new }
+{
+    let job = match planned(alloc, path, scan) {
+        Ok(job) => job,
+        Err(outcome) => return Err(outcome),
+    };
+    let reply = adopt_onto(alloc, &job, old_path, scan, disk, old);
+    // By a call: a job that falls out of scope is dropped part by part, here and in each proof.
+    drop(job);
+    reply
+}
+
+/// The same, where the project came to this job.
+fn adopt_onto<S: Scans, D: Disk>(
+    alloc: Global,
+    job: &Job,
+    old_path: &PathText,
+    scan: &mut S,
+    disk: &mut D,
+    old: &mut D,
+) -> Result<Vec<u8>, Outcome>
+    requires infos { AreInfosOf job.now.parts (S.world scan.old) job.now.infos }
+    requires over { IsJobOver (S.world scan.old) job.now }
+    ensures folders { MatchResult result
+        (λ text. GoesOn job.now (S.world scan.old) old_path.now (disk_state D.tells D.history D.faults old.old) (disk_state D.tells D.history D.faults old.new) (disk_state D.tells D.history D.faults disk.old) (disk_state D.tells D.history D.faults disk.new) (S.loads scan.old) (S.loads scan.new) Outcome.Done text.items)
+        (λ outcome. GoesOn job.now (S.world scan.old) old_path.now (disk_state D.tells D.history D.faults old.old) (disk_state D.tells D.history D.faults old.new) (disk_state D.tells D.history D.faults disk.old) (disk_state D.tells D.history D.faults disk.new) (S.loads scan.old) (S.loads scan.new) outcome (line_of outcome)) }
+    ensures kind { MatchResult result (λ text. Unit {0}) IsOfAdopt }
+
+    ensures failed { result ≡ Err Outcome.SourceFault → HasRisen (S.faults scan.old) (S.faults scan.new) }
+    ensures steady { result ≢ Err Outcome.SourceFault → S.faults scan.new ≡ S.faults scan.old }
+    ensures later { S.faults scan.old ≤ S.faults scan.new }
+    ensures world { S.world scan.new ≡ S.world scan.old }
+    ensures same { S.same scan.old scan.new }
+
+    ensures disk_fault { result ≡ Err Outcome.DiskFault → HasRisen (D.faults old.old) (D.faults old.new) ⊎ HasRisen (D.faults disk.old) (D.faults disk.new) }
+    ensures disk_steady { result ≢ Err Outcome.DiskFault → D.faults disk.new ≡ D.faults disk.old }
+    ensures disk_later { D.faults disk.old ≤ D.faults disk.new }
+    ensures old_steady { result ≢ Err Outcome.DiskFault → D.faults old.new ≡ D.faults old.old }
+    ensures old_later { D.faults old.old ≤ D.faults old.new }
+{
+    let old_job = match planned(alloc, old_path, scan) {
+        Ok(job) => job,
+        Err(outcome) => return Err(of_old_project(outcome)),
+    };
+    let reply = adopt_jobs(alloc, job, &old_job, scan, disk, old);
+    drop(old_job);
+    reply
+}

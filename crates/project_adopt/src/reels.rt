@@ -1,0 +1,133 @@
+//! From two jobs to the reel: frames of the old one are taken over, and the rest is run.
+ghost use Rattle.std.specs.Prelude.{◌≡◌, ◌≢◌, ◌≤◌, ◌⊎◌, true, None, Err, IfSome, MatchResult};
+ghost use Rattle.cf_base.specs.Count.{HasRisen};
+ghost use Rattle.conform_job.specs.Answers.{AreInfosOf};
+ghost use Rattle.conform_job.specs.Names.{Tells};
+ghost use Rattle.outcome_line.specs.Output.{line_of};
+ghost use Rattle.project_run.specs.Run.{IsOfRun, disk_state};
+ghost use Rattle.reconform.specs.Adopt.{CanServe};
+ghost use Rattle.reel_disk.specs.Disk.{view_of};
+ghost use Rattle.project_adopt.specs.Adopt.{IsAdoption, IsJobOver, IsOfAdopt, IsOldSound, IsPromised, IsRest};
+
+use crate::report::{outcome_of_fault, reply_of};
+use conform_job::{Job, Work};
+use outcome_line::Outcome;
+use reconform::Adopted;
+use reel_disk::Disk;
+use scan_source::Scans;
+use station::run_alone;
+use std::alloc::Global;
+use std::marker::Brand;
+
+/// How many decoded source frames the run shares.
+const SHARE: u32 = 8;
+
+/// Takes frames over from the old job's reel, and runs the rest.
+///
+/// The names of both jobs have the files that the scan tells, where the old folder is told and sound over them, and none
+/// elsewhere: so the promise on the source files has that as its premise.
+pub(crate) fn adopt_jobs<S: Scans, D: Disk>(
+    alloc: Global,
+    job: &Job,
+    old_job: &Job,
+    scan: &mut S,
+    disk: &mut D,
+    old: &mut D,
+) -> Result<Vec<u8>, Outcome>
+    requires infos { AreInfosOf job.now.parts (S.world scan.old) job.now.infos }
+    requires over { IsJobOver (S.world scan.old) job.now }
+    requires old_over { IsJobOver (S.world scan.old) old_job.now }
+    ensures went { MatchResult result
+        (λ text. IsAdoption job.now old_job.now (S.world scan.old) (disk_state D.tells D.history D.faults old.old) (disk_state D.tells D.history D.faults old.new) (disk_state D.tells D.history D.faults disk.old) (disk_state D.tells D.history D.faults disk.new) (S.loads scan.old) (S.loads scan.new) Outcome.Done text.items)
+        (λ outcome. IsAdoption job.now old_job.now (S.world scan.old) (disk_state D.tells D.history D.faults old.old) (disk_state D.tells D.history D.faults old.new) (disk_state D.tells D.history D.faults disk.old) (disk_state D.tells D.history D.faults disk.new) (S.loads scan.old) (S.loads scan.new) outcome (line_of outcome)) }
+    ensures promise { D.tells ≡ true → MatchResult result
+        (λ text. IsPromised job.now None (disk_state D.tells D.history D.faults disk.old) (disk_state D.tells D.history D.faults disk.new) Outcome.Done)
+        (IsPromised job.now None (disk_state D.tells D.history D.faults disk.old) (disk_state D.tells D.history D.faults disk.new)) }
+    ensures sound { D.tells ≡ true → IfSome (S.world scan.old) (λ world. IsOldSound old_job.now world (view_of (D.history old.old))) → MatchResult result
+        (λ text. IsPromised job.now (S.world scan.old) (disk_state D.tells D.history D.faults disk.old) (disk_state D.tells D.history D.faults disk.new) Outcome.Done)
+        (IsPromised job.now (S.world scan.old) (disk_state D.tells D.history D.faults disk.old) (disk_state D.tells D.history D.faults disk.new)) }
+    ensures kind { MatchResult result (λ text. Unit {0}) IsOfAdopt }
+
+    ensures failed { result ≡ Err Outcome.SourceFault → HasRisen (S.faults scan.old) (S.faults scan.new) }
+    ensures steady { result ≢ Err Outcome.SourceFault → S.faults scan.new ≡ S.faults scan.old }
+    ensures later { S.faults scan.old ≤ S.faults scan.new }
+    ensures world { S.world scan.new ≡ S.world scan.old }
+    ensures same { S.same scan.old scan.new }
+
+    ensures disk_fault { result ≡ Err Outcome.DiskFault → HasRisen (D.faults old.old) (D.faults old.new) ⊎ HasRisen (D.faults disk.old) (D.faults disk.new) }
+    ensures disk_steady { result ≢ Err Outcome.DiskFault → D.faults disk.new ≡ D.faults disk.old }
+    ensures disk_later { D.faults disk.old ≤ D.faults disk.new }
+    ensures old_steady { result ≢ Err Outcome.DiskFault → D.faults old.new ≡ D.faults old.old }
+    ensures old_later { D.faults old.old ≤ D.faults old.new }
+{
+    adopt_and_run::<Brand, Brand, S, D>(alloc, job, old_job, scan, disk, old)
+}
+
+/// The same under names of both jobs.
+fn adopt_and_run<N: Work, O: Work, S: Scans, D: Disk>(
+    alloc: Global,
+    job: &Job,
+    old_job: &Job,
+    scan: &mut S,
+    disk: &mut D,
+    old: &mut D,
+) -> Result<Vec<u8>, Outcome>
+    requires job { job.now ≡ N.job }
+    requires old_job { old_job.now ≡ O.job }
+    requires one_world { O.files ≡ N.files }
+    requires files { Tells N.files (S.world scan.old) }
+    requires infos { AreInfosOf N.job.parts (S.world scan.old) N.job.infos }
+    requires can_serve { IfSome N.files (λ world. CanServe N.job O.job world D.tells (view_of (D.history old.old))) }
+    ensures went { MatchResult result
+        (λ text. IsAdoption N.job O.job (S.world scan.old) (disk_state D.tells D.history D.faults old.old) (disk_state D.tells D.history D.faults old.new) (disk_state D.tells D.history D.faults disk.old) (disk_state D.tells D.history D.faults disk.new) (S.loads scan.old) (S.loads scan.new) Outcome.Done text.items)
+        (λ outcome. IsAdoption N.job O.job (S.world scan.old) (disk_state D.tells D.history D.faults old.old) (disk_state D.tells D.history D.faults old.new) (disk_state D.tells D.history D.faults disk.old) (disk_state D.tells D.history D.faults disk.new) (S.loads scan.old) (S.loads scan.new) outcome (line_of outcome)) }
+    ensures promise { D.tells ≡ true → MatchResult result
+        (λ text. IsPromised N.job N.files (disk_state D.tells D.history D.faults disk.old) (disk_state D.tells D.history D.faults disk.new) Outcome.Done)
+        (IsPromised N.job N.files (disk_state D.tells D.history D.faults disk.old) (disk_state D.tells D.history D.faults disk.new)) }
+    ensures kind { MatchResult result (λ text. Unit {0}) IsOfAdopt }
+
+    ensures failed { result ≡ Err Outcome.SourceFault → HasRisen (S.faults scan.old) (S.faults scan.new) }
+    ensures steady { result ≢ Err Outcome.SourceFault → S.faults scan.new ≡ S.faults scan.old }
+    ensures later { S.faults scan.old ≤ S.faults scan.new }
+    ensures world { S.world scan.new ≡ S.world scan.old }
+    ensures same { S.same scan.old scan.new }
+
+    ensures disk_fault { result ≡ Err Outcome.DiskFault → HasRisen (D.faults old.old) (D.faults old.new) ⊎ HasRisen (D.faults disk.old) (D.faults disk.new) }
+    ensures disk_steady { result ≢ Err Outcome.DiskFault → D.faults disk.new ≡ D.faults disk.old }
+    ensures disk_later { D.faults disk.old ≤ D.faults disk.new }
+    ensures old_steady { result ≢ Err Outcome.DiskFault → D.faults old.new ≡ D.faults old.old }
+    ensures old_later { D.faults old.old ≤ D.faults old.new }
+{
+    match reconform::adopt::<N, O, D>(alloc, job, old_job, old, disk) {
+        Ok(done) => run_rest(alloc, job, done, scan, disk),
+        Err(fault) => Err(outcome_of_fault(fault)),
+    }
+}
+
+/// Runs what was not taken over.
+fn run_rest<S: Scans, D: Disk>(
+    alloc: Global,
+    job: &Job,
+    done: Adopted,
+    scan: &mut S,
+    disk: &mut D,
+) -> Result<Vec<u8>, Outcome>
+    requires infos { AreInfosOf job.now.parts (S.world scan.old) job.now.infos }
+    ensures ran { MatchResult result
+        (λ text. IsRest job.now (S.world scan.old) done (disk_state D.tells D.history D.faults disk.old) (disk_state D.tells D.history D.faults disk.new) (S.loads scan.old) (S.loads scan.new) Outcome.Done text.items)
+        (λ outcome. IsRest job.now (S.world scan.old) done (disk_state D.tells D.history D.faults disk.old) (disk_state D.tells D.history D.faults disk.new) (S.loads scan.old) (S.loads scan.new) outcome (line_of outcome)) }
+    ensures kind { MatchResult result (λ text. Unit {0}) IsOfRun }
+
+    ensures failed { result ≡ Err Outcome.SourceFault → HasRisen (S.faults scan.old) (S.faults scan.new) }
+    ensures steady { result ≢ Err Outcome.SourceFault → S.faults scan.new ≡ S.faults scan.old }
+    ensures later { S.faults scan.old ≤ S.faults scan.new }
+    ensures world { S.world scan.new ≡ S.world scan.old }
+    ensures same { S.same scan.old scan.new }
+
+    ensures disk_fault { result ≡ Err Outcome.DiskFault → HasRisen (D.faults disk.old) (D.faults disk.new) }
+    ensures disk_steady { result ≢ Err Outcome.DiskFault → D.faults disk.new ≡ D.faults disk.old }
+    ensures disk_later { D.faults disk.old ≤ D.faults disk.new }
+{
+    let (end, report, _) = run_alone::<Brand, S, D>(alloc, job, scan, disk, SHARE);
+    reply_of(alloc, job, done, end, &report)
+}
