@@ -1,5 +1,6 @@
 //! The conform station's command line: the words after the program's name, scans and a reel folder below the current folder,
-//! standard output, and the counts of the quality table are handed to the top call, whose outcome is the status.
+//! standard output, the counts of the quality table and the tone of the contact sheet are handed to the top call, whose outcome
+//! is the status.
 #![tactic(auto)]
 
 ghost use Rattle.std.specs.Prelude.{◌≡◌, vec_len, IfOk};
@@ -8,7 +9,7 @@ use cf_base::{PathText, Put, Sink, StreamSink};
 use conform_tool::{Ended, conform};
 use outcome_line::{Outcome, plain_line};
 use reel_disk::{Disk, FolderDisk};
-use reel_qc::{Probe, ProbeKind, high, low, sum};
+use reel_qc::{Probe, ProbeKind, Tone, high, low, square, square_table, sum};
 use scan_source::FileScans;
 use std::alloc::{AllocError, Global};
 use std::process::ExitCode;
@@ -20,6 +21,9 @@ const SCANS: usize = 16;
 
 /// The reel folder, in the current folder.
 const FOLDER: &[u8] = b"conform.out";
+
+/// The folder of an old reel, which `adopt` reads.
+const OLD_FOLDER: &[u8] = b"conform.old";
 
 fn main(rt: HostRuntime) -> ExitCode {
     let alloc = rt.alloc();
@@ -33,7 +37,11 @@ fn main(rt: HostRuntime) -> ExitCode {
     let Ok(scans) = scans_over(&rt) else {
         return without_memory(&mut out);
     };
-    let Ok(disk) = reel_folder(&rt) else {
+    let (reel_name, old_name) = folder_names();
+    let Ok(disk) = folder_at(&rt, reel_name) else {
+        return without_memory(&mut out);
+    };
+    let Ok(mut old) = folder_at(&rt, old_name) else {
         return without_memory(&mut out);
     };
     let probes = [
@@ -41,11 +49,14 @@ fn main(rt: HostRuntime) -> ExitCode {
         Probe::new(ProbeKind::Low, low),
         Probe::new(ProbeKind::Sum, sum),
     ];
+    let tone = Tone::new(square_table(), square);
     let Ended {
         outcome,
         scans: _,
         disk: _,
-    } = conform(&rt, alloc, &words, scans, disk, &mut out, &probes);
+    } = conform(
+        &rt, alloc, &words, scans, disk, &mut old, &mut out, &probes, &tone,
+    );
     ExitCode::from(outcome.status())
 }
 
@@ -81,14 +92,22 @@ fn scans_over<R: Runtime + AllocGlobal>(rt: &R) -> Result<Vec<FileScans<R>>, All
     Ok(scans)
 }
 
-/// The reel folder of the current folder, before its first call.
-fn reel_folder<R: Runtime>(rt: &R) -> Result<FolderDisk<R>, AllocError>
-    ensures { IfOk result (λ disk. ⟦<FolderDisk<R> as Disk>⟧.faults disk ≡ 0) }
-{
-    let Some(folder) = PathText::of(FOLDER) else {
+/// The names of the two folders: that of the reel, and that of an old one.
+fn folder_names() -> (PathText, PathText) {
+    let Some(reel) = PathText::of(FOLDER) else {
         unreachable!()
     };
-    Ok(FolderDisk::new(rt.clone()?, folder))
+    let Some(old) = PathText::of(OLD_FOLDER) else {
+        unreachable!()
+    };
+    (reel, old)
+}
+
+/// The folder of that name in the current folder, before the first call on it.
+fn folder_at<R: Runtime>(rt: &R, name: PathText) -> Result<FolderDisk<R>, AllocError>
+    ensures { IfOk result (λ disk. ⟦<FolderDisk<R> as Disk>⟧.faults disk ≡ 0) }
+{
+    Ok(FolderDisk::new(rt.clone()?, name))
 }
 
 /// The words after the program's name. Words that aren't UTF-8 are those of no command: then there are none.

@@ -4,31 +4,30 @@ use Rattle.std.specs.Prelude.{slice_get}
 use Rattle.cf_base.specs.Count.{HasRisen}
 use Rattle.scan_source.specs.World.{World}
 use Rattle.conform_job.specs.Job.{JobData}
+use Rattle.reel_disk.specs.Disk.{view_of}
 use Rattle.project_job.specs.Laws.{OneJob}
 use Rattle.project_run.specs.Crew.{HasFailed, told_by}
-use Rattle.project_run.specs.Run.{DiskState}
 use Rattle.command_words.specs.Commands.{Spells}
 use Rattle.command_words.specs.declared.command.Command.{Command}
 use Rattle.outcome_line.specs.declared.outcome.Outcome.{Outcome}
-use Rattle.reel_qc.specs.declared.probe.ProbeKind.{ProbeKind}
-use Rattle.conform_tool.specs.Reply.{scan_state}
+use Rattle.conform_tool.specs.Reply.{Folders, House, scan_state}
 use Rattle.conform_tool.specs.Answer.{SinkState, Answered}
 use Rattle.conform_tool.specs.Complete.{IsAccepted, HasNotRisen, IsComplete, IsUnfailed}
-use Rattle.conform_tool.specs.Headline.{RunsJob, KeepsItsPromise, HasEnded}
+use Rattle.conform_tool.specs.Headline.{AdoptsJob, RunsJob, KeepsItsPromise, HasEnded}
 use Rattle.conform_tool.proofs.Completes.{answered_complete, answered_unfailed}
-use Rattle.conform_tool.proofs.Headlines.{answered_promise}
+use Rattle.conform_tool.proofs.Headlines.{answered_adoption, answered_promise}
 
-module _ (kinds : List ProbeKind) {S : Type 0} (world_of : S → Option World) (faults loads heads : S → ℕ) (same : S → S → Type 0) (words : List (List ℕ)) (disk disk_after : DiskState) (sink sink_after : SinkState) (result : Outcome) where
+module _ (house : House) {S : Type 0} (world_of : S → Option World) (faults loads heads : S → ℕ) (same : S → S → Type 0) (words : List (List ℕ)) (folders folders_after : Folders) (sink sink_after : SinkState) (result : Outcome) where
   -- the answer is that of the first scan, which tells what all tell, and whose fault is one of a scan
   pub record FirstAnswered (scans scans_after : List S) : Type 0 where
     pub first : S
     pub last : S
     pub tells : told_by world_of scans ≡ world_of first
-    pub answered : Answered kinds words (scan_state world_of faults loads heads first) (scan_state world_of faults loads heads last) disk disk_after sink sink_after result
+    pub answered : Answered house words (scan_state world_of faults loads heads first) (scan_state world_of faults loads heads last) folders folders_after sink sink_after result
     pub failed : HasRisen (faults first) (faults last) → HasFailed world_of faults loads same scans scans_after
 
   pub first_answered : (scans scans_after : List S) → 1 ≤ length scans → length scans_after ≡ length scans
-      → ((first last : S) → slice_get scans 0 ≡ Some first → slice_get scans_after 0 ≡ Some last → Answered kinds words (scan_state world_of faults loads heads first) (scan_state world_of faults loads heads last) disk disk_after sink sink_after result)
+      → ((first last : S) → slice_get scans 0 ≡ Some first → slice_get scans_after 0 ≡ Some last → Answered house words (scan_state world_of faults loads heads first) (scan_state world_of faults loads heads last) folders folders_after sink sink_after result)
       → FirstAnswered scans scans_after
   first_answered [] scans_after some size answered = absurd (omega (arith, some))
   first_answered (first ∷ rest) [] some size answered = absurd (omega (arith, size))
@@ -41,19 +40,24 @@ module _ (kinds : List ProbeKind) {S : Type 0} (world_of : S → Option World) (
   }
 
   module _ (scans scans_after : List S) (one : FirstAnswered scans scans_after) where
-    pub alone_promise : OneJob → (world : World) (job : JobData) → RunsJob words (told_by world_of scans) disk.tells world job → KeepsItsPromise job world disk.history disk_after.history (HasEnded result)
+    pub alone_promise : OneJob → (world : World) (job : JobData) → RunsJob words (told_by world_of scans) folders.reel.tells world job → KeepsItsPromise job world folders.reel.history folders_after.reel.history (HasEnded result)
     alone_promise laws world job runs =
-        answered_promise laws words (scan_state world_of faults loads heads one.first) (scan_state world_of faults loads heads one.last) disk disk_after sink sink_after result one.answered world job
-        (subst (λ told. RunsJob words told disk.tells world job) one.tells runs)
+        answered_promise laws words (scan_state world_of faults loads heads one.first) (scan_state world_of faults loads heads one.last) folders folders_after sink sink_after result one.answered world job
+        (subst (λ told. RunsJob words told folders.reel.tells world job) one.tells runs)
 
-    pub alone_complete : OneJob → (command : Command) (world : World) → Spells words command → told_by world_of scans ≡ Some world → IsAccepted command world disk
-        → (HasFailed world_of faults loads same scans scans_after → ⊥) → HasNotRisen disk.faults disk_after.faults → HasNotRisen sink.faults sink_after.faults → IsComplete command result
+    pub alone_adoption : OneJob → (world : World) (job : JobData) → AdoptsJob words (told_by world_of scans) folders.reel.tells world (view_of folders.old.history) job → KeepsItsPromise job world folders.reel.history folders_after.reel.history (HasEnded result)
+    alone_adoption laws world job adopts =
+        answered_adoption laws words (scan_state world_of faults loads heads one.first) (scan_state world_of faults loads heads one.last) folders folders_after sink sink_after result one.answered world job
+        (subst (λ told. AdoptsJob words told folders.reel.tells world (view_of folders.old.history) job) one.tells adopts)
+
+    pub alone_complete : OneJob → (command : Command) (world : World) → Spells words command → told_by world_of scans ≡ Some world → IsAccepted command world folders
+        → (HasFailed world_of faults loads same scans scans_after → ⊥) → HasNotRisen folders.reel.faults folders_after.reel.faults → HasNotRisen folders.old.faults folders_after.old.faults → HasNotRisen sink.faults sink_after.faults → IsComplete command result
     alone_complete laws command world spells is accepted scans_steady =
-        answered_complete laws words (scan_state world_of faults loads heads one.first) (scan_state world_of faults loads heads one.last) disk disk_after sink sink_after result one.answered
+        answered_complete laws words (scan_state world_of faults loads heads one.first) (scan_state world_of faults loads heads one.last) folders folders_after sink sink_after result one.answered
         command world spells (sym one.tells ∙ is) accepted (λ risen. scans_steady (one.failed risen))
 
     pub alone_unfailed : (command : Command) → Spells words command
-        → (HasFailed world_of faults loads same scans scans_after → ⊥) → HasNotRisen disk.faults disk_after.faults → HasNotRisen sink.faults sink_after.faults → IsUnfailed command result
+        → (HasFailed world_of faults loads same scans scans_after → ⊥) → HasNotRisen folders.reel.faults folders_after.reel.faults → HasNotRisen folders.old.faults folders_after.old.faults → HasNotRisen sink.faults sink_after.faults → IsUnfailed command result
     alone_unfailed command spells scans_steady =
-        answered_unfailed words (scan_state world_of faults loads heads one.first) (scan_state world_of faults loads heads one.last) disk disk_after sink sink_after result one.answered
+        answered_unfailed words (scan_state world_of faults loads heads one.first) (scan_state world_of faults loads heads one.last) folders folders_after sink sink_after result one.answered
         command spells (λ risen. scans_steady (one.failed risen))

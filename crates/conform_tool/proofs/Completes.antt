@@ -33,9 +33,16 @@ use Rattle.single_run.specs.declared.run_end.RunEnd.TheVariants as ends
 use Rattle.project_job.specs.Jobs.{ComesTo, HasPlanned, IsOfJob}
 use Rattle.project_job.specs.Laws.{OneJob}
 use Rattle.project_run.specs.Crew.{HasFailed, IsCrewReply, told_by}
-use Rattle.project_run.specs.Run.{DiskState, IsOfRun, IsRunReply, outcome_of_end}
-use Rattle.project_run.specs.Look.{HasSeen, outcome_of_fault}
-use Rattle.project_run.specs.Quality.{IsOfCount, IsQcReply}
+use Rattle.project_run.specs.Run.{DiskState, IsJobRun, IsOfRun, IsRunReply, outcome_of_end}
+use Rattle.project_adopt.specs.Adopt.{GoesOn, IsAdoption, IsAdoptReply, IsRest, IsUnadopted}
+use Rattle.project_adopt.specs.Adopt as adopted
+use Rattle.reconform.specs.Adopt.{HasAnswered}
+use Rattle.reconform.specs.declared.adopting.Adopted.{Adopted}
+use Rattle.reconform.specs.declared.adopting.AdoptFault.{AdoptFault}
+use Rattle.reconform.specs.declared.adopting.AdoptFault.TheVariants as adopts
+use Rattle.project_run.specs.Look.{HasFound, IsBehindLook, outcome_of_fault}
+use Rattle.project_run.specs.Quality.{IsQcReply}
+use Rattle.project_run.specs.Sheet.{IsSheetReply}
 use Rattle.project_run.specs.Status.{IsStatusReply, outcome_of_peek}
 use Rattle.reel_qc.specs.declared.probe.ProbeKind.{ProbeKind}
 use Rattle.project_run.specs.Verify.{IsChecked, IsVerifyReply, outcome_of_check}
@@ -50,10 +57,10 @@ use Rattle.outcome_line.specs.declared.outcome.Refused.TheVariants as refused
 use Rattle.outcome_line.specs.declared.outcome.Which.TheVariants as which
 use Rattle.conform_tool.specs.Frame.{IsFrameCase, info_in}
 use Rattle.conform_tool.specs.List.{IsListCase}
-use Rattle.conform_tool.specs.Reply.{ScanState, IsKindOf, IsDemoReply, IsJobReply, IsPlanForm, IsPullForm, IsWholeReply}
+use Rattle.conform_tool.specs.Reply.{Folders, House, ScanState, HasFailedDisk, IsKindOf, IsDemoReply, IsJobReply, IsPlanForm, IsPullForm, IsWholeReply}
 use Rattle.conform_tool.specs.Answer.{SinkState, IsPut, Answered}
 use Rattle.conform_tool.specs.Conform.{CrewAnswered}
-use Rattle.conform_tool.specs.Complete.{HasFitFolder, HasJob, IsAccepted, HasNotRisen, IsComplete, IsUnfailed}
+use Rattle.conform_tool.specs.Complete.{HasFitFolder, HasJob, HasSoundFolder, IsAccepted, HasNotRisen, IsComplete, IsUnfailed}
 use Rattle.conform_tool.proofs.Headlines.{at_world}
 use Rattle.conform_tool.proofs.Replies.{replied_run}
 
@@ -175,6 +182,21 @@ by_end : (reels : List ReelEntry) (how : RunEnd) (reached : Outcome) → reached
 by_end reels how reached is (inl done) = inl (is ∙ ap (outcome_of_end reels) done)
 by_end reels how reached is (inr memory) = inr (is ∙ ap (outcome_of_end reels) memory)
 
+-- a run in a folder that is fit for its job
+ran_complete : {share : ℕ} (world : World) (told : Option World) → told ≡ Some world → (job : JobData) (disk disk_after : DiskState) (loads loads_after : ℕ) (reached : Outcome) (output : List ℕ) → disk.tells ≡ true → IsFit job.parts.digest (frames_of job) (view_of disk.history)
+    → IsJobRun job told share disk disk_after loads loads_after reached output → reached ≢ outcomes.SourceFault → reached ≢ outcomes.DiskFault → IsThrough reached
+ran_complete world told is job disk disk_after loads loads_after reached output tells fit ran no_source no_disk = elim ran.reply.reached_is [
+  | inl reached_is ↦
+      let reels = job.parts.reels in
+      let none_source : ran.how ≢ ends.SourceFault = λ source. no_source (reached_is ∙ ap (outcome_of_end reels) source) in
+      let none_disk : ran.how ≢ ends.DiskFault = λ failed. no_disk (reached_is ∙ ap (outcome_of_end reels) failed) in
+      by_end reels ran.how reached reached_is (elim ran.ran [
+        | inl opened ↦ opened_complete job told world ran.how is opened.is_end none_source none_disk
+        | inr refused ↦ refused_complete job disk.tells disk.history disk_after.history ran.how tells fit refused.why none_disk
+      ])
+  | inr memory ↦ inr memory
+]
+
 module _ (laws : OneJob) (world : World) (path : List ℕ) (disk : DiskState) (place : HasFitFolder world path disk) (told : Option World) (is : told ≡ Some world) where
   -- the folder is fit for the job that was run
   fit_for : (job : JobData) → IfSome told (λ files. ComesTo (file_at files) path (Ok job.parts)) → IsFit job.parts.digest (frames_of job) (view_of disk.history)
@@ -183,17 +205,8 @@ module _ (laws : OneJob) (world : World) (path : List ℕ) (disk : DiskState) (p
 
   run_complete : {share : ℕ} (disk_after : DiskState) (loads loads_after : ℕ) (reached : Outcome) (output : List ℕ) → IsRunReply told path share disk disk_after loads loads_after reached output
       → reached ≢ outcomes.SourceFault → reached ≢ outcomes.DiskFault → IsThrough reached
-  run_complete disk_after loads loads_after reached output (inl has) no_source no_disk = elim has.ran.reply.reached_is [
-    | inl reached_is ↦
-        let reels = has.job.parts.reels in
-        let none_source : has.ran.how ≢ ends.SourceFault = λ source. no_source (reached_is ∙ ap (outcome_of_end reels) source) in
-        let none_disk : has.ran.how ≢ ends.DiskFault = λ failed. no_disk (reached_is ∙ ap (outcome_of_end reels) failed) in
-        by_end reels has.ran.how reached reached_is (elim has.ran.ran [
-          | inl opened ↦ opened_complete has.job told world has.ran.how is opened.is_end none_source none_disk
-          | inr refused ↦ refused_complete has.job disk.tells disk.history disk_after.history has.ran.how place.tells (fit_for has.job has.comes) refused.why none_disk
-        ])
-    | inr memory ↦ inr memory
-  ]
+  run_complete disk_after loads loads_after reached output (inl has) no_source no_disk =
+      ran_complete world told is has.job disk disk_after has.planned loads_after reached output place.tells (fit_for has.job has.comes) has.ran no_source no_disk
   run_complete disk_after loads loads_after reached output (inr none) no_source no_disk = planned_complete laws told world path reached is (place.job, place.comes) none.why none.kind no_source
 
   status_complete : (disk_after : DiskState) (loads loads_after : ℕ) (reached : Outcome) (output : List ℕ) → IsStatusReply told path disk disk_after loads loads_after reached output
@@ -206,9 +219,9 @@ module _ (laws : OneJob) (world : World) (path : List ℕ) (disk : DiskState) (p
   status_complete disk_after loads loads_after reached output (inr none) no_source no_disk = planned_complete laws told world path reached is (place.job, place.comes) none.why none.kind no_source
 
   -- what was found of the ledger, or that it can't be had
-  seen_complete : (command : Command) (Found : ViewState → Type 0) (job : JobData) (disk_after : DiskState) (reached : Outcome) → IfSome told (λ files. ComesTo (file_at files) path (Ok job.parts))
-      → HasSeen job disk disk_after reached Found → ((view : ViewState) → Found view → IsComplete command reached) → reached ≢ outcomes.DiskFault → IsComplete command reached
-  seen_complete command Found job disk_after reached comes seen each no_disk = by seen.ledger (seen.looked place.tells) seen.found
+  found_complete : (command : Command) (Found : ViewState → Type 0) (job : JobData) (disk_after : DiskState) (reached : Outcome) → IfSome told (λ files. ComesTo (file_at files) path (Ok job.parts))
+      → HasFound job disk disk_after reached Found → ((view : ViewState) → Found view → IsComplete command reached) → reached ≢ outcomes.DiskFault → IsComplete command reached
+  found_complete command Found job disk_after reached comes seen each no_disk = by seen.ledger (seen.looked place.tells) seen.found
     where
       by : (ledger : Result ViewState OpenFault) → HasLooked job.parts.digest (frames_of job) disk.history disk_after.history ledger
           → MatchResult ledger Found (λ fault. (reached ≡ outcome_of_fault fault) ⊎ (reached ≡ outcomes.NoMemory))
@@ -227,21 +240,27 @@ module _ (laws : OneJob) (world : World) (path : List ℕ) (disk : DiskState) (p
   verify_complete : (disk_after : DiskState) (loads loads_after : ℕ) (reached : Outcome) (output : List ℕ) → IsVerifyReply told path disk disk_after loads loads_after reached output
       → reached ≢ outcomes.SourceFault → reached ≢ outcomes.DiskFault → IsComplete (commands.Verify path) reached
   verify_complete disk_after loads loads_after reached output (inl has) no_source no_disk =
-      seen_complete (commands.Verify path) _ has.job disk_after reached has.comes has.looked (λ view checked. checked_complete has.job view reached output no_disk checked) no_disk
+      found_complete (commands.Verify path) _ has.job disk_after reached has.comes has.looked.seen (λ view checked. checked_complete has.job view reached output no_disk checked) no_disk
   verify_complete disk_after loads loads_after reached output (inr none) no_source no_disk =
       through (commands.Verify path) reached (planned_complete laws told world path reached is (place.job, place.comes) none.why none.kind no_source)
 
-  counted_complete : (reached : Outcome) → reached ≢ outcomes.DiskFault → IsOfCount reached → IsThrough reached
-  counted_complete outcomes.Done no_disk kind = inl refl
-  counted_complete outcomes.DiskFault no_disk kind = absurd (no_disk refl)
-  counted_complete outcomes.NoMemory no_disk kind = inr refl
-  counted_complete other no_disk kind = absurd kind
+  behind_complete : (reached : Outcome) → reached ≢ outcomes.DiskFault → IsBehindLook reached → IsThrough reached
+  behind_complete outcomes.Done no_disk kind = inl refl
+  behind_complete outcomes.DiskFault no_disk kind = absurd (no_disk refl)
+  behind_complete outcomes.NoMemory no_disk kind = inr refl
+  behind_complete other no_disk kind = absurd kind
 
   qc_complete : {kinds : List ProbeKind} (disk_after : DiskState) (loads loads_after : ℕ) (reached : Outcome) (output : List ℕ) → IsQcReply kinds told path disk disk_after loads loads_after reached output
       → reached ≢ outcomes.SourceFault → reached ≢ outcomes.DiskFault → IsThrough reached
   qc_complete disk_after loads loads_after reached output (inl has) no_source no_disk =
-      seen_complete (commands.Qc path) _ has.job disk_after reached has.comes has.looked (λ view counted. counted_complete reached no_disk counted.kind) no_disk
+      found_complete (commands.Qc path) _ has.job disk_after reached has.comes has.looked.seen (λ view counted. behind_complete reached no_disk counted.kind) no_disk
   qc_complete disk_after loads loads_after reached output (inr none) no_source no_disk = planned_complete laws told world path reached is (place.job, place.comes) none.why none.kind no_source
+
+  sheet_complete : {tone : List ℕ} (disk_after : DiskState) (loads loads_after : ℕ) (reached : Outcome) (output : List ℕ) → IsSheetReply tone told path disk disk_after loads loads_after reached output
+      → reached ≢ outcomes.SourceFault → reached ≢ outcomes.DiskFault → IsThrough reached
+  sheet_complete disk_after loads loads_after reached output (inl has) no_source no_disk =
+      found_complete (commands.Sheet path) _ has.job disk_after reached has.comes has.looked.seen (λ view sheeted. behind_complete reached no_disk sheeted.kind) no_disk
+  sheet_complete disk_after loads loads_after reached output (inr none) no_source no_disk = planned_complete laws told world path reached is (place.job, place.comes) none.why none.kind no_source
 
   -- the same of a crew's run
   steps_complete : (log : List ShareStep) (job : JobData) (old new : History) (how : RunEnd) (report : Report) (tells : Bool) (steps : Option (List Step)) → tells ≡ true → IsFit job.parts.digest (frames_of job) (view_of old)
@@ -251,47 +270,120 @@ module _ (laws : OneJob) (world : World) (path : List ℕ) (disk : DiskState) (p
   steps_complete log job old new how report tells None tell fit (inr unmade) none_source none_disk = inr unmade.no_memory
   steps_complete log job old new how report tells (Some all) tell fit crewed none_source none_disk = opened_complete job told world how is crewed.is_end none_source none_disk
 
+-- ---- an adoption
+
+-- frames were taken over, or were not
+adoption_complete : (job old_job : JobData) (tells : Bool) (old old_after disk between : History) (why : AdoptFault) → tells ≡ true
+    → IsFit old_job.parts.digest (frames_of old_job) (view_of old) → IsFit job.parts.digest (frames_of job) (view_of disk)
+    → HasAnswered job old_job tells old old_after disk between (Err why) → adopted.outcome_of_fault why ≢ outcomes.DiskFault → IsThrough (adopted.outcome_of_fault why)
+adoption_complete job old_job tells old old_after disk between (adopts.OldOtherJob kept wanted) told old_fit fit answer no_disk =
+    absurd (other_apart old_job.parts.digest kept wanted (frames_of old_job) old old_after old_fit (answer.2 told))
+adoption_complete job old_job tells old old_after disk between (adopts.OldBadLedger len) told old_fit fit answer no_disk =
+    absurd (bad_apart old_job.parts.digest (frames_of old_job) len old old_after old_fit (answer told))
+adoption_complete job old_job tells old old_after disk between (adopts.OtherJob kept wanted) told old_fit fit answer no_disk =
+    absurd (other_apart job.parts.digest kept wanted (frames_of job) disk between fit (answer.2 told).1)
+adoption_complete job old_job tells old old_after disk between (adopts.BadLedger len) told old_fit fit answer no_disk =
+    absurd (bad_apart job.parts.digest (frames_of job) len disk between fit (answer told).1)
+adoption_complete job old_job tells old old_after disk between adopts.DiskFault told old_fit fit answer no_disk = absurd (no_disk refl)
+adoption_complete job old_job tells old old_after disk between adopts.NoMemory told old_fit fit answer no_disk = inr refl
+
+module _ (laws : OneJob) (world : World) (path old_path : List ℕ) (disk old : DiskState) (place : HasFitFolder world path disk) (old_place : HasSoundFolder world old_path old) (told : Option World) (is : told ≡ Some world) where
+  -- the rest was run
+  rest_complete : (job : JobData) (done : Adopted) (between disk_after : DiskState) (loads loads_after : ℕ) (reached : Outcome) (output : List ℕ) → between.tells ≡ true → IsFit job.parts.digest (frames_of job) (view_of between.history)
+      → IsRest job told done between disk_after loads loads_after reached output → reached ≢ outcomes.SourceFault → reached ≢ outcomes.DiskFault → IsThrough reached
+  rest_complete job done between disk_after loads loads_after reached output tells fit rest no_source no_disk =
+      ran_complete world told is job between disk_after loads loads_after reached rest.run_output tells fit rest.run no_source no_disk
+
+  went_complete : (job old_job : JobData) (old_after disk_after : DiskState) (loads loads_after : ℕ) (reached : Outcome) (output : List ℕ)
+      → IsFit old_job.parts.digest (frames_of old_job) (view_of old.history) → IsFit job.parts.digest (frames_of job) (view_of disk.history)
+      → IsAdoption job old_job told old old_after disk disk_after loads loads_after reached output → reached ≢ outcomes.SourceFault → reached ≢ outcomes.DiskFault → IsThrough reached
+  went_complete job old_job old_after disk_after loads loads_after reached output old_fit fit went no_source no_disk = by went.adopted went.answer went.went
+    where
+      by : (adopted : Result Adopted AdoptFault) → HasAnswered job old_job disk.tells old.history old_after.history disk.history went.between.history adopted
+          → MatchResult adopted (λ done. IsRest job told done went.between disk_after loads loads_after reached output) (λ why. IsUnadopted why went.between disk_after loads loads_after reached)
+          → IsThrough reached
+      by (Ok done) answer rest = rest_complete job done went.between disk_after loads loads_after reached output (went.tells ∙ place.tells) (answer.fit place.tells) rest no_source no_disk
+      by (Err why) answer unadopted = subst IsThrough (sym unadopted.reached_is)
+          (adoption_complete job old_job disk.tells old.history old_after.history disk.history went.between.history why place.tells old_fit fit answer (λ failed. no_disk (unadopted.reached_is ∙ failed)))
+
+  -- what the old project came to in place of a job
+  of_old_complete : (found reached : Outcome) → reached ≡ adopted.of_old_project found → (found ≢ outcomes.SourceFault → IsThrough found) → reached ≢ outcomes.SourceFault → IsThrough reached
+  of_old_complete found reached reached_is through_found no_source = by found reached_is through_found
+    where
+      by : (found : Outcome) → reached ≡ adopted.of_old_project found → (found ≢ outcomes.SourceFault → IsThrough found) → IsThrough reached
+      by (outcomes.Refused refusal) reached_is through_found = absurd (elim (through_found (λ same. cc)) [
+        | inl done ↦ cc
+        | inr memory ↦ cc
+      ])
+      by other reached_is through_found = subst IsThrough (sym reached_is) (through_found (λ source. no_source (reached_is ∙ source)))
+
+  onward_complete : (job : JobData) (old_after disk_after : DiskState) (loads loads_after : ℕ) (reached : Outcome) (output : List ℕ) → IfSome told (λ files. ComesTo (file_at files) path (Ok job.parts))
+      → GoesOn job told old_path old old_after disk disk_after loads loads_after reached output → reached ≢ outcomes.SourceFault → reached ≢ outcomes.DiskFault → IsThrough reached
+  onward_complete job old_after disk_after loads loads_after reached output comes (inl has) no_source no_disk =
+      went_complete job has.old_job old_after disk_after has.planned loads_after reached output
+      (fit_for laws world old_path old old_place.place told is has.old_job has.came.comes) (fit_for laws world path disk place told is job comes) has.went no_source no_disk
+  onward_complete job old_after disk_after loads loads_after reached output comes (inr none) no_source no_disk =
+      of_old_complete none.found reached none.reached_is
+      (λ none_source. planned_complete laws told world old_path none.found is (old_place.place.job, old_place.place.comes) none.unplanned.why none.unplanned.kind none_source) no_source
+
+  adopt_complete : (disk_after old_after : DiskState) (loads loads_after : ℕ) (reached : Outcome) (output : List ℕ) → IsAdoptReply told path old_path old old_after disk disk_after loads loads_after reached output
+      → reached ≢ outcomes.SourceFault → reached ≢ outcomes.DiskFault → IsThrough reached
+  adopt_complete disk_after old_after loads loads_after reached output (inl has) no_source no_disk =
+      onward_complete has.job old_after disk_after has.planned loads_after reached output has.came.comes has.went no_source no_disk
+  adopt_complete disk_after old_after loads loads_after reached output (inr none) no_source no_disk =
+      planned_complete laws told world path reached is (place.job, place.comes) none.unplanned.why none.unplanned.kind no_source
+
 -- ---- one thread
 
-reply_complete : {kinds : List ProbeKind} → OneJob → (command : Command) (world : World) (scan scan_after : ScanState) (disk disk_after : DiskState) (reached : Outcome) (output : List ℕ) → scan.world ≡ Some world → IsAccepted command world disk
-    → IsWholeReply kinds command scan scan_after disk disk_after reached output → reached ≢ outcomes.SourceFault → reached ≢ outcomes.DiskFault → IsComplete command reached
-reply_complete laws (commands.Frame path) world scan scan_after disk disk_after reached output is accepted whole no_source no_disk =
+reply_complete : {house : House} → OneJob → (command : Command) (world : World) (scan scan_after : ScanState) (folders folders_after : Folders) (reached : Outcome) (output : List ℕ) → scan.world ≡ Some world → IsAccepted command world folders
+    → IsWholeReply house command scan scan_after folders folders_after reached output → reached ≢ outcomes.SourceFault → reached ≢ outcomes.DiskFault → IsComplete command reached
+reply_complete laws (commands.Frame path) world scan scan_after folders folders_after reached output is accepted whole no_source no_disk =
     let right = whole.reply.right in
     let file = at_world scan.world world (λ files. right.0 ≡ file_at files path) is right.1 in
     frame_complete right.0 reached (subst (λ f. IsFrameCase f outcomes.Done) (sym file) accepted) right.2.case no_source
-reply_complete laws (commands.List path rate) world scan scan_after disk disk_after reached output is accepted whole no_source no_disk =
+reply_complete laws (commands.List path rate) world scan scan_after folders folders_after reached output is accepted whole no_source no_disk =
     let right = whole.reply.right in
     let file = at_world scan.world world (λ files. right.0 ≡ file_at files path) is right.1 in
     list_complete rate right.0 reached (subst (λ f. IsListCase rate f outcomes.Done) (sym file) accepted) right.2.case no_source
-reply_complete laws (commands.Plan path) world scan scan_after disk disk_after reached output is accepted whole no_source no_disk =
+reply_complete laws (commands.Plan path) world scan scan_after folders folders_after reached output is accepted whole no_source no_disk =
     job_complete laws IsPlanForm world path output scan scan_after reached accepted
     (at_world scan.world world (λ files. IsJobReply IsPlanForm (file_at files) path reached output scan scan_after) is whole.reply.right) no_source
-reply_complete laws (commands.Run path workers share) world scan scan_after disk disk_after reached output is accepted whole no_source no_disk =
-    run_complete laws world path disk accepted scan.world is disk_after scan.loads scan_after.loads reached output whole.folder no_source no_disk
-reply_complete laws (commands.Status path) world scan scan_after disk disk_after reached output is accepted whole no_source no_disk =
-    status_complete laws world path disk accepted scan.world is disk_after scan.loads scan_after.loads reached output whole.folder no_source no_disk
-reply_complete laws (commands.Verify path) world scan scan_after disk disk_after reached output is accepted whole no_source no_disk =
-    verify_complete laws world path disk accepted scan.world is disk_after scan.loads scan_after.loads reached output whole.folder no_source no_disk
-reply_complete laws (commands.Qc path) world scan scan_after disk disk_after reached output is accepted whole no_source no_disk =
-    qc_complete laws world path disk accepted scan.world is disk_after scan.loads scan_after.loads reached output whole.folder no_source no_disk
-reply_complete laws (commands.Pull path margin) world scan scan_after disk disk_after reached output is accepted whole no_source no_disk =
+reply_complete laws (commands.Run path workers share) world scan scan_after folders folders_after reached output is accepted whole no_source no_disk =
+    run_complete laws world path folders.reel accepted scan.world is folders_after.reel scan.loads scan_after.loads reached output whole.folder no_source no_disk
+reply_complete laws (commands.Status path) world scan scan_after folders folders_after reached output is accepted whole no_source no_disk =
+    status_complete laws world path folders.reel accepted scan.world is folders_after.reel scan.loads scan_after.loads reached output whole.folder no_source no_disk
+reply_complete laws (commands.Verify path) world scan scan_after folders folders_after reached output is accepted whole no_source no_disk =
+    verify_complete laws world path folders.reel accepted scan.world is folders_after.reel scan.loads scan_after.loads reached output whole.folder no_source no_disk
+reply_complete laws (commands.Qc path) world scan scan_after folders folders_after reached output is accepted whole no_source no_disk =
+    qc_complete laws world path folders.reel accepted scan.world is folders_after.reel scan.loads scan_after.loads reached output whole.folder no_source no_disk
+reply_complete laws (commands.Sheet path) world scan scan_after folders folders_after reached output is accepted whole no_source no_disk =
+    sheet_complete laws world path folders.reel accepted scan.world is folders_after.reel scan.loads scan_after.loads reached output whole.folder no_source no_disk
+reply_complete laws (commands.Adopt path old_path) world scan scan_after folders folders_after reached output is accepted whole no_source no_disk =
+    adopt_complete laws world path old_path folders.reel folders.old accepted.0 accepted.1 scan.world is folders_after.reel folders_after.old scan.loads scan_after.loads reached output whole.folder no_source no_disk
+reply_complete laws (commands.Pull path margin) world scan scan_after folders folders_after reached output is accepted whole no_source no_disk =
     job_complete laws (IsPullForm margin) world path output scan scan_after reached accepted
     (at_world scan.world world (λ files. IsJobReply (IsPullForm margin) (file_at files) path reached output scan scan_after) is whole.reply.right) no_source
-reply_complete laws (commands.Demo count) world scan scan_after disk disk_after reached output is accepted whole no_source no_disk =
+reply_complete laws (commands.Demo count) world scan scan_after folders folders_after reached output is accepted whole no_source no_disk =
     demo_complete laws count output reached accepted whole.reply.right
+
+-- no call failed on a folder
+disks_steady : (command : Command) (folders folders_after : Folders) → HasNotRisen folders.reel.faults folders_after.reel.faults → HasNotRisen folders.old.faults folders_after.old.faults → HasFailedDisk command folders folders_after → ⊥
+disks_steady (commands.Adopt path old_path) folders folders_after disk_steady old_steady (inl failed) = old_steady failed
+disks_steady (commands.Adopt path old_path) folders folders_after disk_steady old_steady (inr failed) = disk_steady failed
+disks_steady command folders folders_after disk_steady old_steady failed = disk_steady failed
 
 put_complete : (command : Command) (sink sink_after : SinkState) (reached : Outcome) (output : List ℕ) (result : Outcome) → IsPut sink sink_after reached output result → HasNotRisen sink.faults sink_after.faults → IsComplete command reached → IsComplete command result
 put_complete command sink sink_after reached output result (inl put) steady complete = subst (IsComplete command) (sym put.0) complete
 put_complete command sink sink_after reached output result (inr put) steady complete = absurd (steady put.2)
 
-pub answered_complete : {kinds : List ProbeKind} → OneJob → (words : List (List ℕ)) (scan scan_after : ScanState) (disk disk_after : DiskState) (sink sink_after : SinkState) (result : Outcome)
-    → Answered kinds words scan scan_after disk disk_after sink sink_after result
-    → (command : Command) (world : World) → Spells words command → scan.world ≡ Some world → IsAccepted command world disk
-    → HasNotRisen scan.faults scan_after.faults → HasNotRisen disk.faults disk_after.faults → HasNotRisen sink.faults sink_after.faults → IsComplete command result
-answered_complete laws words scan scan_after disk disk_after sink sink_after result answered command world spells is accepted scans_steady disk_steady sink_steady =
+pub answered_complete : {house : House} → OneJob → (words : List (List ℕ)) (scan scan_after : ScanState) (folders folders_after : Folders) (sink sink_after : SinkState) (result : Outcome)
+    → Answered house words scan scan_after folders folders_after sink sink_after result
+    → (command : Command) (world : World) → Spells words command → scan.world ≡ Some world → IsAccepted command world folders
+    → HasNotRisen scan.faults scan_after.faults → HasNotRisen folders.reel.faults folders_after.reel.faults → HasNotRisen folders.old.faults folders_after.old.faults → HasNotRisen sink.faults sink_after.faults → IsComplete command result
+answered_complete laws words scan scan_after folders folders_after sink sink_after result answered command world spells is accepted scans_steady disk_steady old_steady sink_steady =
     put_complete command sink sink_after answered.reached answered.output result answered.put sink_steady (elim (answered.reply command spells) [
-      | inl whole ↦ reply_complete laws command world scan scan_after disk disk_after answered.reached answered.output is accepted whole
-          (λ source. scans_steady (whole.reply.source_fault source)) (λ failed. disk_steady (whole.disk_fault failed))
+      | inl whole ↦ reply_complete laws command world scan scan_after folders folders_after answered.reached answered.output is accepted whole
+          (λ source. scans_steady (whole.reply.source_fault source)) (λ failed. disks_steady command folders folders_after disk_steady old_steady (whole.disk_fault failed))
       | inr unread ↦ through command answered.reached (inr unread.reached_is)
     ])
 
@@ -329,6 +421,9 @@ unfailed command outcomes.Usage kind no_source no_disk = kind
 unfailed command (outcomes.Refused refusal) kind no_source no_disk = kind
 unfailed command (outcomes.OtherJob kept wanted) kind no_source no_disk = kind
 unfailed command (outcomes.BadLedger len) kind no_source no_disk = kind
+unfailed command (outcomes.OldRefused refusal) kind no_source no_disk = kind
+unfailed command (outcomes.OldOtherJob kept wanted) kind no_source no_disk = kind
+unfailed command (outcomes.OldBadLedger len) kind no_source no_disk = kind
 unfailed command (outcomes.Damaged frame kept found) kind no_source no_disk = kind
 unfailed command (outcomes.Changed reel key was now) kind no_source no_disk = kind
 unfailed command (outcomes.SinkFault instead) kind no_source no_disk = kind
@@ -343,13 +438,13 @@ put_unfailed : (command : Command) (sink sink_after : SinkState) (reached : Outc
 put_unfailed command sink sink_after reached output result (inl put) steady is = subst (IsUnfailed command) (sym put.0) is
 put_unfailed command sink sink_after reached output result (inr put) steady is = absurd (steady put.2)
 
-pub answered_unfailed : {kinds : List ProbeKind} (words : List (List ℕ)) (scan scan_after : ScanState) (disk disk_after : DiskState) (sink sink_after : SinkState) (result : Outcome)
-    → Answered kinds words scan scan_after disk disk_after sink sink_after result
+pub answered_unfailed : {house : House} (words : List (List ℕ)) (scan scan_after : ScanState) (folders folders_after : Folders) (sink sink_after : SinkState) (result : Outcome)
+    → Answered house words scan scan_after folders folders_after sink sink_after result
     → (command : Command) → Spells words command
-    → HasNotRisen scan.faults scan_after.faults → HasNotRisen disk.faults disk_after.faults → HasNotRisen sink.faults sink_after.faults → IsUnfailed command result
-answered_unfailed words scan scan_after disk disk_after sink sink_after result answered command spells scans_steady disk_steady sink_steady =
+    → HasNotRisen scan.faults scan_after.faults → HasNotRisen folders.reel.faults folders_after.reel.faults → HasNotRisen folders.old.faults folders_after.old.faults → HasNotRisen sink.faults sink_after.faults → IsUnfailed command result
+answered_unfailed words scan scan_after folders folders_after sink sink_after result answered command spells scans_steady disk_steady old_steady sink_steady =
     put_unfailed command sink sink_after answered.reached answered.output result answered.put sink_steady (elim (answered.reply command spells) [
-      | inl whole ↦ unfailed command answered.reached whole.reply.kind (λ source. scans_steady (whole.reply.source_fault source)) (λ failed. disk_steady (whole.disk_fault failed))
+      | inl whole ↦ unfailed command answered.reached whole.reply.kind (λ source. scans_steady (whole.reply.source_fault source)) (λ failed. disks_steady command folders folders_after disk_steady old_steady (whole.disk_fault failed))
       | inr unread ↦ subst (IsUnfailed command) (sym unread.reached_is) tt
     ])
 

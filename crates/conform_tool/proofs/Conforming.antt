@@ -139,6 +139,10 @@ found_run words found p w s says is = subst (IsFoundIn words) is says
 pub found_command : (words : List (List ℕ)) (found : Option Command) (command : Command) (p : List ℕ) (w s : ℕ) → IsFoundIn words found → found ≡ Some (commands.Run p w s) → Spells words command → command ≡ commands.Run p w s
 found_command words found command p w s says is spells = same_Some _ _ (sym (spelled_found words found command says spells) ∙ is)
 
+-- an adoption is no run
+pub adopts_no_run : (path old_path p : List ℕ) (w s : ℕ) → commands.Adopt path old_path ≡ commands.Run p w s → ⊥
+adopts_no_run path old_path p w s is = cc
+
 -- where no run with several workers was found, the words spell none
 pub alone_found : (words : List (List ℕ)) (found : Option Command) → IsFoundIn words found → ((path : List ℕ) (workers share : ℕ) → found ≡ Some (commands.Run path workers share) → workers ≤ 1) → IsAlone words
 alone_found words found says none path workers share spells = none path workers share (spelled_found words found (commands.Run path workers share) says spells)

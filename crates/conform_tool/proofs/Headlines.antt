@@ -20,17 +20,17 @@ use Rattle.single_run.specs.declared.run_end.RunEnd.{RunEnd}
 use Rattle.single_run.specs.declared.run_end.RunEnd.TheVariants as ends
 use Rattle.project_job.specs.Jobs.{ComesTo, IsOfJob}
 use Rattle.project_job.specs.Laws.{OneJob}
+use Rattle.project_adopt.specs.Adopt.{GoesOn, IsAdoptReply, IsOldSound, of_old_project}
 use Rattle.project_run.specs.Run.{DiskState, IsOfRun, IsRunReply, outcome_of_end}
 use Rattle.project_run.specs.Crew.{IsCrewReply, told_by}
 use Rattle.command_words.specs.declared.command.Command.TheVariants as commands
 use Rattle.outcome_line.specs.Output.{status_of}
 use Rattle.outcome_line.specs.declared.outcome.Outcome.{Outcome}
 use Rattle.outcome_line.specs.declared.outcome.Outcome.TheVariants as outcomes
-use Rattle.reel_qc.specs.declared.probe.ProbeKind.{ProbeKind}
-use Rattle.conform_tool.specs.Reply.{ScanState, IsKindOf}
-use Rattle.conform_tool.specs.Answer.{SinkState, IsPut, Answered}
+use Rattle.conform_tool.specs.Reply.{Folders, House, ScanState, IsKindOf}
+use Rattle.conform_tool.specs.Answer.{SinkState, IsPut, IsUnread, Answered}
 use Rattle.conform_tool.specs.Conform.{CrewAnswered}
-use Rattle.conform_tool.specs.Headline.{RunsJob, IsEmptyFolder, IsBeginning, left_with, KeepsItsPromise, HasEnded}
+use Rattle.conform_tool.specs.Headline.{AdoptsJob, RunsJob, IsEmptyFolder, IsBeginning, left_with, KeepsItsPromise, HasEnded}
 
 pub at_world : (told : Option World) (world : World) (P : World → Type 0) → told ≡ Some world → IfSome told P → P world
 at_world told world P is holds = subst (λ t. IfSome t P) is holds
@@ -125,6 +125,9 @@ done_status outcomes.Usage is = absurd (omega (arith, is))
 done_status (outcomes.Refused refusal) is = absurd (omega (arith, is))
 done_status (outcomes.OtherJob kept wanted) is = absurd (omega (arith, is))
 done_status (outcomes.BadLedger len) is = absurd (omega (arith, is))
+done_status (outcomes.OldRefused refusal) is = absurd (omega (arith, is))
+done_status (outcomes.OldOtherJob kept wanted) is = absurd (omega (arith, is))
+done_status (outcomes.OldBadLedger len) is = absurd (omega (arith, is))
 done_status (outcomes.Damaged frame kept found) is = absurd (omega (arith, is))
 done_status (outcomes.Changed reel key was now) is = absurd (omega (arith, is))
 done_status outcomes.SourceFault is = absurd (omega (arith, is))
@@ -169,6 +172,13 @@ memory_not_done sink sink_after reached output result put memory ended =
 
 -- ---- one thread
 
+unread_promise : (words : List (List ℕ)) (scan scan_after : ScanState) (folders folders_after : Folders) (sink sink_after : SinkState) (result reached : Outcome) (output : List ℕ) (job : JobData) (world : World)
+    → IsPut sink sink_after reached output result → IsUnread outcomes.NoMemory scan scan_after folders folders_after reached output
+    → KeepsItsPromise job world folders.reel.history folders_after.reel.history (HasEnded result)
+unread_promise words scan scan_after folders folders_after sink sink_after result reached output job world put unread =
+    subst (λ (after : Folders). KeepsItsPromise job world folders.reel.history after.reel.history (HasEnded result)) (sym unread.untouched_folders)
+    (still_promise job world folders.reel.history (HasEnded result) (λ ended. memory_not_done sink sink_after reached output result put unread.reached_is ended))
+
 module _ (laws : OneJob) (job : JobData) (world : World) (path : List ℕ) (comes : ComesTo (file_at world) path (Ok job.parts)) where
   reply_promise : {share : ℕ} (told : Option World) (disk disk_after : DiskState) (loads loads_after : ℕ) (reached : Outcome) (output : List ℕ) (Ended : Type 0)
       → told ≡ Some world → disk.tells ≡ true → (Ended → reached ≡ outcomes.Done) → IsRunReply told path share disk disk_after loads loads_after reached output
@@ -193,14 +203,65 @@ module _ (laws : OneJob) (job : JobData) (world : World) (path : List ℕ) (come
       (still_promise job world disk.history Ended (λ ended. job_not_done reached none.kind (done ended)))
 
 -- by the answer of one thread
-pub answered_promise : {kinds : List ProbeKind} (laws : OneJob) (words : List (List ℕ)) (scan scan_after : ScanState) (disk disk_after : DiskState) (sink sink_after : SinkState) (result : Outcome)
-    → Answered kinds words scan scan_after disk disk_after sink sink_after result
-    → (world : World) (job : JobData) → RunsJob words scan.world disk.tells world job → KeepsItsPromise job world disk.history disk_after.history (HasEnded result)
-answered_promise laws words scan scan_after disk disk_after sink sink_after result answered world job runs = elim (answered.reply (commands.Run runs.path runs.workers runs.share) runs.spells) [
-  | inl whole ↦ reply_promise laws job world runs.path runs.comes scan.world disk disk_after scan.loads scan_after.loads answered.reached answered.output (HasEnded result) runs.scans_tell runs.disk_tells
+pub answered_promise : {house : House} (laws : OneJob) (words : List (List ℕ)) (scan scan_after : ScanState) (folders folders_after : Folders) (sink sink_after : SinkState) (result : Outcome)
+    → Answered house words scan scan_after folders folders_after sink sink_after result
+    → (world : World) (job : JobData) → RunsJob words scan.world folders.reel.tells world job → KeepsItsPromise job world folders.reel.history folders_after.reel.history (HasEnded result)
+answered_promise laws words scan scan_after folders folders_after sink sink_after result answered world job runs = elim (answered.reply (commands.Run runs.path runs.workers runs.share) runs.spells) [
+  | inl whole ↦ reply_promise laws job world runs.path runs.comes scan.world folders.reel folders_after.reel scan.loads scan_after.loads answered.reached answered.output (HasEnded result) runs.scans_tell runs.disk_tells
       (reached_done sink sink_after answered.reached answered.output result answered.put (λ instead is. subst (IsKindOf (commands.Run runs.path runs.workers runs.share)) is whole.reply.kind)) whole.folder
-  | inr unread ↦ subst (λ (after : DiskState). KeepsItsPromise job world disk.history after.history (HasEnded result)) (sym unread.untouched_disk)
-      (still_promise job world disk.history (HasEnded result) (λ ended. memory_not_done sink sink_after answered.reached answered.output result answered.put unread.reached_is ended))
+  | inr unread ↦ unread_promise words scan scan_after folders folders_after sink sink_after result answered.reached answered.output job world answered.put unread
+]
+
+-- ---- an adoption
+
+no_old_job : (found : Outcome) → IsOfJob found → of_old_project found ≢ outcomes.Done
+no_old_job (outcomes.Refused refusal) kind is = cc
+no_old_job outcomes.SourceFault kind is = cc
+no_old_job outcomes.NoMemory kind is = cc
+no_old_job outcomes.Done kind is = absurd kind
+no_old_job outcomes.Usage kind is = absurd kind
+no_old_job (outcomes.OtherJob kept wanted) kind is = absurd kind
+no_old_job (outcomes.BadLedger len) kind is = absurd kind
+no_old_job (outcomes.OldRefused refusal) kind is = absurd kind
+no_old_job (outcomes.OldOtherJob kept wanted) kind is = absurd kind
+no_old_job (outcomes.OldBadLedger len) kind is = absurd kind
+no_old_job (outcomes.Damaged frame kept found) kind is = absurd kind
+no_old_job (outcomes.Changed reel key was now) kind is = absurd kind
+no_old_job outcomes.DiskFault kind is = absurd kind
+no_old_job (outcomes.SinkFault instead) kind is = absurd kind
+
+module _ (laws : OneJob) (job : JobData) (world : World) (path old_path : List ℕ) (comes : ComesTo (file_at world) path (Ok job.parts)) (told : Option World) (is : told ≡ Some world) where
+  -- the old project came to some job, or to none
+  onward_promise : (ran : JobData) (old old_after disk disk_after : DiskState) (loads loads_after : ℕ) (reached : Outcome) (output : List ℕ) (Ended : Type 0)
+      → ((old_job : JobData) → ComesTo (file_at world) old_path (Ok old_job.parts) → IsOldSound old_job world (view_of old.history))
+      → ran.parts ≡ job.parts → disk.tells ≡ true → (Ended → reached ≡ outcomes.Done) → GoesOn ran told old_path old old_after disk disk_after loads loads_after reached output
+      → KeepsItsPromise job world disk.history disk_after.history Ended
+  onward_promise ran old old_after disk disk_after loads loads_after reached output Ended sound same tells done (inl has) =
+      let came = at_world told world (λ w. ComesTo (file_at w) old_path (Ok has.old_job.parts)) is has.came.comes in
+      let promised = has.sound tells (subst (λ t. IfSome t (λ w. IsOldSound has.old_job w (view_of old.history))) (sym is) (sound has.old_job came)) in
+      run_promise job ran told world disk.history disk_after.history Ended is same promised.run has.went.sound_has (λ ended. has.went.acked (done ended) tells)
+  onward_promise ran old old_after disk disk_after loads loads_after reached output Ended sound same tells done (inr none) =
+      subst (λ (after : DiskState). KeepsItsPromise job world disk.history after.history Ended) (sym none.unplanned.untouched)
+      (still_promise job world disk.history Ended (λ ended. no_old_job none.found none.unplanned.kind (sym none.reached_is ∙ done ended)))
+
+  adopt_promise : (old old_after disk disk_after : DiskState) (loads loads_after : ℕ) (reached : Outcome) (output : List ℕ) (Ended : Type 0)
+      → ((old_job : JobData) → ComesTo (file_at world) old_path (Ok old_job.parts) → IsOldSound old_job world (view_of old.history))
+      → disk.tells ≡ true → (Ended → reached ≡ outcomes.Done) → IsAdoptReply told path old_path old old_after disk disk_after loads loads_after reached output
+      → KeepsItsPromise job world disk.history disk_after.history Ended
+  adopt_promise old old_after disk disk_after loads loads_after reached output Ended sound tells done (inl has) =
+      onward_promise has.job old old_after disk disk_after has.planned loads_after reached output Ended sound
+      (laws.one (file_at world) path has.job.parts job.parts (at_world told world (λ w. ComesTo (file_at w) path (Ok has.job.parts)) is has.came.comes) comes) tells done has.went
+  adopt_promise old old_after disk disk_after loads loads_after reached output Ended sound tells done (inr none) =
+      subst (λ (after : DiskState). KeepsItsPromise job world disk.history after.history Ended) (sym none.unplanned.untouched)
+      (still_promise job world disk.history Ended (λ ended. job_not_done reached none.unplanned.kind (done ended)))
+
+pub answered_adoption : {house : House} (laws : OneJob) (words : List (List ℕ)) (scan scan_after : ScanState) (folders folders_after : Folders) (sink sink_after : SinkState) (result : Outcome)
+    → Answered house words scan scan_after folders folders_after sink sink_after result
+    → (world : World) (job : JobData) → AdoptsJob words scan.world folders.reel.tells world (view_of folders.old.history) job → KeepsItsPromise job world folders.reel.history folders_after.reel.history (HasEnded result)
+answered_adoption laws words scan scan_after folders folders_after sink sink_after result answered world job adopts = elim (answered.reply (commands.Adopt adopts.path adopts.old_path) adopts.spells) [
+  | inl whole ↦ adopt_promise laws job world adopts.path adopts.old_path adopts.comes scan.world adopts.scans_tell folders.old folders_after.old folders.reel folders_after.reel scan.loads scan_after.loads answered.reached answered.output (HasEnded result) adopts.old_sound adopts.disk_tells
+      (reached_done sink sink_after answered.reached answered.output result answered.put (λ instead is. subst (IsKindOf (commands.Adopt adopts.path adopts.old_path)) is whole.reply.kind)) whole.folder
+  | inr unread ↦ unread_promise words scan scan_after folders folders_after sink sink_after result answered.reached answered.output job world answered.put unread
 ]
 
 -- ---- a crew

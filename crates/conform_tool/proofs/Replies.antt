@@ -19,9 +19,10 @@ use Rattle.outcome_line.specs.declared.outcome.Which.TheVariants as which
 use Rattle.conform_tool.specs.Faults.{IfFault}
 use Rattle.outcome_line.specs.Output.{line_of}
 use Rattle.project_run.specs.Run.{IsOfRun}
+use Rattle.project_adopt.specs.Adopt.{IsOfAdopt}
 use Rattle.project_run.specs.Look.{IsOfLook}
 use Rattle.project_run.specs.Verify.{IsOfVerify}
-use Rattle.conform_tool.specs.Reply.{ScanState, ByFile, IsRight, IsRightBy, HasLoaded, LooksAtHeads, IsKindOf, IsReply}
+use Rattle.conform_tool.specs.Reply.{CallsDisk, ScanState, ByFile, IsRight, IsRightBy, HasLoaded, LooksAtHeads, IsKindOf, IsReply}
 use Rattle.command_words.specs.declared.command.Command.{Command}
 use Rattle.command_words.specs.declared.command.Command.TheVariants as commands
 use Rattle.outcome_line.specs.declared.outcome.Outcome.{Outcome}
@@ -75,6 +76,9 @@ by_missing world path absent Done P told kind gone fault memory = absurd kind
 by_missing world path absent Usage P told kind gone fault memory = absurd kind
 by_missing world path absent (outcomes.OtherJob kept wanted) P told kind gone fault memory = absurd kind
 by_missing world path absent (outcomes.BadLedger len) P told kind gone fault memory = absurd kind
+by_missing world path absent (outcomes.OldRefused refusal) P told kind gone fault memory = absurd kind
+by_missing world path absent (outcomes.OldOtherJob kept wanted) P told kind gone fault memory = absurd kind
+by_missing world path absent (outcomes.OldBadLedger len) P told kind gone fault memory = absurd kind
 by_missing world path absent (outcomes.Damaged frame kept found) P told kind gone fault memory = absurd kind
 by_missing world path absent (outcomes.Changed reel key was now) P told kind gone fault memory = absurd kind
 by_missing world path absent outcomes.DiskFault P told kind gone fault memory = absurd kind
@@ -144,6 +148,8 @@ memory_right (commands.Run path workers share) output before after = tt
 memory_right (commands.Status path) output before after = tt
 memory_right (commands.Verify path) output before after = tt
 memory_right (commands.Qc path) output before after = tt
+memory_right (commands.Sheet path) output before after = tt
+memory_right (commands.Adopt path old_path) output before after = tt
 memory_right (commands.Pull path margin) output before after = told_any before.world (λ world. tt)
 memory_right (commands.Demo count) output before after = tt
 
@@ -160,6 +166,9 @@ replied_load command absent Done kind = absurd kind
 replied_load command absent Usage kind = absurd kind
 replied_load command absent (outcomes.OtherJob kept wanted) kind = absurd kind
 replied_load command absent (outcomes.BadLedger len) kind = absurd kind
+replied_load command absent (outcomes.OldRefused refusal) kind = absurd kind
+replied_load command absent (outcomes.OldOtherJob kept wanted) kind = absurd kind
+replied_load command absent (outcomes.OldBadLedger len) kind = absurd kind
 replied_load command absent (outcomes.Damaged frame kept found) kind = absurd kind
 replied_load command absent (outcomes.Changed reel key was now) kind = absurd kind
 replied_load command absent outcomes.DiskFault kind = absurd kind
@@ -171,33 +180,46 @@ replied_load command absent NoMemory kind = tt
 pub load_isnt_done : (absent : Which) (outcome : Outcome) → IsOfLoad absent outcome → outcome ≢ Done
 load_isnt_done absent outcome kind same = subst (IsOfLoad absent) same kind
 
--- the outcomes of a run, of a look at the folder, of a check of its files and of counts over them are those of their commands
+-- the outcomes of a run, of a look at the folder and of a check of its files are those of their commands
 pub replied_run : (path : List ℕ) (workers share : ℕ) (outcome : Outcome) → IsOfRun outcome → IsKindOf (commands.Run path workers share) outcome
 replied_run path workers share Done kind = absurd kind
 replied_run path workers share Usage kind = absurd kind
 replied_run path workers share (SinkFault instead) kind = absurd kind
+replied_run path workers share (outcomes.OldRefused refusal) kind = absurd kind
+replied_run path workers share (outcomes.OldOtherJob kept wanted) kind = absurd kind
+replied_run path workers share (outcomes.OldBadLedger len) kind = absurd kind
 replied_run path workers share (outcomes.Damaged frame kept found) kind = absurd kind
 replied_run path workers share other kind = tt
 
-pub replied_status : (path : List ℕ) (outcome : Outcome) → IsOfLook outcome → IsKindOf (commands.Status path) outcome
-replied_status path Done kind = absurd kind
-replied_status path Usage kind = absurd kind
-replied_status path (SinkFault instead) kind = absurd kind
-replied_status path (outcomes.Damaged frame kept found) kind = absurd kind
-replied_status path (outcomes.Changed reel key was now) kind = absurd kind
-replied_status path other kind = tt
+pub replied_adopt : (path old_path : List ℕ) (outcome : Outcome) → IsOfAdopt outcome → IsKindOf (commands.Adopt path old_path) outcome
+replied_adopt path old_path Done kind = absurd kind
+replied_adopt path old_path Usage kind = absurd kind
+replied_adopt path old_path (SinkFault instead) kind = absurd kind
+replied_adopt path old_path (outcomes.Damaged frame kept found) kind = absurd kind
+replied_adopt path old_path other kind = tt
+
+pub replied_look : (command : Command) → CallsDisk command → (outcome : Outcome) → IsOfLook outcome → IsKindOf command outcome
+replied_look command calls Done kind = absurd kind
+replied_look command calls Usage kind = absurd kind
+replied_look command calls (SinkFault instead) kind = absurd kind
+replied_look command calls (outcomes.OldRefused refusal) kind = absurd kind
+replied_look command calls (outcomes.OldOtherJob kept wanted) kind = absurd kind
+replied_look command calls (outcomes.OldBadLedger len) kind = absurd kind
+replied_look command calls (outcomes.Damaged frame kept found) kind = absurd kind
+replied_look command calls (outcomes.Changed reel key was now) kind = absurd kind
+replied_look command calls (Refused refusal) kind = tt
+replied_look command calls SourceFault kind = tt
+replied_look command calls NoMemory kind = tt
+replied_look command calls (outcomes.OtherJob kept wanted) kind = calls
+replied_look command calls (outcomes.BadLedger len) kind = calls
+replied_look command calls outcomes.DiskFault kind = calls
 
 pub replied_verify : (path : List ℕ) (outcome : Outcome) → IsOfVerify outcome → IsKindOf (commands.Verify path) outcome
 replied_verify path Done kind = absurd kind
 replied_verify path Usage kind = absurd kind
 replied_verify path (SinkFault instead) kind = absurd kind
+replied_verify path (outcomes.OldRefused refusal) kind = absurd kind
+replied_verify path (outcomes.OldOtherJob kept wanted) kind = absurd kind
+replied_verify path (outcomes.OldBadLedger len) kind = absurd kind
 replied_verify path (outcomes.Changed reel key was now) kind = absurd kind
 replied_verify path other kind = tt
-
-pub replied_qc : (path : List ℕ) (outcome : Outcome) → IsOfLook outcome → IsKindOf (commands.Qc path) outcome
-replied_qc path Done kind = absurd kind
-replied_qc path Usage kind = absurd kind
-replied_qc path (SinkFault instead) kind = absurd kind
-replied_qc path (outcomes.Damaged frame kept found) kind = absurd kind
-replied_qc path (outcomes.Changed reel key was now) kind = absurd kind
-replied_qc path other kind = tt

@@ -1,16 +1,14 @@
 -- What the top call answers and puts.
 --     SinkState, sink_state      what a sink tells at a moment, and its count
 --     IsUnread      an outcome that was reached before anything was read
---     Answered      the answer to these words, over one scan and one disk, with probes of these kinds
+--     Answered      the answer to these words, over one scan and the two folders, in this house
 use Rattle.std.specs.Prelude.{◌≡◌, ◌⊎◌, ℕ, List, Option, MatchOption}
 use Rattle.std.specs.Io.KnownBytes.{Appends}
 use Rattle.cf_base.specs.Count.{HasRisen}
 use Rattle.cf_base.specs.Sink.{AppendsPrefix}
 use Rattle.command_words.specs.Commands.{Spells, IsNoCommand}
 use Rattle.outcome_line.specs.Output.{status_of, line_of, IsMade}
-use Rattle.conform_tool.specs.Reply.{ScanState, IsWholeReply}
-use Rattle.project_run.specs.Run.{DiskState}
-use Rattle.reel_qc.specs.declared.probe.ProbeKind.{ProbeKind}
+use Rattle.conform_tool.specs.Reply.{Folders, House, ScanState, IsWholeReply}
 use Rattle.command_words.specs.declared.command.Command.{Command}
 use Rattle.outcome_line.specs.declared.outcome.Outcome.{Outcome}
 use Rattle.outcome_line.specs.declared.outcome.Outcome.TheVariants.{Usage, SinkFault, NoMemory}
@@ -35,23 +33,23 @@ IsLinePut before after outcome result =
     IsPut before after outcome (line_of outcome) result ⊎ (IsMade outcome × IsPut before after NoMemory (line_of NoMemory) result)
 
 -- This outcome was reached before anything was read, with its line.
-pub record IsUnread (outcome : Outcome) (scan scan_after : ScanState) (disk disk_after : DiskState) (reached : Outcome) (output : List ℕ) : Type 0 where
+pub record IsUnread (outcome : Outcome) (scan scan_after : ScanState) (folders folders_after : Folders) (reached : Outcome) (output : List ℕ) : Type 0 where
   pub reached_is : reached ≡ outcome
   pub line : output ≡ line_of outcome
   pub untouched_scan : scan_after ≡ scan
-  pub untouched_disk : disk_after ≡ disk
+  pub untouched_folders : folders_after ≡ folders
 
 -- what the reading of the words found
 abbrev pub IsFoundIn : List (List ℕ) → Option Command → Type 0
 IsFoundIn words found = MatchOption found (IsNoCommand words) (λ command. Spells words command)
 
 -- Some outcome was reached, with its output, and was put.
-pub record Answered (kinds : List ProbeKind) (words : List (List ℕ)) (scan scan_after : ScanState) (disk disk_after : DiskState) (sink sink_after : SinkState) (result : Outcome) : Type 0 where
+pub record Answered (house : House) (words : List (List ℕ)) (scan scan_after : ScanState) (folders folders_after : Folders) (sink sink_after : SinkState) (result : Outcome) : Type 0 where
   pub reached : Outcome
   pub output : List ℕ
   pub put : IsPut sink sink_after reached output result
   -- words of no command: the usage line, or no memory was left to read them
   pub usage : reached ≡ Usage → IsNoCommand words
-  pub no_command : IsNoCommand words → IsUnread Usage scan scan_after disk disk_after reached output ⊎ IsUnread NoMemory scan scan_after disk disk_after reached output
+  pub no_command : IsNoCommand words → IsUnread Usage scan scan_after folders folders_after reached output ⊎ IsUnread NoMemory scan scan_after folders folders_after reached output
   -- words of a command: its reply, or no memory was left to read them
-  pub reply : (command : Command) → Spells words command → IsWholeReply kinds command scan scan_after disk disk_after reached output ⊎ IsUnread NoMemory scan scan_after disk disk_after reached output
+  pub reply : (command : Command) → Spells words command → IsWholeReply house command scan scan_after folders folders_after reached output ⊎ IsUnread NoMemory scan scan_after folders folders_after reached output

@@ -3,6 +3,7 @@
 -- that answers Done, begun on an empty folder or on what stopped runs of the same job left, leaves the definition's whole reel.
 --
 --     RunsJob words told tells world job      the words run a project that comes to this job, over scans and a disk that tell
+--     AdoptsJob words told tells world old job      the same of an adoption, whose old folder is sound
 --     KeepsItsPromise job world opening now Ended      that sentence, of a run from its opening until now
 -- A job's reel is the same whatever `job.infos` is: it looks at the job's parts alone.
 use Rattle.std.specs.Prelude.{◌≡◌, ◌⊎◌, ℕ, ◌<◌, Bool, true, List, [], Option, Some, None, Ok}
@@ -14,6 +15,7 @@ use Rattle.reel_disk.specs.Disk.{Files, Moment, History, moment_of, view_of}
 use Rattle.reel_disk.specs.Runs.{LeavesOnly, Surely, NeverForgets}
 use Rattle.reel_writer.specs.Reel.{frames_of, HasAcked, HasFrameFiles, IsSoundReel}
 use Rattle.project_job.specs.Jobs.{ComesTo}
+use Rattle.project_adopt.specs.Adopt.{IsOldSound}
 use Rattle.command_words.specs.Commands.{Spells}
 use Rattle.command_words.specs.declared.command.Command.TheVariants as commands
 use Rattle.outcome_line.specs.declared.outcome.Outcome.{Outcome}
@@ -29,6 +31,17 @@ pub record RunsJob (words : List (List ℕ)) (told : Option World) (tells : Bool
   pub scans_tell : told ≡ Some world
   pub disk_tells : tells ≡ true
   pub comes : ComesTo (file_at world) path (Ok job.parts)
+
+-- An accepted adoption, with unchanged scans: the project comes to this job, and each frame that the old folder acknowledges is
+-- the old project's, where that comes to a job.
+pub record AdoptsJob (words : List (List ℕ)) (told : Option World) (tells : Bool) (world : World) (old : Files) (job : JobData) : Type 0 where
+  pub path : List ℕ
+  pub old_path : List ℕ
+  pub spells : Spells words (commands.Adopt path old_path)
+  pub scans_tell : told ≡ Some world
+  pub disk_tells : tells ≡ true
+  pub comes : ComesTo (file_at world) path (Ok job.parts)
+  pub old_sound : (old_job : JobData) → ComesTo (file_at world) old_path (Ok old_job.parts) → IsOldSound old_job world old
 
 -- The definition's whole reel: each frame's file is there, byte for byte, and is acknowledged.
 pub record IsWholeReel (job : JobData) (world : World) (files : Files) : Type 0 where
@@ -48,7 +61,7 @@ IsBeginning job world moment = IsEmptyFolder moment ⊎ Surely moment (IsSoundRe
 abbrev pub left_with : Files → Moment
 left_with files = record { view = files; loose = [] }
 
--- What a run of the job keeps from its opening until now, wherever it is. `Ended` says that it was done.
+-- What a run or an adoption of the job keeps from its opening until now, wherever it is. `Ended` says that it was done.
 pub record KeepsItsPromise (job : JobData) (world : World) (opening now : History) (Ended : Type 0) : Type 0 where
   -- At every moment of the run each frame that a crash leaves acknowledged is the definition's, byte for byte.
   pub sound : IsBeginning job world (moment_of opening) → LeavesOnly opening now (IsSoundReel job world)

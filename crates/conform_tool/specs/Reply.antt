@@ -1,8 +1,10 @@
 -- What a command that was spelled comes to.
 --     ScanState, scan_state      what a scan tells at a moment, and its counts
+--     Folders, folders_of      what the two folders tell
 --     IsReply command before after reached output      the command came to this outcome with this output
---     IsWholeReply kinds      the same, with what it did to the disk, where these kinds are counted
-use Rattle.std.specs.Prelude.{◌≡◌, ◌≢◌, ◌≤◌, ℕ, List, [], length, Option, IfSome, Ok, Err}
+--     House, house_of      what a house hands in
+--     IsWholeReply house      the same, with what it did to the folders, in this house
+use Rattle.std.specs.Prelude.{◌≡◌, ◌≢◌, ◌⊎◌, ◌≤◌, ℕ, Bool, List, [], length, Option, IfSome, Ok, Err}
 use Rattle.cf_base.specs.Count.{HasRisen}
 use Rattle.scan_source.specs.Plan.{one_more}
 use Rattle.scan_source.specs.World.{World, file_at}
@@ -21,8 +23,11 @@ use Rattle.pull_list.specs.declared.range.PullRange.{PullRange}
 use Rattle.outcome_line.specs.Output.{line_of}
 use Rattle.reel_qc.specs.declared.probe.ProbeKind.{ProbeKind}
 use Rattle.demo_run.specs.Demo.{demo_world, IsShown, IsInstead}
+use Rattle.project_adopt.specs.Adopt.{IsAdoptReply}
+use Rattle.reel_disk.specs.Disk.{History}
 use Rattle.project_run.specs.Quality.{IsQcReply}
-use Rattle.project_run.specs.Run.{DiskState, IsRunReply}
+use Rattle.project_run.specs.Run.{DiskState, IsRunReply, disk_state}
+use Rattle.project_run.specs.Sheet.{IsSheetReply}
 use Rattle.project_run.specs.Status.{IsStatusReply}
 use Rattle.project_run.specs.Verify.{IsVerifyReply}
 use Rattle.conform_tool.specs.Frame.{IsFrameForm, IsFrameCase}
@@ -30,7 +35,7 @@ use Rattle.conform_tool.specs.List.{IsListForm, IsListCase}
 use Rattle.command_words.specs.declared.command.Command.{Command}
 use Rattle.command_words.specs.declared.command.Command.TheVariants as commands
 use Rattle.outcome_line.specs.declared.outcome.Outcome.{Outcome}
-use Rattle.outcome_line.specs.declared.outcome.Outcome.TheVariants.{Done, Usage, Refused as IsRefused, Damaged, Changed, SourceFault, DiskFault, SinkFault, NoMemory}
+use Rattle.outcome_line.specs.declared.outcome.Outcome.TheVariants.{Done, Usage, Refused as IsRefused, OldRefused, OldOtherJob, OldBadLedger, Damaged, Changed, SourceFault, DiskFault, SinkFault, NoMemory}
 
 pub record ScanState : Type 0 where
   pub world : Option World
@@ -41,6 +46,23 @@ pub record ScanState : Type 0 where
 -- of a scan, by its meanings
 abbrev pub scan_state : {S : Type 0} → (S → Option World) → (faults loads heads : S → ℕ) → S → ScanState
 scan_state world faults loads heads scan = record { world = world scan; faults = faults scan; loads = loads scan; heads = heads scan }
+
+-- the folder of the reel, and that of an old reel
+pub record Folders : Type 0 where
+  pub reel : DiskState
+  pub old : DiskState
+
+-- of two disks, by their meanings
+abbrev pub folders_of : {D : Type 0} → Bool → (D → History) → (D → ℕ) → (disk old : D) → Folders
+folders_of tells history faults disk old = record { reel = disk_state tells history faults disk; old = disk_state tells history faults old }
+
+-- the kinds of a house's probes, and the table of its tone
+pub record House : Type 0 where
+  pub kinds : List ProbeKind
+  pub tone : List ℕ
+
+abbrev pub house_of : List ProbeKind → List ℕ → House
+house_of kinds tone = record { kinds = kinds; tone = tone }
 
 -- A file, or that there is none: the one at the path where the scan tells its files, else some one that it read.
 abbrev pub ByFile : Option World → List ℕ → (Option (List ℕ) → Type 0) → Type 0
@@ -86,7 +108,7 @@ IsDemoReply count Done output = IsShown (file_at (demo_world count)) output
 IsDemoReply count other output = IsInstead (file_at (demo_world count)) other
 
 -- By the file at the path, or by all files that the scan tells: they may be others at each load where it tells none. `run`,
--- `status`, `verify` and `qc` are right by the folder, which is said with the disk, and `demo` by its count alone.
+-- `status`, `verify`, `qc`, `sheet` and `adopt` are right by the folders, which is said with them, and `demo` by its count alone.
 abbrev pub IsRight : Command → Outcome → List ℕ → ScanState → ScanState → Type 0
 IsRight (commands.Frame path) reached output before after = ByFile before.world path (λ file. IsRightBy (IsFrameCase file) (IsFrameForm file) reached output)
 IsRight (commands.List path rate) reached output before after = ByFile before.world path (λ file. IsRightBy (IsListCase rate file) (IsListForm rate file) reached output)
@@ -95,11 +117,13 @@ IsRight (commands.Run path workers share) reached output before after = Unit {0}
 IsRight (commands.Status path) reached output before after = Unit {0}
 IsRight (commands.Verify path) reached output before after = Unit {0}
 IsRight (commands.Qc path) reached output before after = Unit {0}
+IsRight (commands.Sheet path) reached output before after = Unit {0}
+IsRight (commands.Adopt path old_path) reached output before after = Unit {0}
 IsRight (commands.Pull path margin) reached output before after = IfSome before.world (λ world. IsJobReply (IsPullForm margin) (file_at world) path reached output before after)
 IsRight (commands.Demo count) reached output before after = IsDemoReply count reached output
 
--- What a command loads: the one file, or a project, its list and its cube, or nothing. What `run`, `status`, `verify` and `qc`
--- load is said with the disk.
+-- What a command loads: the one file, or a project, its list and its cube, or nothing. What the commands load that make calls on
+-- a folder is said with it.
 abbrev pub HasLoaded : Command → ℕ → ℕ → Type 0
 HasLoaded (commands.Frame path) before after = after ≡ one_more before
 HasLoaded (commands.List path rate) before after = after ≡ one_more before
@@ -108,6 +132,8 @@ HasLoaded (commands.Run path workers share) before after = Unit {0}
 HasLoaded (commands.Status path) before after = Unit {0}
 HasLoaded (commands.Verify path) before after = Unit {0}
 HasLoaded (commands.Qc path) before after = Unit {0}
+HasLoaded (commands.Sheet path) before after = Unit {0}
+HasLoaded (commands.Adopt path old_path) before after = Unit {0}
 HasLoaded (commands.Pull path margin) before after = AreLoaded 1 3 before after
 HasLoaded (commands.Demo count) before after = after ≡ before
 
@@ -120,20 +146,30 @@ LooksAtHeads (commands.Run path workers share) before after = Unit {0}
 LooksAtHeads (commands.Status path) before after = Unit {0}
 LooksAtHeads (commands.Verify path) before after = Unit {0}
 LooksAtHeads (commands.Qc path) before after = Unit {0}
+LooksAtHeads (commands.Sheet path) before after = Unit {0}
+LooksAtHeads (commands.Adopt path old_path) before after = Unit {0}
 LooksAtHeads (commands.Pull path margin) before after = Unit {0}
 LooksAtHeads (commands.Demo count) before after = after ≡ before
 
--- the command makes calls on the disk
+-- the command makes calls on the folder of the reel
 abbrev pub CallsDisk : Command → Type 0
 CallsDisk (commands.Run path workers share) = Unit {0}
 CallsDisk (commands.Status path) = Unit {0}
 CallsDisk (commands.Verify path) = Unit {0}
 CallsDisk (commands.Qc path) = Unit {0}
+CallsDisk (commands.Sheet path) = Unit {0}
+CallsDisk (commands.Adopt path old_path) = Unit {0}
 CallsDisk other = ⊥
+
+-- it makes calls on the folder of an old reel too
+abbrev pub CallsOld : Command → Type 0
+CallsOld (commands.Adopt path old_path) = Unit {0}
+CallsOld other = ⊥
 
 -- it loads source frames, which may have changed since they were planned
 abbrev pub LoadsFrames : Command → Type 0
 LoadsFrames (commands.Run path workers share) = Unit {0}
+LoadsFrames (commands.Adopt path old_path) = Unit {0}
 LoadsFrames other = ⊥
 
 -- it reads the reel's frames, which may be damaged
@@ -141,8 +177,8 @@ abbrev pub ChecksFrames : Command → Type 0
 ChecksFrames (commands.Verify path) = Unit {0}
 ChecksFrames other = ⊥
 
--- The outcomes that a command may come to, whatever the scan and the disk tell. A folder's state and a fault of the disk are
--- outcomes of those commands alone that make calls on the disk.
+-- The outcomes that a command may come to, whatever the scan and the folders tell. A folder's state and a fault of a disk are
+-- outcomes of those commands alone that make calls on it.
 abbrev pub IsKindOf : Command → Outcome → Type 0
 IsKindOf command Done = Unit {0}
 IsKindOf command (IsRefused refusal) = Unit {0}
@@ -152,6 +188,9 @@ IsKindOf command Usage = ⊥
 IsKindOf command (SinkFault instead) = ⊥
 IsKindOf command (Changed reel key was now) = LoadsFrames command
 IsKindOf command (Damaged frame kept found) = ChecksFrames command
+IsKindOf command (OldRefused refusal) = CallsOld command
+IsKindOf command (OldOtherJob kept wanted) = CallsOld command
+IsKindOf command (OldBadLedger len) = CallsOld command
 IsKindOf command other = CallsDisk command
 
 pub record IsReply (command : Command) (before after : ScanState) (reached : Outcome) (output : List ℕ) : Type 0 where
@@ -167,19 +206,31 @@ pub record IsReply (command : Command) (before after : ScanState) (reached : Out
   pub heads : LooksAtHeads command before.heads after.heads
   pub world : after.world ≡ before.world
 
--- A run did to the disk what it is to do, and `status`, `verify` and `qc` looked at it, which counts these kinds; no other command
--- made a call on it.
-abbrev pub UsesDisk : List ProbeKind → Command → ScanState → ScanState → DiskState → DiskState → Outcome → List ℕ → Type 0
-UsesDisk kinds (commands.Run path workers share) before after disk disk_after reached output = IsRunReply before.world path share disk disk_after before.loads after.loads reached output
-UsesDisk kinds (commands.Status path) before after disk disk_after reached output = IsStatusReply before.world path disk disk_after before.loads after.loads reached output
-UsesDisk kinds (commands.Verify path) before after disk disk_after reached output = IsVerifyReply before.world path disk disk_after before.loads after.loads reached output
-UsesDisk kinds (commands.Qc path) before after disk disk_after reached output = IsQcReply kinds before.world path disk disk_after before.loads after.loads reached output
-UsesDisk kinds other before after disk disk_after reached output = disk_after ≡ disk
+-- A run did to the folder what it is to do, `adopt` took over frames and ran the rest, `status`, `verify` and `qc` looked at the
+-- folder, and `sheet` wrote its sheet; no other command made a call on it.
+abbrev pub UsesDisk : House → Command → ScanState → ScanState → Folders → Folders → Outcome → List ℕ → Type 0
+UsesDisk house (commands.Run path workers share) before after folders folders_after reached output = IsRunReply before.world path share folders.reel folders_after.reel before.loads after.loads reached output
+UsesDisk house (commands.Status path) before after folders folders_after reached output = IsStatusReply before.world path folders.reel folders_after.reel before.loads after.loads reached output
+UsesDisk house (commands.Verify path) before after folders folders_after reached output = IsVerifyReply before.world path folders.reel folders_after.reel before.loads after.loads reached output
+UsesDisk house (commands.Qc path) before after folders folders_after reached output = IsQcReply house.kinds before.world path folders.reel folders_after.reel before.loads after.loads reached output
+UsesDisk house (commands.Sheet path) before after folders folders_after reached output = IsSheetReply house.tone before.world path folders.reel folders_after.reel before.loads after.loads reached output
+UsesDisk house (commands.Adopt path old_path) before after folders folders_after reached output =
+    IsAdoptReply before.world path old_path folders.old folders_after.old folders.reel folders_after.reel before.loads after.loads reached output
+UsesDisk house other before after folders folders_after reached output = folders_after.reel ≡ folders.reel
 
--- The reply of a command, with what it did to the disk, whose fault has its cause.
-pub record IsWholeReply (kinds : List ProbeKind) (command : Command) (before after : ScanState) (disk disk_after : DiskState) (reached : Outcome) (output : List ℕ) : Type 0 where
+-- a call on a folder failed that the command makes calls on
+abbrev pub HasFailedDisk : Command → Folders → Folders → Type 0
+HasFailedDisk (commands.Adopt path old_path) folders folders_after =
+    HasRisen folders.old.faults folders_after.old.faults ⊎ HasRisen folders.reel.faults folders_after.reel.faults
+HasFailedDisk other folders folders_after = HasRisen folders.reel.faults folders_after.reel.faults
+
+-- The reply of a command, with what it did to the folders, whose fault has its cause.
+pub record IsWholeReply (house : House) (command : Command) (before after : ScanState) (folders folders_after : Folders) (reached : Outcome) (output : List ℕ) : Type 0 where
   pub reply : IsReply command before after reached output
-  pub folder : UsesDisk kinds command before after disk disk_after reached output
-  pub disk_fault : reached ≡ DiskFault → HasRisen disk.faults disk_after.faults
-  pub disk_steady : reached ≢ DiskFault → disk_after.faults ≡ disk.faults
-  pub disk_later : disk.faults ≤ disk_after.faults
+  pub folder : UsesDisk house command before after folders folders_after reached output
+  pub old_folder : (CallsOld command → ⊥) → folders_after.old ≡ folders.old
+  pub disk_fault : reached ≡ DiskFault → HasFailedDisk command folders folders_after
+  pub disk_steady : reached ≢ DiskFault → folders_after.reel.faults ≡ folders.reel.faults
+  pub old_steady : reached ≢ DiskFault → folders_after.old.faults ≡ folders.old.faults
+  pub disk_later : folders.reel.faults ≤ folders_after.reel.faults
+  pub old_later : folders.old.faults ≤ folders_after.old.faults

@@ -8,6 +8,8 @@
 //! reply is put on the output in one piece.
 #![tactic(auto)]
 
+mod adoption;
+mod contact;
 mod frame;
 mod list;
 mod one_thread;

@@ -2,14 +2,16 @@
 ghost use Rattle.std.specs.Prelude.{◌≡◌, ◌≤◌, ℕ, List, length, map, Some, IfSome, MatchResult};
 ghost use Rattle.conform_job.specs.Job.{JobData};
 ghost use Rattle.scan_source.specs.World.{World};
+ghost use Rattle.reel_disk.specs.Disk.{view_of};
 ghost use Rattle.conform_tool.specs.Answer.{Answered, IsFoundIn, IsPut, IsLinePut, sink_state};
 ghost use Rattle.conform_tool.specs.Complete.{IsAccepted, HasNotRisen, IsComplete, IsUnfailed};
-ghost use Rattle.conform_tool.specs.Headline.{RunsJob, KeepsItsPromise, HasEnded};
+ghost use Rattle.conform_tool.specs.Headline.{AdoptsJob, RunsJob, KeepsItsPromise, HasEnded};
 ghost use Rattle.outcome_line.specs.Output.{line_of};
-ghost use Rattle.conform_tool.specs.Reply.{IsWholeReply, scan_state};
-ghost use Rattle.project_run.specs.Run.{disk_state};
+ghost use Rattle.conform_tool.specs.Reply.{IsWholeReply, folders_of, house_of, scan_state};
 ghost use Rattle.command_words.specs.Commands.{HasCounts, Spells};
 
+use crate::adoption::adopt;
+use crate::contact::sheet;
 use crate::frame::frame;
 use crate::list::list;
 use crate::plan::plan;
@@ -24,26 +26,29 @@ use demo_run::demo;
 use outcome_line::{Outcome, made_line, plain_line};
 use project_job::job_laws;
 use reel_disk::Disk;
-use reel_qc::{Counter, OneThread, Probe};
+use reel_qc::{Counter, OneThread, Probe, Tone};
 use scan_source::Scans;
 use std::alloc::Global;
 
-/// Does the command that the words spell, on one thread, and puts its output or its line. `run` renders into the disk and
-/// `status`, `verify` and `qc` look at it; no other command makes a call on it. Words of no command come to `Usage`, and words for which no
-/// memory is left to `NoMemory`, before anything is read. A run keeps the headline's promise, wherever it is stopped and
-/// whatever it answers.
+/// Does the command that the words spell, on one thread, and puts its output or its line. `run` renders into the disk,
+/// `status`, `verify` and `qc` look at it, and `sheet` writes its sheet there; `adopt` takes over frames of the old disk, which
+/// is only read, and runs the rest. No other command makes a call on a disk. Words of no command come to `Usage`, and words for
+/// which no memory is left to `NoMemory`, before anything is read. A run keeps the headline's promise, wherever it is stopped and
+/// whatever it answers, and so does an adoption of frames that are the old project's.
 pub fn answer<S: Scans, D: Disk, K: Sink>(
     alloc: Global,
     words: &[&str],
     scan: &mut S,
     disk: &mut D,
+    old: &mut D,
     out: &mut K,
     probes: &[Probe],
+    tone: &Tone,
 ) -> Outcome
     requires few { length probes.now ≤ 16 }
-    ensures answered { Answered (map (λ p. p.kind) probes.now) (map (λ w. w.now) words.now)
+    ensures answered { Answered (house_of (map (λ p. p.kind) probes.now) tone.now.table) (map (λ w. w.now) words.now)
         (scan_state S.world S.faults S.loads S.heads scan.old) (scan_state S.world S.faults S.loads S.heads scan.new)
-        (disk_state D.tells D.history D.faults disk.old) (disk_state D.tells D.history D.faults disk.new)
+        (folders_of D.tells D.history D.faults disk.old old.old) (folders_of D.tells D.history D.faults disk.new old.new)
         (sink_state K.written K.faults out.old) (sink_state K.written K.faults out.new) result }
     ensures later { K.faults out.old ≤ K.faults out.new }
     ensures same { S.same scan.old scan.new }
@@ -51,21 +56,23 @@ pub fn answer<S: Scans, D: Disk, K: Sink>(
     // The headline.
     ensures headline { (world : World) (job : JobData) → RunsJob (map (λ w. w.now) words.now) (S.world scan.old) D.tells world job
         → KeepsItsPromise job world (D.history disk.old) (D.history disk.new) (HasEnded result) }
+    ensures adopted { (world : World) (job : JobData) → AdoptsJob (map (λ w. w.now) words.now) (S.world scan.old) D.tells world (view_of (D.history old.old)) job
+        → KeepsItsPromise job world (D.history disk.old) (D.history disk.new) (HasEnded result) }
 
     // Where nothing stands in the way of the command and no call failed, it is done, or memory ran out.
     ensures complete { (command : Command) (world : World) → Spells (map (λ w. w.now) words.now) command → S.world scan.old ≡ Some world
-        → IsAccepted command world (disk_state D.tells D.history D.faults disk.old)
-        → HasNotRisen (S.faults scan.old) (S.faults scan.new) → HasNotRisen (D.faults disk.old) (D.faults disk.new) → HasNotRisen (K.faults out.old) (K.faults out.new)
+        → IsAccepted command world (folders_of D.tells D.history D.faults disk.old old.old)
+        → HasNotRisen (S.faults scan.old) (S.faults scan.new) → HasNotRisen (D.faults disk.old) (D.faults disk.new) → HasNotRisen (D.faults old.old) (D.faults old.new) → HasNotRisen (K.faults out.old) (K.faults out.new)
         → IsComplete command result }
     ensures unfailed { (command : Command) → Spells (map (λ w. w.now) words.now) command
-        → HasNotRisen (S.faults scan.old) (S.faults scan.new) → HasNotRisen (D.faults disk.old) (D.faults disk.new) → HasNotRisen (K.faults out.old) (K.faults out.new)
+        → HasNotRisen (S.faults scan.old) (S.faults scan.new) → HasNotRisen (D.faults disk.old) (D.faults disk.new) → HasNotRisen (D.faults old.old) (D.faults old.new) → HasNotRisen (K.faults out.old) (K.faults out.new)
         → IsUnfailed command result }
 {
     job_laws();
     let Ok(found) = command_of(alloc, words) else {
         return put_line(alloc, &Outcome::NoMemory, out);
     };
-    answer_found(alloc, &OneThread, found, scan, disk, out, probes)
+    answer_found(alloc, &OneThread, found, scan, disk, old, out, probes, tone)
 }
 
 /// Does the command that was found in some words, on one thread but for the counts, and puts its output or its line.
@@ -75,14 +82,16 @@ pub(crate) fn answer_found<S: Scans, D: Disk, K: Sink, C: Counter>(
     found: Option<Command>,
     scan: &mut S,
     disk: &mut D,
+    old: &mut D,
     out: &mut K,
     probes: &[Probe],
+    tone: &Tone,
 ) -> Outcome
     requires ready { C.ready }
     requires counts { IfSome found HasCounts }
-    ensures answered { (words : List (List ℕ)) → IsFoundIn words found → Answered (map (λ p. p.kind) probes.now) words
+    ensures answered { (words : List (List ℕ)) → IsFoundIn words found → Answered (house_of (map (λ p. p.kind) probes.now) tone.now.table) words
         (scan_state S.world S.faults S.loads S.heads scan.old) (scan_state S.world S.faults S.loads S.heads scan.new)
-        (disk_state D.tells D.history D.faults disk.old) (disk_state D.tells D.history D.faults disk.new)
+        (folders_of D.tells D.history D.faults disk.old old.old) (folders_of D.tells D.history D.faults disk.new old.new)
         (sink_state K.written K.faults out.old) (sink_state K.written K.faults out.new) result }
     ensures later { K.faults out.old ≤ K.faults out.new }
     ensures same { S.same scan.old scan.new }
@@ -90,7 +99,7 @@ pub(crate) fn answer_found<S: Scans, D: Disk, K: Sink, C: Counter>(
     let Some(command) = found else {
         return put_line(alloc, &Outcome::Usage, out);
     };
-    match carried_out(alloc, counter, &command, scan, disk, probes) {
+    match carried_out(alloc, counter, &command, scan, disk, old, probes, tone) {
         Ok(output) => put(&output, &Outcome::Done, out),
         Err(outcome) => put_line(alloc, &outcome, out),
     }
@@ -103,13 +112,15 @@ fn carried_out<S: Scans, D: Disk, C: Counter>(
     command: &Command,
     scan: &mut S,
     disk: &mut D,
+    old: &mut D,
     probes: &[Probe],
+    tone: &Tone,
 ) -> Result<Vec<u8>, Outcome>
     requires ready { C.ready }
     requires counts { HasCounts command.now }
     ensures reply { MatchResult result
-        (λ output. IsWholeReply (map (λ p. p.kind) probes.now) command.now (scan_state S.world S.faults S.loads S.heads scan.old) (scan_state S.world S.faults S.loads S.heads scan.new) (disk_state D.tells D.history D.faults disk.old) (disk_state D.tells D.history D.faults disk.new) Outcome.Done output.items)
-        (λ outcome. IsWholeReply (map (λ p. p.kind) probes.now) command.now (scan_state S.world S.faults S.loads S.heads scan.old) (scan_state S.world S.faults S.loads S.heads scan.new) (disk_state D.tells D.history D.faults disk.old) (disk_state D.tells D.history D.faults disk.new) outcome (line_of outcome)) }
+        (λ output. IsWholeReply (house_of (map (λ p. p.kind) probes.now) tone.now.table) command.now (scan_state S.world S.faults S.loads S.heads scan.old) (scan_state S.world S.faults S.loads S.heads scan.new) (folders_of D.tells D.history D.faults disk.old old.old) (folders_of D.tells D.history D.faults disk.new old.new) Outcome.Done output.items)
+        (λ outcome. IsWholeReply (house_of (map (λ p. p.kind) probes.now) tone.now.table) command.now (scan_state S.world S.faults S.loads S.heads scan.old) (scan_state S.world S.faults S.loads S.heads scan.new) (folders_of D.tells D.history D.faults disk.old old.old) (folders_of D.tells D.history D.faults disk.new old.new) outcome (line_of outcome)) }
     ensures same { S.same scan.old scan.new }
 {
     match command {
@@ -124,6 +135,11 @@ fn carried_out<S: Scans, D: Disk, C: Counter>(
         Command::Status(project) => status(alloc, project, scan, disk),
         Command::Verify(project) => verify(alloc, project, scan, disk),
         Command::Qc(project) => qc(alloc, counter, project, scan, disk, probes),
+        Command::Sheet(project) => sheet(alloc, project, scan, disk, tone),
+        Command::Adopt {
+            project,
+            old: old_project,
+        } => adopt(alloc, project, old_project, scan, disk, old),
         Command::Pull { project, margin } => pull(alloc, project, *margin, scan),
         Command::Demo(count) => demo(alloc, *count),
     }

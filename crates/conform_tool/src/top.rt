@@ -3,11 +3,12 @@ ghost use Rattle.std.specs.Prelude.{◌≡◌, ◌≤◌, ℕ, List, true, lengt
 ghost use Rattle.command_words.specs.Commands.{HasCounts, Spells};
 ghost use Rattle.command_words.specs.Lines.{HasCount};
 ghost use Rattle.command_words.specs.declared.command.Command.TheVariants as commands;
+ghost use Rattle.reel_disk.specs.Disk.{view_of};
 ghost use Rattle.conform_tool.specs.Answer.{Answered, IsFoundIn, sink_state};
 ghost use Rattle.conform_tool.specs.Conform.{CrewAnswered, IsAlone};
 ghost use Rattle.conform_tool.specs.Complete.{IsAccepted, HasNotRisen, IsComplete, IsUnfailed};
-ghost use Rattle.conform_tool.specs.Headline.{RunsJob, KeepsItsPromise, HasEnded};
-ghost use Rattle.conform_tool.specs.Reply.{scan_state};
+ghost use Rattle.conform_tool.specs.Headline.{AdoptsJob, RunsJob, KeepsItsPromise, HasEnded};
+ghost use Rattle.conform_tool.specs.Reply.{folders_of, house_of, scan_state};
 ghost use Rattle.conform_job.specs.Job.{JobData};
 ghost use Rattle.project_run.specs.Crew.{HasFailed, told_by};
 ghost use Rattle.project_run.specs.Run.{disk_state};
@@ -20,7 +21,7 @@ use outcome_line::Outcome;
 use project_job::job_laws;
 use project_run::{CrewEnded, run_crewed};
 use reel_disk::Disk;
-use reel_qc::{Counter, Forked, Probe};
+use reel_qc::{Counter, Forked, Probe, Tone};
 use scan_source::Scans;
 use std::alloc::Global;
 use std::sync::Wait;
@@ -34,18 +35,21 @@ pub struct Ended<S, D> {
     pub disk: D,
 }
 
-/// Does the command that the words spell. It takes 1 to 16 scans that all tell one world or tell none, and a disk before its
-/// first call; a run with more than one worker is a crew's, with all scans, and all else goes to the first scan alone. It
-/// hands all scans back in their order, and the disk. A run keeps the headline's promise, by any number of workers, wherever it
-/// is stopped and whatever it answers.
+/// Does the command that the words spell. It takes 1 to 16 scans that all tell one world or tell none, a disk before its first
+/// call, and the disk of an old reel, which is only read; a run with more than one worker is a crew's, with all scans, and all
+/// else goes to the first scan alone. It hands all scans back in their order, and the disk. A run keeps the headline's promise,
+/// by any number of workers, wherever it is stopped and whatever it answers, and so does an adoption of frames that are the old
+/// project's.
 pub fn conform<S: Scans + Send, D: Disk + Send, K: Sink, R: Threads + Wait + Sync>(
     rt: &R,
     alloc: Global,
     words: &[&str],
     scans: Vec<S>,
     disk: D,
+    old: &mut D,
     out: &mut K,
     probes: &[Probe],
+    tone: &Tone,
 ) -> Ended<S, D>
     requires some { 1 ≤ vec_len scans }
     requires few { vec_len scans ≤ 16 }
@@ -62,27 +66,32 @@ pub fn conform<S: Scans + Send, D: Disk + Send, K: Sink, R: Threads + Wait + Syn
 
     // All else, with the first scan.
     ensures answered { IsAlone (map (λ w. w.now) words.now) → (first last : S) → slice_get scans.items 0 ≡ Some first → slice_get result.scans.items 0 ≡ Some last
-        → Answered (map (λ p. p.kind) probes.now) (map (λ w. w.now) words.now)
+        → Answered (house_of (map (λ p. p.kind) probes.now) tone.now.table) (map (λ w. w.now) words.now)
         (scan_state S.world S.faults S.loads S.heads first) (scan_state S.world S.faults S.loads S.heads last)
-        (disk_state D.tells D.history D.faults disk) (disk_state D.tells D.history D.faults result.disk)
+        (folders_of D.tells D.history D.faults disk old.old) (folders_of D.tells D.history D.faults result.disk old.new)
         (sink_state K.written K.faults out.old) (sink_state K.written K.faults out.new) result.outcome }
     ensures others { IsAlone (map (λ w. w.now) words.now) → drop 1 result.scans.items ≡ drop 1 scans.items }
     ensures same { IsAlone (map (λ w. w.now) words.now) → (first last : S) → slice_get scans.items 0 ≡ Some first → slice_get result.scans.items 0 ≡ Some last → S.same first last }
 
     ensures handed_back { vec_len result.scans ≡ vec_len scans }
     ensures later { K.faults out.old ≤ K.faults out.new }
+    ensures old_folder { (path : List ℕ) (workers share : ℕ) → Spells (map (λ w. w.now) words.now) (commands.Run path workers share) → 2 ≤ workers → old.new ≡ old.old }
 
     // The headline, for any number of workers.
     ensures headline { (world : World) (job : JobData) → RunsJob (map (λ w. w.now) words.now) (told_by S.world scans.items) D.tells world job
         → KeepsItsPromise job world (D.history disk) (D.history result.disk) (HasEnded result.outcome) }
 
+    // The same of an adoption, whose old folder is sound.
+    ensures adopted { (world : World) (job : JobData) → AdoptsJob (map (λ w. w.now) words.now) (told_by S.world scans.items) D.tells world (view_of (D.history old.old)) job
+        → KeepsItsPromise job world (D.history disk) (D.history result.disk) (HasEnded result.outcome) }
+
     // Where nothing stands in the way of the command and no call failed, it is done, or memory ran out.
     ensures complete { (command : Command) (world : World) → Spells (map (λ w. w.now) words.now) command → told_by S.world scans.items ≡ Some world
-        → IsAccepted command world (disk_state D.tells D.history D.faults disk)
-        → (HasFailed S.world S.faults S.loads S.same scans.items result.scans.items → ⊥) → HasNotRisen (D.faults disk) (D.faults result.disk) → HasNotRisen (K.faults out.old) (K.faults out.new)
+        → IsAccepted command world (folders_of D.tells D.history D.faults disk old.old)
+        → (HasFailed S.world S.faults S.loads S.same scans.items result.scans.items → ⊥) → HasNotRisen (D.faults disk) (D.faults result.disk) → HasNotRisen (D.faults old.old) (D.faults old.new) → HasNotRisen (K.faults out.old) (K.faults out.new)
         → IsComplete command result.outcome }
     ensures unfailed { (command : Command) → Spells (map (λ w. w.now) words.now) command
-        → (HasFailed S.world S.faults S.loads S.same scans.items result.scans.items → ⊥) → HasNotRisen (D.faults disk) (D.faults result.disk) → HasNotRisen (K.faults out.old) (K.faults out.new)
+        → (HasFailed S.world S.faults S.loads S.same scans.items result.scans.items → ⊥) → HasNotRisen (D.faults disk) (D.faults result.disk) → HasNotRisen (D.faults old.old) (D.faults old.new) → HasNotRisen (K.faults out.old) (K.faults out.new)
         → IsUnfailed command result.outcome }
 {
     job_laws();
@@ -96,7 +105,17 @@ pub fn conform<S: Scans + Send, D: Disk + Send, K: Sink, R: Threads + Wait + Syn
     };
     match crew_of(&found) {
         Some(crew) => by_crew(rt, alloc, &crew, scans, disk, out),
-        None => by_one(alloc, &Forked::new(rt), found, scans, disk, out, probes),
+        None => by_one(
+            alloc,
+            &Forked::new(rt),
+            found,
+            scans,
+            disk,
+            old,
+            out,
+            probes,
+            tone,
+        ),
     }
 }
 
@@ -184,23 +203,35 @@ fn by_one<S: Scans, D: Disk, K: Sink, C: Counter>(
     found: Option<Command>,
     mut scans: Vec<S>,
     mut disk: D,
+    old: &mut D,
     out: &mut K,
     probes: &[Probe],
+    tone: &Tone,
 ) -> Ended<S, D>
     requires ready { C.ready }
     requires some { 1 ≤ vec_len scans }
     requires counts { IfSome found HasCounts }
     ensures answered { (words : List (List ℕ)) → IsFoundIn words found → (first last : S) → slice_get scans.items 0 ≡ Some first → slice_get result.scans.items 0 ≡ Some last
-        → Answered (map (λ p. p.kind) probes.now) words
+        → Answered (house_of (map (λ p. p.kind) probes.now) tone.now.table) words
         (scan_state S.world S.faults S.loads S.heads first) (scan_state S.world S.faults S.loads S.heads last)
-        (disk_state D.tells D.history D.faults disk) (disk_state D.tells D.history D.faults result.disk)
+        (folders_of D.tells D.history D.faults disk old.old) (folders_of D.tells D.history D.faults result.disk old.new)
         (sink_state K.written K.faults out.old) (sink_state K.written K.faults out.new) result.outcome }
     ensures others { drop 1 result.scans.items ≡ drop 1 scans.items }
     ensures handed_back { vec_len result.scans ≡ vec_len scans }
     ensures same { (first last : S) → slice_get scans.items 0 ≡ Some first → slice_get result.scans.items 0 ≡ Some last → S.same first last }
     ensures later { K.faults out.old ≤ K.faults out.new }
 {
-    let outcome = answer_found(alloc, counter, found, &mut scans[0], &mut disk, out, probes);
+    let outcome = answer_found(
+        alloc,
+        counter,
+        found,
+        &mut scans[0],
+        &mut disk,
+        old,
+        out,
+        probes,
+        tone,
+    );
     Ended {
         outcome,
         scans,

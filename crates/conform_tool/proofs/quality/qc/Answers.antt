@@ -1,6 +1,7 @@
 -- The table is the command's reply.
 use Rattle.std.proofs.Common.{refl}
-use Rattle.conform_tool.proofs.Replies.{reply_of, replied_qc, error_of, outcome_of}
+use Rattle.command_words.specs.declared.command.Command.TheVariants as commands
+use Rattle.conform_tool.proofs.Replies.{reply_of, replied_look, error_of, outcome_of}
 use Rattle.conform_tool.proofs.quality.qc.Goals as goal
 
 pub returns-in-Ok-clause-reply : goal.returns-in-Ok-clause-reply
@@ -11,5 +12,5 @@ returns-in-Ok-clause-reply g c =
 pub returns-in-Err-clause-reply : goal.returns-in-Err-clause-reply
 returns-in-Err-clause-reply g c =
     let counted = c.in-Err.ensures in
-    reply_of _ _ _ _ _ (replied_qc c.args.path.now _ counted.kind) tt (λ _. refl)
+    reply_of _ _ _ _ _ (replied_look (commands.Qc c.args.path.now) tt _ counted.kind) tt (λ _. refl)
     (λ same. counted.failed (error_of _ _ same)) (λ other. counted.steady (λ same. other (outcome_of _ _ same))) counted.later tt tt counted.world

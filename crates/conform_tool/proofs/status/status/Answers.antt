@@ -1,6 +1,7 @@
 -- The look at the folder is the command's reply.
 use Rattle.std.proofs.Common.{refl}
-use Rattle.conform_tool.proofs.Replies.{reply_of, replied_status, error_of, outcome_of}
+use Rattle.command_words.specs.declared.command.Command.TheVariants as commands
+use Rattle.conform_tool.proofs.Replies.{reply_of, replied_look, error_of, outcome_of}
 use Rattle.conform_tool.proofs.status.status.Goals as goal
 
 pub returns-in-Ok-clause-reply : goal.returns-in-Ok-clause-reply
@@ -11,5 +12,5 @@ returns-in-Ok-clause-reply g c =
 pub returns-in-Err-clause-reply : goal.returns-in-Err-clause-reply
 returns-in-Err-clause-reply g c =
     let looked = c.in-Err.ensures in
-    reply_of _ _ _ _ _ (replied_status c.args.path.now _ looked.kind) tt (λ _. refl)
+    reply_of _ _ _ _ _ (replied_look (commands.Status c.args.path.now) tt _ looked.kind) tt (λ _. refl)
     (λ same. looked.failed (error_of _ _ same)) (λ other. looked.steady (λ same. other (outcome_of _ _ same))) looked.later tt tt looked.world

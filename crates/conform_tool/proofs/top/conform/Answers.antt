@@ -1,10 +1,11 @@
 -- A run with several workers is a crew's, and all else is not.
 use Rattle.std.proofs.Common.{◌≡◌, ◌∙◌, ◌≤◌, arith, length, refl, rules, subst, sym, vec_len}
 use Rattle.project_run.specs.Run.{disk_state}
+use Rattle.conform_tool.specs.Reply.{folders_of}
 use Rattle.conform_tool.specs.Complete.{IsAccepted, IsComplete}
-use Rattle.conform_tool.proofs.Alone.{alone_complete, alone_promise, alone_unfailed, first_answered}
+use Rattle.conform_tool.proofs.Alone.{alone_adoption, alone_complete, alone_promise, alone_unfailed, first_answered}
 use Rattle.conform_tool.proofs.Completes.{crew_answered_complete, crew_unfailed}
-use Rattle.conform_tool.proofs.Conforming.{alone_found, crew_as, crew_unread, found_command, found_run, run_found}
+use Rattle.conform_tool.proofs.Conforming.{adopts_no_run, alone_found, crew_as, crew_unread, found_command, found_run, run_found}
 use Rattle.conform_tool.proofs.Headlines.{crew_answered_promise}
 use Rattle.conform_tool.proofs.top.conform.Goals as goal
 
@@ -47,15 +48,26 @@ returns-in-Some-clause-headline g c world job runs =
 pub returns-in-Some-clause-complete : goal.returns-in-Some-clause-complete
 returns-in-Some-clause-complete g c command world spells is accepted =
     let disk = disk_state g.D.Disk.tells g.D.Disk.history g.D.Disk.faults c.args.disk in
+    let folders = folders_of g.D.Disk.tells g.D.Disk.history g.D.Disk.faults c.args.disk c.args.old.now in
     let command_is = found_command _ _ command _ _ _ c.in-Ok.ensures.command c.in-Some.ensures.0 spells in
     let complete = crew_answered_complete c.job_laws.ensures.job g.S.Scans.world g.S.Scans.faults g.S.Scans.loads g.S.Scans.same c.in-Some.crew.project c.in-Some.crew.workers _ _ disk _ world is
-    (subst (λ k. IsAccepted k world disk) command_is accepted) c.in-Some.crew.share _ _ _ c.by_crew.ensures.crew in
-    λ scans_steady disk_steady sink_steady. subst (λ k. IsComplete k c.by_crew.result.outcome) (sym command_is) (complete scans_steady disk_steady sink_steady)
+    (subst (λ k. IsAccepted k world folders) command_is accepted) c.in-Some.crew.share _ _ _ c.by_crew.ensures.crew in
+    λ scans_steady disk_steady old_steady sink_steady. subst (λ k. IsComplete k c.by_crew.result.outcome) (sym command_is) (complete scans_steady disk_steady sink_steady)
 
 pub returns-in-Some-clause-unfailed : goal.returns-in-Some-clause-unfailed
 returns-in-Some-clause-unfailed g c command spells =
-    crew_unfailed g.S.Scans.world g.S.Scans.faults g.S.Scans.loads g.S.Scans.same c.in-Some.crew.project c.in-Some.crew.workers c.in-Some.crew.share _ _ _ _ _ _ _ c.by_crew.ensures.crew
-    command (found_command _ _ command _ _ _ c.in-Ok.ensures.command c.in-Some.ensures.0 spells)
+    let unfailed = crew_unfailed g.S.Scans.world g.S.Scans.faults g.S.Scans.loads g.S.Scans.same c.in-Some.crew.project c.in-Some.crew.workers c.in-Some.crew.share _ _ _ _ _ _ _ c.by_crew.ensures.crew
+    command (found_command _ _ command _ _ _ c.in-Ok.ensures.command c.in-Some.ensures.0 spells) in
+    λ scans_steady disk_steady old_steady sink_steady. unfailed scans_steady disk_steady sink_steady
+
+pub returns-in-Some-clause-adopted : goal.returns-in-Some-clause-adopted
+returns-in-Some-clause-adopted g c world job adopts =
+    absurd (adopts_no_run adopts.path adopts.old_path _ _ _ (found_command _ _ _ _ _ _ c.in-Ok.ensures.command c.in-Some.ensures.0 adopts.spells))
+
+pub returns-in-None-clause-old_folder : goal.returns-in-None-clause-old_folder
+returns-in-None-clause-old_folder g c path workers share spells many =
+    let few = alone_found _ _ c.in-Ok.ensures.command c.in-None.ensures path workers share spells in
+    absurd (omega (arith, few, many))
 
 -- all else, with the first scan
 pub returns-in-None-clause-headline : goal.returns-in-None-clause-headline
@@ -63,6 +75,14 @@ returns-in-None-clause-headline g c =
     let all : vec_len c.args.scans ≡ length c.args.scans.items = search rules in
     let all_after : vec_len c.by_one.result.scans ≡ length c.by_one.result.scans.items = search rules in
     alone_promise _ g.S.Scans.world g.S.Scans.faults g.S.Scans.loads g.S.Scans.heads g.S.Scans.same _ _ _ _ _ _ _ _
+    (first_answered _ g.S.Scans.world g.S.Scans.faults g.S.Scans.loads g.S.Scans.heads g.S.Scans.same _ _ _ _ _ _ _ _
+    (subst (λ n. 1 ≤ n) all c.requires.some) (sym all_after ∙ c.by_one.ensures.handed_back ∙ all) (c.by_one.ensures.answered _ c.in-Ok.ensures.command)) c.job_laws.ensures.job
+
+pub returns-in-None-clause-adopted : goal.returns-in-None-clause-adopted
+returns-in-None-clause-adopted g c =
+    let all : vec_len c.args.scans ≡ length c.args.scans.items = search rules in
+    let all_after : vec_len c.by_one.result.scans ≡ length c.by_one.result.scans.items = search rules in
+    alone_adoption _ g.S.Scans.world g.S.Scans.faults g.S.Scans.loads g.S.Scans.heads g.S.Scans.same _ _ _ _ _ _ _ _
     (first_answered _ g.S.Scans.world g.S.Scans.faults g.S.Scans.loads g.S.Scans.heads g.S.Scans.same _ _ _ _ _ _ _ _
     (subst (λ n. 1 ≤ n) all c.requires.some) (sym all_after ∙ c.by_one.ensures.handed_back ∙ all) (c.by_one.ensures.answered _ c.in-Ok.ensures.command)) c.job_laws.ensures.job
 
@@ -89,3 +109,10 @@ returns-in_default-clause-headline g c world job runs =
     crew_answered_promise c.job_laws.ensures.job g.S.Scans.world g.S.Scans.faults g.S.Scans.loads g.S.Scans.same runs.path runs.workers c.args.scans.items c.args.scans.items disk disk _ _ _
     (crew_unread g.S.Scans.world g.S.Scans.faults g.S.Scans.loads g.S.Scans.same runs.path runs.workers c.args.scans.items c.args.scans.items disk disk _ _ _ refl refl c.put_line-outcome.ensures.put)
     world job runs.scans_tell runs.disk_tells runs.comes
+
+pub returns-in_default-clause-adopted : goal.returns-in_default-clause-adopted
+returns-in_default-clause-adopted g c world job adopts =
+    let disk = disk_state g.D.Disk.tells g.D.Disk.history g.D.Disk.faults c.args.disk in
+    crew_answered_promise c.job_laws.ensures.job g.S.Scans.world g.S.Scans.faults g.S.Scans.loads g.S.Scans.same adopts.path 2 c.args.scans.items c.args.scans.items disk disk _ _ _
+    (crew_unread g.S.Scans.world g.S.Scans.faults g.S.Scans.loads g.S.Scans.same adopts.path 2 c.args.scans.items c.args.scans.items disk disk _ _ _ refl refl c.put_line-outcome.ensures.put)
+    world job adopts.scans_tell adopts.disk_tells adopts.comes
