@@ -1,5 +1,5 @@
 //! Source files that change between the plan of a run and their load.
-use crate::commands::{put, says};
+use crate::commands::{put, says, squared};
 use crate::desk::{LIST, desk_scans, files_of, lined_picture, put_file};
 use cf_base::{Key, MemorySink, Name};
 use conform_tool::answer;
@@ -39,7 +39,17 @@ fn run_changed(alloc: Global, there: bool, disk: &mut MemoryDisk) -> Option<(Out
     let mut scan = TurningScans::new(first, later_files(alloc, there)?, 34);
     let mut out = MemorySink::new(alloc);
     let words = ["run", "desk.toml", "--workers", "1"];
-    let outcome = answer(alloc, &words, &mut scan, disk, &mut out, &[]);
+    let mut old = MemoryDisk::new(alloc).ok()?;
+    let outcome = answer(
+        alloc,
+        &words,
+        &mut scan,
+        disk,
+        &mut old,
+        &mut out,
+        &[],
+        &squared(),
+    );
     Some((outcome, out))
 }
 

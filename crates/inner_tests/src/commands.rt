@@ -8,9 +8,14 @@ use cf_base::{FileId, MemorySink, PathText, Sink, StreamSink};
 use conform_tool::{Ended, answer, conform};
 use outcome_line::Outcome;
 use reel_disk::{Disk, Length, MemoryDisk};
-use reel_qc::{Probe, ProbeKind, sum};
+use reel_qc::{Probe, ProbeKind, Tone, square, square_table, sum};
 use scan_source::{Head, Loaded, MemoryScans, Scans};
 use std::alloc::Global;
+
+/// The tone that the program hands in.
+pub fn squared() -> Tone {
+    Tone::new(square_table(), square)
+}
 
 /// The status that the words of a line come to, which have one blank between them, and the one in whose place a fault of the
 /// sink stands.
@@ -26,7 +31,17 @@ pub fn answered<S: Scans, K: Sink>(
         words.push(word).ok()?;
     }
     let probes = [Probe::new(ProbeKind::Sum, sum)];
-    let outcome = answer(alloc, &words, scan, disk, out, &probes);
+    let mut old = MemoryDisk::new(alloc).ok()?;
+    let outcome = answer(
+        alloc,
+        &words,
+        scan,
+        disk,
+        &mut old,
+        out,
+        &probes,
+        &squared(),
+    );
     let instead = match outcome {
         Outcome::SinkFault { instead } => Some(instead),
         _ => None,
@@ -276,13 +291,24 @@ fn three_workers_load_beside_one_another_and_leave_the_reel(rt: HostRuntime) {
     let alloc = rt.alloc();
     let mut out = MemorySink::new(alloc);
     let disk = MemoryDisk::new(alloc).ok().expect(&rt, "a disk");
+    let mut old = MemoryDisk::new(alloc).ok().expect(&rt, "a disk");
     let words = ["run", "desk.toml", "--workers", "3"];
     let scans = held(alloc).expect(&rt, "scans");
     let Ended {
         outcome,
         scans,
         mut disk,
-    } = conform(&rt, alloc, &words, scans, disk, &mut out, &[]);
+    } = conform(
+        &rt,
+        alloc,
+        &words,
+        scans,
+        disk,
+        &mut old,
+        &mut out,
+        &[],
+        &squared(),
+    );
     assert!(rt; outcome == Outcome::Done);
     assert!(rt; says(&out, "frames 24\nkept 0\nrendered 24\n"));
     assert!(rt; scans.len() == 3);

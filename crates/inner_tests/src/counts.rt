@@ -1,4 +1,5 @@
 //! Counts in pieces, and tables of other probes than the program's.
+use crate::commands::squared;
 use crate::desk::{Desk, desk_scans};
 use cf_base::MemorySink;
 use conform_tool::{Ended, answer, conform};
@@ -72,16 +73,20 @@ fn a_file_has_as_many_words_as_are_whole(rt: HostRuntime) {
 fn a_table_has_a_column_for_each_probe(rt: HostRuntime) {
     let alloc = rt.alloc();
     let probes = [Probe::new(ProbeKind::Low, low); 16];
+    let tone = squared();
     let mut scan = desk_scans(alloc, &[]).expect(&rt, "files");
     let mut disk = MemoryDisk::new(alloc).ok().expect(&rt, "a disk");
+    let mut old = MemoryDisk::new(alloc).ok().expect(&rt, "a disk");
     let mut out = MemorySink::new(alloc);
     let ran = answer(
         alloc,
         &["run", "desk.toml"],
         &mut scan,
         &mut disk,
+        &mut old,
         &mut out,
         &[],
+        &tone,
     );
     assert!(rt; ran == Outcome::Done);
     for (count, front, back) in [
@@ -108,8 +113,10 @@ fn a_table_has_a_column_for_each_probe(rt: HostRuntime) {
             &words,
             &mut scan,
             &mut disk,
+            &mut old,
             &mut out,
             &probes[..count],
+            &tone,
         );
         assert!(rt; counted == Outcome::Done);
         assert!(rt;
@@ -123,17 +130,28 @@ fn a_table_has_a_column_for_each_probe(rt: HostRuntime) {
 fn a_table_of_no_frame_is_made_by_threads(rt: HostRuntime) {
     let alloc = rt.alloc();
     let probes = [Probe::new(ProbeKind::High, high); 2];
-    let disk = MemoryDisk::new(alloc).ok().expect(&rt, "a disk");
+    let mut old = MemoryDisk::new(alloc).ok().expect(&rt, "a disk");
     let scan = desk_scans(alloc, &[]).expect(&rt, "files");
     let mut scans = Vec::new(alloc);
     assert!(rt; scans.push(scan).is_ok() && scans.len() == 1);
     let mut out = MemorySink::new(alloc);
+    let disk = MemoryDisk::new(alloc).ok().expect(&rt, "a disk");
     let words = ["qc", "desk.toml"];
     let Ended {
         outcome,
         scans: _,
         disk: _,
-    } = conform(&rt, alloc, &words, scans, disk, &mut out, &probes);
+    } = conform(
+        &rt,
+        alloc,
+        &words,
+        scans,
+        disk,
+        &mut old,
+        &mut out,
+        &probes,
+        &squared(),
+    );
     assert!(rt; outcome == Outcome::Done);
     assert!(rt; out.bytes() == b"qc high high\nframes 0\n".as_slice());
 }

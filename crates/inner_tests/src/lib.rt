@@ -4,6 +4,8 @@
 #![tactic(auto)]
 
 #[cfg(test)]
+mod adoptions;
+#[cfg(test)]
 mod boards;
 #[cfg(test)]
 mod changes;
@@ -33,6 +35,8 @@ mod runs;
 mod scans;
 #[cfg(test)]
 mod shared;
+#[cfg(test)]
+mod sheets;
 #[cfg(test)]
 mod stops;
 #[cfg(test)]
