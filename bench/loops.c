@@ -1,13 +1,14 @@
-// The pixel rules as plain loops, for bench/look, bench/render and bench/qc to set the program's beside: picoseconds of processor
-// time a pixel (and a sum, so that no loop is left out) of a dissolve, of a look of one dimension with 1,024 places, of one of
-// three with 33 a side, and of the three counts of the quality table. Where each code lies between two places is found once, as in
-// the program.
+// The pixel rules as plain loops, for bench/look, bench/render, bench/qc and bench/sheet to set the program's beside: picoseconds of
+// processor time a pixel (and a sum, so that no loop is left out) of a dissolve, of a look of one dimension with 1,024 places, of
+// one of three with 33 a side, of the three counts of the quality table, and of the contact sheet's boxes of 16 by 16 pixels. Where
+// each code lies between two places is found once, as in the program.
 #include <stdint.h>
 #include <stdio.h>
 #include <stdlib.h>
+#include <string.h>
 #include <time.h>
 
-enum { PIXELS = 1 << 17, SIDE = 33, LONG = 1024 };
+enum { PIXELS = 1 << 17, WIDE = 2048, SIDE = 33, LONG = 1024 };
 
 static uint16_t cube[SIDE * SIDE * SIDE][3], line[LONG][3];
 static int64_t low[3], high[3] = {1000000000, 1000000000, 1000000000};
@@ -93,6 +94,20 @@ static void counts(void) {
     out[2] = sum;
 }
 
+static void boxes(void) {
+    static uint64_t sums[4][PIXELS / 256];
+    memset(sums, 0, sizeof sums);
+    for (int y = 0; y < PIXELS / WIDE; y++)
+        for (int x = 0; x < WIDE; x++) {
+            int at = y / 16 * (WIDE / 16) + x / 16;
+            uint32_t word = old[y * WIDE + x];
+            for (int c = 0; c < 3; c++) sums[c][at] += code(word, c);
+            sums[3][at]++;
+        }
+    for (int at = 0; at < PIXELS / 256; at++)
+        for (int c = 0; c < 3; c++) out[3 * at + c] = (2 * sums[c][at] + sums[3][at]) / (2 * sums[3][at]);
+}
+
 static double processor(void) {
     struct timespec now;
     clock_gettime(CLOCK_PROCESS_CPUTIME_ID, &now);
@@ -124,4 +139,5 @@ int main(void) {
     measure("1D", look_1d);
     measure("3D", look_3d);
     measure("counts", counts);
+    measure("boxes", boxes);
 }
