@@ -1,5 +1,5 @@
 -- Where bands and parts of whole lines begin and end.
-use Rattle.std.proofs.Common.{◌≡◌, ℕ, ◌+◌, ◌-◌, ◌*◌, ◌/◌, ◌%◌, ◌<◌, ◌≤◌, min, refl, ap, sym, ◌∙◌, arith, inl, inr}
+use Rattle.std.proofs.Common.{◌≡◌, ℕ, ◌+◌, ◌-◌, ◌*◌, ◌/◌, ◌%◌, ◌<◌, ◌≤◌, min, ap, sym, ◌∙◌, arith, inl, inr}
 use Rattle.std.proofs.Math.Nat.{mul-le-mul_right, div-mul-le_self, div-le_of_le-mul, div-le_self, mul-div_cancel}
 use Rattle.std.proofs.lemmas.Nat.{le-div, div-add-mod'}
 use Rattle.std.proofs.lemmas.Bool.{cases_lt}

@@ -1,13 +1,11 @@
 -- The colours of a line: black, a side's, and those that a transition makes.
-use Rattle.std.proofs.Common.{◌≡◌, ℕ, ◌+◌, ◌-◌, ◌*◌, ◌/◌, ◌%◌, ◌^◌, ◌<◌, ◌≤◌, Bool, true, false, List, length, map, get_or, slice_index, take, replicate, refl, ap, ◌∙◌, arith, Fits, w32, Option}
-use Rattle.std.specs.Prelude.{Some, if◌then◌else◌}
+use Rattle.std.proofs.Common.{◌≡◌, ℕ, ◌+◌, ◌*◌, ◌/◌, ◌%◌, ◌^◌, ◌<◌, ◌≤◌, Bool, true, false, List, length, map, slice_index, take, replicate, refl, ap, ◌∙◌, arith}
+use Rattle.std.specs.Prelude.{if◌then◌else◌}
 use Rattle.std.proofs.lemmas.List.{get_or-take, get_or-replicate, length-take-le, length-replicate}
-use borrow.Rule.Slice.PartMut.{mid_of}
 use Rattle.cf_base.specs.declared.pixel.Rgb.{Rgb}
 use Rattle.cf_base.specs.Rgb.{codes_of}
 use Rattle.dpx_pack.specs.Pixels.{IsPixelOf, word_codes}
 use Rattle.dpx_pack.proofs.Colours.{word_codes-colour_word}
-use Rattle.dpx_pack.proofs.Parts.{part_of}
 use Rattle.trans_mix.specs.Mix.{mixed_code}
 use Rattle.trans_mix.proofs.MixLemmas.{mixed_code-most}
 use Rattle.tetra_look.specs.Look.{channels}

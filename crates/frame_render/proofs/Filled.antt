@@ -2,7 +2,7 @@
 use Rattle.std.proofs.Common.{◌≡◌, ℕ, ◌-◌, ◌*◌, ◌≤◌, List, [], ◌++◌, length, length-append, length-take, length-drop, take, drop, refl, ap, subst, ◌∙◌, arith, append-nil, Option}
 use Rattle.std.specs.Prelude.{Some, None, IfSome}
 use borrow.Rule.Slice.PartMut.{post_of}
-use Rattle.std.proofs.lemmas.List.{take-append-le, drop_all, take_all, drop_at}
+use Rattle.std.proofs.lemmas.List.{drop_all, take_all, drop_at}
 use Rattle.cf_base.specs.declared.key.Key.{Key}
 use Rattle.dpx_header.specs.Frame.{need_of}
 use Rattle.dpx_header.specs.declared.info.FrameInfo.{FrameInfo}

@@ -1,10 +1,10 @@
 //! Decoded source frames.
-ghost use Rattle.std.specs.Prelude.{◌≡◌, ◌*◌, ◌≤◌, length, IfSome, IfOk};
+ghost use Rattle.std.specs.Prelude.{◌≡◌, ◌≤◌, length, IfSome, IfOk};
 ghost use Rattle.dpx_header.specs.Frame.{IsFrame, need_of};
-ghost use Rattle.dpx_pack.specs.Pixels.{pixels};
 ghost use Rattle.scan_source.specs.World.{file_at};
 ghost use Rattle.frame_render.specs.Frame.{AreWordsOf, IsFrontOf, pixel_count};
 
+use crate::WordBuf;
 use cf_base::{Fail, Key, Never};
 use conform_job::{Job, Work};
 use dpx_header::FrameInfo;
@@ -70,28 +70,39 @@ impl<N: Work> Decoded<N> {
             IsFrontOf N.job (file_at world) key info.now bytes.now) }
         ensures key { IfOk result (λ d. d.key ≡ key) }
     {
-        match decode(alloc, info, bytes) {
-            Ok(words) => Ok(Decoded {
-                key,
-                words,
-                of: PhantomData,
-            }),
+        match WordBuf::new(alloc, job) {
+            Ok(room) => Ok(Decoded::within(room, job, key, info, bytes)),
             Err(fail) => Err(fail),
         }
     }
-}
 
-/// The pixel words of a file.
-fn decode(alloc: Global, info: &FrameInfo, bytes: &[u8]) -> Result<Vec<u32>, Fail<Never>>
-    requires frame { IsFrame info.now }
-    requires whole { need_of info.now ≤ length bytes.now }
-    ensures words { IfOk result (λ words. words.items ≡ pixels info.now bytes.now) }
-    ensures count { IfOk result (λ words. length words.items ≡ info.now.width * info.now.height) }
-{
-    let mut words = match vec![in alloc; 0; info.width as usize * info.height as usize] {
-        Ok(words) => words,
-        Err(_) => return Err(Fail::NoMemory),
-    };
-    unpack(info, bytes, &mut words);
-    Ok(words)
+    /// The same in room that another frame had, so that it takes no memory.
+    pub fn within(room: WordBuf, job: &Job, key: Key, info: &FrameInfo, bytes: &[u8]) -> Decoded<N>
+        requires job { job.now ≡ N.job }
+        requires room { length room ≡ pixel_count N.job }
+        requires frame { IsFrame info.now }
+        requires whole { need_of info.now ≤ length bytes.now }
+        requires width { info.now.width ≡ job.now.parts.project.width }
+        requires height { info.now.height ≡ job.now.parts.project.height }
+        requires file { IfSome N.files (λ world.
+            IsFrontOf N.job (file_at world) key info.now bytes.now) }
+        ensures key { result.key ≡ key }
+    {
+        let WordBuf { mut words } = room;
+        unpack(info, bytes, &mut words);
+        Decoded {
+            key,
+            words,
+            of: PhantomData,
+        }
+    }
+
+    /// The room that it lies in, for another frame.
+    pub fn into_buf(self) -> WordBuf
+        ensures words { result ≡ self.words }
+        ensures room { length result ≡ pixel_count N.job }
+    {
+        let Decoded { words, .. } = self;
+        WordBuf { words }
+    }
 }

@@ -9,9 +9,11 @@ mod line;
 mod picture;
 mod reheaded;
 mod rendered;
+mod rooms;
 
-pub use buffer::FrameBuf;
+pub use buffer::{FrameBuf, WordBuf};
 pub use decoded::Decoded;
 pub use file::{render, render_forked};
 pub use reheaded::rehead;
 pub use rendered::Rendered;
+pub use rooms::{Rooms, Spare};

@@ -1,5 +1,5 @@
 -- Each turn writes one line more.
-use Rattle.std.proofs.Common.{◌≡◌, ℕ, ◌+◌, ◌-◌, ◌*◌, ◌<◌, ◌≤◌, List, length, drop, length-append, length-drop, refl, arith, rules}
+use Rattle.std.proofs.Common.{◌≡◌, ℕ, ◌*◌, length, length-append, length-drop, refl, arith, rules}
 use Rattle.std.specs.Option.{option_copied}
 use Rattle.frame_render.proofs.Colours.{black_colours}
 use Rattle.frame_render.proofs.Lines.{no_lines, line_written, all_lines, room_for}

@@ -1,5 +1,5 @@
 -- Its places are those of the picture, and they are as many.
-use Rattle.std.proofs.Common.{◌≡◌, ℕ, ◌*◌, length, ap, sym, ◌∙◌, arith}
+use Rattle.std.proofs.Common.{arith}
 use Rattle.std.proofs.lemmas.Grind.{same_number_lists}
 use Rattle.std.specs.Option.{option_copied}
 use Rattle.frame_render.specs.Frame.{picture}
