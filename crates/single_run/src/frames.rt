@@ -18,7 +18,7 @@ ghost use Rattle.single_run.specs.Sharing.{HasAsked, HasTried};
 use crate::RunEnd;
 use crate::sharing::{lent, side_of};
 use conform_job::{Job, Work};
-use frame_render::{FrameBuf, Rendered, render};
+use frame_render::{FrameBuf, Rendered, Rooms, render};
 use frame_share::{Share, Units};
 use reel_disk::{Disk, DiskFault};
 use reel_writer::{Hashed, Reel};
@@ -33,7 +33,7 @@ pub fn make_frame<N: Work, L: Ledger, S: Scans>(
     job: &Job,
     scan: &mut S,
     i: u32,
-    into: &mut Vec<u8>,
+    rooms: &mut Rooms<N>,
     room: FrameBuf,
     share: &mut Share<N, L>,
     units: &mut Units<L>,
@@ -62,15 +62,18 @@ pub fn make_frame<N: Work, L: Ledger, S: Scans>(
     ensures same { S.same scan.old scan.new }
 {
     let need = job.need(i);
-    let old = match side_of(alloc, job, scan, need.old, into, share, units, loads) {
+    let old = match side_of(alloc, job, scan, need.old, rooms, share, units, loads) {
         Ok(old) => old,
         Err(end) => return Err(end),
     };
-    let new = match side_of(alloc, job, scan, need.new, into, share, units, loads) {
+    let new = match side_of(alloc, job, scan, need.new, rooms, share, units, loads) {
         Ok(new) => new,
         Err(end) => return Err(end),
     };
-    Ok(render(job, i, lent(&old), lent(&new), room))
+    let frame = render(job, i, lent(&old), lent(&new), room);
+    rooms.spare.keep(old);
+    rooms.spare.keep(new);
+    Ok(frame)
 }
 
 /// Renders record frame `i` and finishes it, unless it is acknowledged. The room is handed back for
@@ -81,7 +84,7 @@ fn run_frame<N: Work, L: Ledger, S: Scans, D: Disk>(
     scan: &mut S,
     reel: &mut Reel<D, N>,
     i: u32,
-    into: &mut Vec<u8>,
+    rooms: &mut Rooms<N>,
     room: FrameBuf,
     share: &mut Share<N, L>,
     units: &mut Units<L>,
@@ -137,7 +140,7 @@ fn run_frame<N: Work, L: Ledger, S: Scans, D: Disk>(
     if reel.is_acked(i) {
         return Ok(room);
     }
-    let frame = match make_frame(alloc, job, scan, i, into, room, share, units, loads) {
+    let frame = match make_frame(alloc, job, scan, i, rooms, room, share, units, loads) {
         Ok(frame) => frame,
         Err(end) => return Err(end),
     };
@@ -203,10 +206,10 @@ pub(crate) fn run_frames<N: Work, L: Ledger, S: Scans, D: Disk>(
         Ok(room) => room,
         Err(_) => return RunEnd::NoMemory,
     };
-    let mut into = Vec::new(alloc);
+    let mut rooms = Rooms::new(alloc);
     for i in 0..job.count() {
         match run_frame(
-            alloc, job, scan, reel, i, &mut into, room, share, units, loads,
+            alloc, job, scan, reel, i, &mut rooms, room, share, units, loads,
         ) {
             Ok(back) => room = back,
             Err(end) => return end,

@@ -17,7 +17,7 @@ use crate::RunEnd;
 use cf_base::Key;
 use conform_job::{Job, Work};
 use dpx_header::{FrameInfo, read_header};
-use frame_render::Decoded;
+use frame_render::{Decoded, Rooms};
 use scan_source::{Loaded, Scans, head_of};
 use source_reels::Seen;
 use std::alloc::Global;
@@ -74,7 +74,8 @@ fn look<N: Work, S: Scans>(
     }
 }
 
-/// The source frame with this key, by one load of its file, whose header is read again.
+/// The source frame with this key, by one load of its file, whose header is read again. It lies in the spare room, where
+/// there is one.
 ///
 /// `Changed` comes where no file is there, or its header isn't what the job has; `SourceFault`
 /// where the load failed; `NoMemory` for want of memory alone.
@@ -84,7 +85,7 @@ pub fn fetch<N: Work, S: Scans>(
     scan: &mut S,
     key: Key,
     info: FrameInfo,
-    into: &mut Vec<u8>,
+    rooms: &mut Rooms<N>,
 ) -> Result<Arc<Decoded<N>>, RunEnd>
     requires job { job.now ≡ N.job }
     requires files { Tells N.files (S.world scan.old) }
@@ -97,7 +98,7 @@ pub fn fetch<N: Work, S: Scans>(
         ≡ Err RunEnd.SourceFault) scan.old scan.new }
     ensures same { S.same scan.old scan.new }
 {
-    let now = match look::<N, S>(job, scan, key, info, into) {
+    let now = match look::<N, S>(job, scan, key, info, &mut rooms.file) {
         Ok(now) => now,
         Err(end) => return Err(end),
     };
@@ -108,10 +109,11 @@ pub fn fetch<N: Work, S: Scans>(
             now,
         });
     }
-    let decoded = match Decoded::of(alloc, job, key, &info, into) {
-        Ok(decoded) => decoded,
+    let room = match rooms.spare.take(alloc, job) {
+        Ok(room) => room,
         Err(_) => return Err(RunEnd::NoMemory),
     };
+    let decoded = Decoded::within(room, job, key, &info, &rooms.file);
     match Arc::new(alloc, decoded) {
         Ok(frame) => Ok(frame),
         Err(_) => Err(RunEnd::NoMemory),

@@ -17,7 +17,7 @@ use crate::loading::fetch;
 use cf_base::Key;
 use conform_job::{Job, Work};
 use dpx_header::FrameInfo;
-use frame_render::Decoded;
+use frame_render::{Decoded, Rooms};
 use frame_share::{Ask, Placed, Share, Units};
 use scan_source::Scans;
 use std::alloc::Global;
@@ -32,7 +32,7 @@ fn frame_of<N: Work, L: Ledger, S: Scans>(
     scan: &mut S,
     key: Key,
     info: FrameInfo,
-    into: &mut Vec<u8>,
+    rooms: &mut Rooms<N>,
     share: &mut Share<N, L>,
     units: &mut Units<L>,
     loads: &mut u64,
@@ -64,7 +64,7 @@ fn frame_of<N: Work, L: Ledger, S: Scans>(
         Ask::Miss(ticket) => ticket,
     };
     *loads += 1;
-    let frame = match fetch::<N, S>(alloc, job, scan, key, info, into) {
+    let frame = match fetch::<N, S>(alloc, job, scan, key, info, rooms) {
         Ok(frame) => frame,
         Err(end) => return Err(end),
     };
@@ -72,7 +72,7 @@ fn frame_of<N: Work, L: Ledger, S: Scans>(
         Ok(ours) => ours,
         Err(_) => return Err(RunEnd::NoMemory),
     };
-    match share.put(ticket, frame, units) {
+    match share.put(ticket, frame, units, &mut rooms.spare) {
         Placed::Kept | Placed::Left => Ok(ours),
         Placed::NoMemory => Err(RunEnd::NoMemory),
     }
@@ -84,7 +84,7 @@ pub(crate) fn side_of<N: Work, L: Ledger, S: Scans>(
     job: &Job,
     scan: &mut S,
     need: Option<(Key, FrameInfo)>,
-    into: &mut Vec<u8>,
+    rooms: &mut Rooms<N>,
     share: &mut Share<N, L>,
     units: &mut Units<L>,
     loads: &mut u64,
@@ -113,7 +113,7 @@ pub(crate) fn side_of<N: Work, L: Ledger, S: Scans>(
     let Some((key, info)) = need else {
         return Ok(None);
     };
-    match frame_of(alloc, job, scan, key, info, into, share, units, loads) {
+    match frame_of(alloc, job, scan, key, info, rooms, share, units, loads) {
         Ok(frame) => Ok(Some(frame)),
         Err(end) => Err(end),
     }

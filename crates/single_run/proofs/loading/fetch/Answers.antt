@@ -10,18 +10,18 @@ use Rattle.single_run.proofs.loading.fetch.Goals as goal
 pub look-requires-clause-frame : goal.look-requires-clause-frame
 look-requires-clause-frame g c = (info_known _ _ _ c.requires.infos c.args.key c.args.info c.requires.known).frame
 
-pub of-requires-clause-frame : goal.of-requires-clause-frame
-of-requires-clause-frame g c = (info_known _ _ _ c.requires.infos c.args.key c.args.info c.requires.known).frame
+pub within-decoded-requires-clause-frame : goal.within-decoded-requires-clause-frame
+within-decoded-requires-clause-frame g c = (info_known _ _ _ c.requires.infos c.args.key c.args.info c.requires.known).frame
 
-pub of-requires-clause-width : goal.of-requires-clause-width
-of-requires-clause-width g c = (info_known _ _ _ c.requires.infos c.args.key c.args.info c.requires.known).width ∙ ap (λ (j : JobData). j.parts.project.width) (sym c.requires.job)
+pub within-decoded-requires-clause-width : goal.within-decoded-requires-clause-width
+within-decoded-requires-clause-width g c = (info_known _ _ _ c.requires.infos c.args.key c.args.info c.requires.known).width ∙ ap (λ (j : JobData). j.parts.project.width) (sym c.requires.job)
 
-pub of-requires-clause-height : goal.of-requires-clause-height
-of-requires-clause-height g c = (info_known _ _ _ c.requires.infos c.args.key c.args.info c.requires.known).height ∙ ap (λ (j : JobData). j.parts.project.height) (sym c.requires.job)
+pub within-decoded-requires-clause-height : goal.within-decoded-requires-clause-height
+within-decoded-requires-clause-height g c = (info_known _ _ _ c.requires.infos c.args.key c.args.info c.requires.known).height ∙ ap (λ (j : JobData). j.parts.project.height) (sym c.requires.job)
 
-pub of-requires-clause-whole : goal.of-requires-clause-whole
-of-requires-clause-whole g c = subst (λ (l : List ℕ). need_of c.args.info ≤ length l) (sym c.deref.ensures.value) (c.in-Ok.ensures.whole (c.is_info.ensures.0 c.if-not-is_info.false))
+pub within-decoded-requires-clause-whole : goal.within-decoded-requires-clause-whole
+within-decoded-requires-clause-whole g c = subst (λ (l : List ℕ). need_of c.args.info ≤ length l) (sym c.deref.ensures.value) (c.in-Ok.ensures.whole (c.is_info.ensures.0 c.if-not-is_info.false))
 
-pub of-requires-clause-file : goal.of-requires-clause-file
-of-requires-clause-file g c =
+pub within-decoded-requires-clause-file : goal.within-decoded-requires-clause-file
+within-decoded-requires-clause-file g c =
     subst (λ (l : List ℕ). IfSome g.N.Work.files (λ world. IsFrontOf g.N.Work.job (file_at world) c.args.key c.args.info l)) (sym c.deref.ensures.value) (c.in-Ok.ensures.front (c.is_info.ensures.0 c.if-not-is_info.false))
