@@ -7,12 +7,15 @@ mod rest;
 mod rounds;
 mod seat;
 mod seats;
+mod shared_frames;
 mod sharing;
+mod turns;
 mod work;
 
 pub use crew::{Crew, run_crew};
 pub use frame_share::{ShareLog, ShareStep};
 pub use rounds::worker;
 pub use seat::Seat;
+pub use shared_frames::SharedFrames;
 pub use shared_station::{Marks, Station};
 pub use single_run::{Report, RunEnd, run_alone};

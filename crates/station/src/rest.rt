@@ -16,7 +16,7 @@ ghost use Rattle.station.specs.Worked.{MayRaise};
 use crate::rounds::{is_source_fault, why_of};
 use crate::seat::Seat;
 use conform_job::{Job, Work};
-use frame_render::{FrameBuf, Rendered};
+use frame_render::{FrameBuf, Rendered, Rooms};
 use frame_share::{Share, Units};
 use reel_disk::{Disk, Start};
 use reel_writer::Hashed;
@@ -80,8 +80,8 @@ fn make_apart<N: Work, F: Ledger, S: Scans>(
         Ok(room) => room,
         Err(_) => return Err(RunEnd::NoMemory),
     };
-    let mut into = Vec::new(alloc);
-    make_frame(alloc, job, scan, i, &mut into, room, share, units, loads)
+    let mut rooms = Rooms::new(alloc);
+    make_frame(alloc, job, scan, i, &mut rooms, room, share, units, loads)
 }
 
 /// Makes and finishes the frame that a worker holds. It says whether it is done; else a worker has stopped.

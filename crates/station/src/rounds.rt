@@ -13,10 +13,10 @@ ghost use Rattle.shared_station.specs.StationSteps.{MayStop, why_by};
 ghost use Rattle.station.specs.Worked.{HasCauses, HasCounted, KeepsParts, KeepsSources, MayRaise};
 
 use crate::seat::Seat;
+use crate::shared_frames::SharedFrames;
 use crate::sharing::make_shared;
 use conform_job::{Job, Work};
-use frame_render::{FrameBuf, Rendered};
-use frame_share::Share;
+use frame_render::{FrameBuf, Rendered, Rooms};
 use reel_disk::{Disk, Start};
 use reel_writer::Hashed;
 use render_board::{Claim, Turn, Why};
@@ -136,8 +136,8 @@ fn round<
     job: &Job,
     seat: &mut Seat<S, N, A, B, C, E, F>,
     station: &Mutex<Station<D, N, A, B, C, E>>,
-    share: &Mutex<Share<N, F>>,
-    into: &mut Vec<u8>,
+    share: &SharedFrames<N, F>,
+    rooms: &mut Rooms<N>,
     room: FrameBuf,
 ) -> Option<FrameBuf>
     requires job { job.now ≡ N.job }
@@ -167,8 +167,9 @@ fn round<
         alloc,
         job,
         &mut seat.scan,
+        seat.number,
         i,
-        into,
+        rooms,
         room,
         seat.threads,
         share,
@@ -214,7 +215,7 @@ pub fn worker<
     job: &Job,
     seat: &mut Seat<S, N, A, B, C, E, F>,
     station: &Mutex<Station<D, N, A, B, C, E>>,
-    share: &Mutex<Share<N, F>>,
+    share: &SharedFrames<N, F>,
 )
     requires job { job.now ≡ N.job }
     requires files { Tells N.files (S.world seat.old.scan) }
@@ -236,9 +237,9 @@ pub fn worker<
             return;
         }
     };
-    let mut into = Vec::new(alloc);
+    let mut rooms = Rooms::new(alloc);
     for _ in 0..job.timeline().count() {
-        match round(rt, alloc, job, seat, station, share, &mut into, room) {
+        match round(rt, alloc, job, seat, station, share, &mut rooms, room) {
             Some(back) => room = back,
             None => return,
         }

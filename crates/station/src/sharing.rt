@@ -1,4 +1,4 @@
-//! Source frames that workers share: an ask and a put are each one step under the share's lock, and a load is made outside it.
+//! A frame of the reel from source frames that the workers share. A source frame that isn't there is loaded outside the lock.
 ghost use Rattle.std.specs.Prelude.{◌≡◌, ◌≢◌, ◌+◌, ◌-◌, ◌<◌, ◌≤◌, ◌^◌, Some, Err, length, IfSome, IfOk, IfErr, OnOk};
 ghost use Rattle.std.specs.Arc.{arc_value};
 ghost use Rattle.std.specs.Option.{option_map};
@@ -6,51 +6,22 @@ ghost use Rattle.conform_job.specs.Answers.{AreInfosOf};
 ghost use Rattle.conform_job.specs.Keys.{info_at};
 ghost use Rattle.conform_job.specs.Names.{Tells};
 ghost use Rattle.frame_render.specs.Frame.{HasKeyOf, frame_size};
-ghost use Rattle.frame_share.specs.Answers.{HasKey, IsAskedBy, IsPutBy};
 ghost use Rattle.reel_writer.specs.Reel.{frames_of};
 ghost use Rattle.single_run.specs.Ends.{IsChange, IsStop};
 ghost use Rattle.single_run.specs.Scanned.{IsScanned};
 
+use crate::shared_frames::SharedFrames;
 use cf_base::Key;
 use conform_job::{Job, Work};
 use dpx_header::FrameInfo;
-use frame_render::{Decoded, FrameBuf, Rendered, render_forked};
-use frame_share::{Ask, Placed, Share, Ticket, Units};
+use frame_render::{Decoded, FrameBuf, Rendered, Rooms, render_forked};
+use frame_share::{Ask, Placed, Units};
 use scan_source::Scans;
 use single_run::{RunEnd, fetch, lent};
 use std::alloc::Global;
 use std::sync::ledger::Ledger;
-use std::sync::{Arc, Mutex, Wait};
+use std::sync::{Arc, Wait};
 use std::thread::Threads;
-
-/// Asks for a frame.
-fn ask_for<N: Work, F: Ledger, R: Wait>(
-    rt: &R,
-    key: Key,
-    share: &Mutex<Share<N, F>>,
-    units: &mut Units<F>,
-) -> Ask<N>
-    requires closed { units.old.pending ≡ 0 }
-    ensures key { HasKey key result }
-    ensures units { IsAskedBy units.old result units.new }
-{
-    share.lock(rt).ask(key, units)
-}
-
-/// Puts a frame.
-fn put_back<N: Work, F: Ledger, R: Wait>(
-    rt: &R,
-    ticket: Ticket<N>,
-    frame: Arc<Decoded<N>>,
-    share: &Mutex<Share<N, F>>,
-    units: &mut Units<F>,
-) -> Placed
-    requires key { (arc_value frame).key ≡ ticket }
-    requires opened { units.old.pending ≢ 0 }
-    ensures units { IsPutBy units.old result units.new }
-{
-    share.lock(rt).put(ticket, frame, units)
-}
 
 /// The source frame of a key: the shared one where it is there, else by one load, and then it is put there. A load is
 /// counted.
@@ -61,8 +32,8 @@ fn frame_of<N: Work, F: Ledger, S: Scans, R: Wait>(
     scan: &mut S,
     key: Key,
     info: FrameInfo,
-    into: &mut Vec<u8>,
-    share: &Mutex<Share<N, F>>,
+    rooms: &mut Rooms<N>,
+    share: &SharedFrames<N, F>,
     units: &mut Units<F>,
     loads: &mut u64,
 ) -> Result<Arc<Decoded<N>>, RunEnd>
@@ -84,13 +55,13 @@ fn frame_of<N: Work, F: Ledger, S: Scans, R: Wait>(
     ensures scan { IsScanned S.world S.faults S.loads (loads.new - loads.old) (result ≡ Err RunEnd.SourceFault) scan.old scan.new }
     ensures same { S.same scan.old scan.new }
 {
-    let ticket = match ask_for(rt, key, share, units) {
+    let ticket = match share.ask(rt, key, units) {
         Ask::Hit(frame) => return Ok(frame),
         Ask::NoMemory => return Err(RunEnd::NoMemory),
         Ask::Miss(ticket) => ticket,
     };
     *loads += 1;
-    let frame = match fetch::<N, S>(alloc, job, scan, key, info, into) {
+    let frame = match fetch::<N, S>(alloc, job, scan, key, info, rooms) {
         Ok(frame) => frame,
         Err(end) => return Err(end),
     };
@@ -98,21 +69,22 @@ fn frame_of<N: Work, F: Ledger, S: Scans, R: Wait>(
         Ok(ours) => ours,
         Err(_) => return Err(RunEnd::NoMemory),
     };
-    match put_back(rt, ticket, frame, share, units) {
+    match share.put(rt, ticket, frame, units, &mut rooms.spare) {
         Placed::Kept | Placed::Left => Ok(ours),
         Placed::NoMemory => Err(RunEnd::NoMemory),
     }
 }
 
-/// The source frame of a side, where it needs one.
+/// The source frame of a side, where it needs one, in this worker's turn at it.
 fn side_of<N: Work, F: Ledger, S: Scans, R: Wait>(
     rt: &R,
     alloc: Global,
     job: &Job,
     scan: &mut S,
+    worker: u16,
     need: Option<(Key, FrameInfo)>,
-    into: &mut Vec<u8>,
-    share: &Mutex<Share<N, F>>,
+    rooms: &mut Rooms<N>,
+    share: &SharedFrames<N, F>,
     units: &mut Units<F>,
     loads: &mut u64,
 ) -> Result<Option<Arc<Decoded<N>>>, RunEnd>
@@ -137,7 +109,10 @@ fn side_of<N: Work, F: Ledger, S: Scans, R: Wait>(
     let Some((key, info)) = need else {
         return Ok(None);
     };
-    match frame_of(rt, alloc, job, scan, key, info, into, share, units, loads) {
+    share.begin_turn(rt, worker, key);
+    let frame = frame_of(rt, alloc, job, scan, key, info, rooms, share, units, loads);
+    share.end_turn(rt, worker);
+    match frame {
         Ok(frame) => Ok(Some(frame)),
         Err(end) => Err(end),
     }
@@ -150,11 +125,12 @@ pub(crate) fn make_shared<N: Work, F: Ledger, S: Scans, R: Threads + Wait + Sync
     alloc: Global,
     job: &Job,
     scan: &mut S,
+    worker: u16,
     i: u32,
-    into: &mut Vec<u8>,
+    rooms: &mut Rooms<N>,
     room: FrameBuf,
     threads: u32,
-    share: &Mutex<Share<N, F>>,
+    share: &SharedFrames<N, F>,
     units: &mut Units<F>,
     loads: &mut u64,
 ) -> Result<Rendered<N>, RunEnd>
@@ -178,13 +154,20 @@ pub(crate) fn make_shared<N: Work, F: Ledger, S: Scans, R: Threads + Wait + Sync
     ensures same { S.same scan.old scan.new }
 {
     let need = job.need(i);
-    let old = match side_of(rt, alloc, job, scan, need.old, into, share, units, loads) {
+    let old = match side_of(
+        rt, alloc, job, scan, worker, need.old, rooms, share, units, loads,
+    ) {
         Ok(old) => old,
         Err(end) => return Err(end),
     };
-    let new = match side_of(rt, alloc, job, scan, need.new, into, share, units, loads) {
+    let new = match side_of(
+        rt, alloc, job, scan, worker, need.new, rooms, share, units, loads,
+    ) {
         Ok(new) => new,
         Err(end) => return Err(end),
     };
-    Ok(render_forked(rt, job, i, lent(&old), lent(&new), room, threads))
+    let frame = render_forked(rt, job, i, lent(&old), lent(&new), room, threads);
+    rooms.spare.keep(old);
+    rooms.spare.keep(new);
+    Ok(frame)
 }

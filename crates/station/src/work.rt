@@ -10,6 +10,7 @@ ghost use Rattle.station.specs.Worked.{HasCounted};
 use crate::rest::finish_rest;
 use crate::rounds::worker;
 use crate::seat::Seat;
+use crate::shared_frames::SharedFrames;
 use conform_job::{Job, Work};
 use frame_share::Share;
 use reel_disk::{Disk, Start};
@@ -38,7 +39,7 @@ fn drive<
     job: &Job,
     seats: &mut [Seat<S, N, A, B, C, E, F>],
     station: &Mutex<Station<D, N, A, B, C, E>>,
-    share: &Mutex<Share<N, F>>,
+    share: &SharedFrames<N, F>,
 )
     requires some { 0 < length seats.old }
     requires job { job.now ≡ N.job }
@@ -89,7 +90,7 @@ fn drive_first<
     seats: &mut [Seat<S, N, A, B, C, E, F>],
     threads: usize,
     station: &Mutex<Station<D, N, A, B, C, E>>,
-    share: &Mutex<Share<N, F>>,
+    share: &SharedFrames<N, F>,
 )
     requires some { 0 < threads }
     requires within { threads ≤ length seats.old }
@@ -161,10 +162,10 @@ pub(crate) fn work_all<
     ensures whole { has_stop result.0.log.steps ≡ false → (i : ℕ) → i < frames_of N.job → is_done result.0.log i ≡ true }
 {
     let station = Mutex::new(station);
-    let share = Mutex::new(share);
+    let share = SharedFrames::new(share);
     drive_first(rt, alloc, job, seats, threads, &station, &share);
     let mut station = station.into_inner();
-    let mut share = share.into_inner();
+    let mut share = share.into_share();
     let all_put = are_put(seats);
     finish_rest(alloc, job, &mut station, &mut share, &mut seats[0], all_put);
     (station, share)

@@ -1,5 +1,5 @@
 use Rattle.std.proofs.Common.{rules}
-use Rattle.station.proofs.sharing.put_back.Goals as goal
+use Rattle.station.proofs.shared_frames.SharedFrames.put.Goals as goal
 
 pub returns : goal.returns
 returns g c = search rules
