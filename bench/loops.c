@@ -108,6 +108,10 @@ static void boxes(void) {
         for (int c = 0; c < 3; c++) out[3 * at + c] = (2 * sums[c][at] + sums[3][at]) / (2 * sums[3][at]);
 }
 
+static void copy(void) {
+    for (int n = 0; n < PIXELS; n++) out[n] = old[n];
+}
+
 static double processor(void) {
     struct timespec now;
     clock_gettime(CLOCK_PROCESS_CPUTIME_ID, &now);
@@ -135,6 +139,7 @@ int main(void) {
     for (int c = 0; c < 3; c++)
         for (int n = 0; n < 1024; n++) on_line[c][n] = spot(n, c, LONG), on_cube[c][n] = spot(n, c, SIDE);
     for (int n = 0; n < PIXELS; n++) old[n] = (uint32_t)rand() << 2, incoming[n] = (uint32_t)rand() << 2;
+    measure("copy", copy);
     measure("dissolve", dissolve);
     measure("1D", look_1d);
     measure("3D", look_3d);
