@@ -1,7 +1,8 @@
 // The pixel rules as plain loops, for bench/look, bench/render, bench/qc and bench/sheet to set the program's beside: picoseconds of
-// processor time a pixel (and a sum, so that no loop is left out) of a dissolve, of a look of one dimension with 1,024 places, of
-// one of three with 33 a side, of the three counts of the quality table, and of the contact sheet's boxes of 16 by 16 pixels. Where
-// each code lies between two places is found once, as in the program.
+// processor time a pixel (and a sum, so that no loop is left out) of the copied lines of a frame that was decoded just before, of
+// a dissolve, of a look of one dimension with 1,024 places, of one of three with 33 a side, of the three counts of the quality
+// table, and of the contact sheet's boxes of 16 by 16 pixels. Where each code lies between two places is found once, as in the
+// program.
 #include <stdint.h>
 #include <stdio.h>
 #include <stdlib.h>
@@ -108,9 +109,21 @@ static void boxes(void) {
         for (int c = 0; c < 3; c++) out[3 * at + c] = (2 * sums[c][at] + sums[3][at]) / (2 * sums[3][at]);
 }
 
-static void copy(void) {
-    for (int n = 0; n < PIXELS; n++) out[n] = old[n];
+enum { FRAME = 1556 * WIDE };
+
+static uint32_t file[FRAME], frame[FRAME];
+
+// A frame is decoded, and then its lines are copied into one line, one after another.
+static void decode(void) {
+    for (int n = 0; n < FRAME; n++) frame[n] = __builtin_bswap32(file[n]) & ~3u;
 }
+
+static void copy(void) {
+    for (int y = 0; y < FRAME / WIDE; y++)
+        for (int x = 0; x < WIDE; x++) out[x] = frame[y * WIDE + x];
+}
+
+static void nothing(void) {}
 
 static double processor(void) {
     struct timespec now;
@@ -118,9 +131,10 @@ static double processor(void) {
     return now.tv_sec * 1e9 + now.tv_nsec;
 }
 
-static void measure(const char *name, void (*loop)(void)) {
+static void measure(const char *name, void (*before)(void), void (*loop)(void), int pixels) {
     double best = 1e18;
     for (int n = 0; n < 20; n++) {
+        before();
         double start = processor();
         loop();
         double time = processor() - start;
@@ -128,7 +142,7 @@ static void measure(const char *name, void (*loop)(void)) {
     }
     uint32_t sum = 0;
     for (int n = 0; n < PIXELS; n++) sum += out[n];
-    printf("%s %.0f %u\n", name, 1000 * best / PIXELS, sum);
+    printf("%s %.0f %u\n", name, 1000 * best / pixels, sum);
 }
 
 int main(void) {
@@ -139,10 +153,11 @@ int main(void) {
     for (int c = 0; c < 3; c++)
         for (int n = 0; n < 1024; n++) on_line[c][n] = spot(n, c, LONG), on_cube[c][n] = spot(n, c, SIDE);
     for (int n = 0; n < PIXELS; n++) old[n] = (uint32_t)rand() << 2, incoming[n] = (uint32_t)rand() << 2;
-    measure("copy", copy);
-    measure("dissolve", dissolve);
-    measure("1D", look_1d);
-    measure("3D", look_3d);
-    measure("counts", counts);
-    measure("boxes", boxes);
+    for (int n = 0; n < FRAME; n++) file[n] = n;
+    measure("copy", decode, copy, FRAME);
+    measure("dissolve", nothing, dissolve, PIXELS);
+    measure("1D", nothing, look_1d, PIXELS);
+    measure("3D", nothing, look_3d, PIXELS);
+    measure("counts", nothing, counts, PIXELS);
+    measure("boxes", nothing, boxes, PIXELS);
 }
