@@ -12,11 +12,10 @@ use std::alloc::Global;
 use std::marker::Brand;
 use std::sync::atomic::{AtomicU64, Ordering};
 use std::sync::{Arc, Wait};
-use std::thread;
 use std::thread::Threads;
 
-/// How many turns a load waits for what it waits for: it looks, and yields.
-const TURNS: u64 = 1_000_000;
+/// How often a load looks whether what it waits for has come.
+const TURNS: u64 = 400_000_000;
 
 const FIRST: u32 = 86_400;
 
@@ -62,7 +61,6 @@ impl Seen {
             if self.has_come(reel, number) {
                 return true;
             }
-            thread::yield_now();
         }
         false
     }
