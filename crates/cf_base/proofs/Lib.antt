@@ -1,7 +1,9 @@
+pub mod DecimalLaws
 pub mod DigitLaws
 pub mod FirstLaws
 pub mod LineLaws
 pub mod RangeLaws
+pub mod TextLaws
 pub mod TextParts
 pub mod TokenLaws
 mod Capped

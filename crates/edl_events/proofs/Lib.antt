@@ -10,7 +10,6 @@ pub mod PictureLaws
 pub mod StepLaws
 pub mod MakeLaws
 pub mod ReadLaws
-pub mod TextLaws
 pub mod EndLaws
 pub mod ListLaws
 pub mod RunLaws

@@ -1,4 +1,3 @@
 pub mod Rows
-pub mod DigitLaws
 pub mod PictureLaws
 pub mod SpeedLaws

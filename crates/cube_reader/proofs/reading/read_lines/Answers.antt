@@ -1,22 +1,22 @@
 use Rattle.std.proofs.Common.{◌≡◌, ◌≤◌, ◌+◌, ◌<◌, ℕ, length, sym, subst, ◌∙◌, arith}
 use Rattle.std.specs.Prelude.{Err}
 use Rattle.std.proofs.lemmas.Option.{slice_get_within}
-use Rattle.cube_reader.specs.Text.{lines_in}
+use Rattle.cube_reader.specs.Text.{lines_in, tokens_of}
 use Rattle.cube_reader.specs.Steps.{IsReading}
 use Rattle.cube_reader.specs.Steps.{ReadsAll}
-use Rattle.cube_reader.proofs.TextLaws.{turn_at, ended, after_last}
+use Rattle.cf_base.proofs.TextLaws.{turn_at, ended, after_last}
 use Rattle.cube_reader.proofs.ReadLaws.{all_refused, reading_at, few_data}
 use Rattle.cube_reader.proofs.reading.read_lines.Goals as goal
 
 pub returns-in-Err : goal.returns-in-Err
 returns-in-Err c =
-    let t = turn_at c.lines_in_turn.ensures c.args.text.now c.loop-span.at c.loop-span.reading.lines c.in-Some.span c.loop-span.invariant.within (sym c.in-Some.is ∙ c.line_at.ensures) c.loop-span.invariant.rest in
+    let t = turn_at tokens_of c.lines_in_turn.ensures c.args.text.now c.loop-span.at c.loop-span.reading.lines c.in-Some.span c.loop-span.invariant.within (sym c.in-Some.is ∙ c.line_at.ensures) c.loop-span.invariant.rest in
     subst (λ f. ReadsAll (lines_in c.args.text.now) (Err f)) (sym c.refused_at.ensures)
     (all_refused (lines_in c.args.text.now) c.loop-span.reading.lines c.in-Err.fail _ (c.in-Err.ensures (lines_in c.args.text.now) t.line c.loop-span.invariant.reads))
 
 pub loop-span-preserved : goal.loop-span-preserved
 loop-span-preserved c =
-    let t = turn_at c.lines_in_turn.ensures c.args.text.now c.loop-span.at c.loop-span.reading.lines c.in-Some.span c.loop-span.invariant.within (sym c.in-Some.is ∙ c.line_at.ensures) c.loop-span.invariant.rest in
+    let t = turn_at tokens_of c.lines_in_turn.ensures c.args.text.now c.loop-span.at c.loop-span.reading.lines c.in-Some.span c.loop-span.invariant.within (sym c.in-Some.is ∙ c.line_at.ensures) c.loop-span.invariant.rest in
     let n : ℕ = c.loop-span.reading.lines in
     let reads : IsReading (lines_in c.args.text.now) (n + 1) c.read_more.new.reading
     = c.in-Ok.ensures (lines_in c.args.text.now) t.line c.loop-span.invariant.reads in
@@ -38,7 +38,7 @@ pub returns : goal.returns
 returns c =
     let done = ended c.args.text.now c.loop-span.at (sym c.in_default.is ∙ c.line_at.ensures) in
     let n : ℕ = c.loop-span.reading.lines in
-    let most : length (lines_in c.args.text.now) ≤ n = after_last c.args.text.now c.loop-span.at n done c.loop-span.invariant.rest in
+    let most : length (lines_in c.args.text.now) ≤ n = after_last tokens_of c.args.text.now c.loop-span.at n done c.loop-span.invariant.rest in
     let count : n ≤ length (lines_in c.args.text.now) = c.loop-span.invariant.count in
     let all : n ≡ length (lines_in c.args.text.now) = omega (arith, most, count) in
     reading_at (lines_in c.args.text.now) n (length (lines_in c.args.text.now)) c.loop-span.reading all c.loop-span.invariant.reads

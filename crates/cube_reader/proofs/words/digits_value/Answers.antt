@@ -1,5 +1,5 @@
 use Rattle.std.proofs.Common.{arith, ◌<◌, ◌≤◌, ◌^◌, get_or}
-use Rattle.cube_reader.proofs.DigitLaws.{small_value, one_digit_more, digit_here, digit_is}
+use Rattle.cf_base.proofs.DecimalLaws.{small_value, one_digit_more, digit_here, digit_is}
 use Rattle.cube_reader.proofs.words.digits_value.Goals as goal
 
 small : (c : goal.In-loop-byte) → c.loop-byte.value < 10 ^ 8

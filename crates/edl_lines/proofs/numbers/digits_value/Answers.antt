@@ -1,6 +1,6 @@
 use Rattle.std.proofs.Common.{arith, ◌<◌, ◌≤◌, ◌≡◌, ◌^◌, get_or, length}
 use Rattle.std.proofs.Math.Seq.{take-length}
-use Rattle.edl_lines.proofs.DigitLaws.{small_value, one_digit_more, digit_here, digit_is, value_below}
+use Rattle.cf_base.proofs.DecimalLaws.{small_value, one_digit_more, digit_here, digit_is, value_below}
 use Rattle.edl_lines.proofs.numbers.digits_value.Goals as goal
 
 small : (c : goal.In-loop-byte) → c.loop-byte.value < 10 ^ 8
