@@ -95,6 +95,17 @@ done_count_is log legal =
 pub done_count_most : (log : Log) → done_count log ≤ length log.start
 done_count_most log = omega (arith, count_by-le-length (is_done log) (range_with_len 0 (length log.start)), length-range_with_len 0 (length log.start))
 
+-- a test that holds of each place holds of as many as there are
+count_all : (p : ℕ → Bool) (a n : ℕ) → ((j : ℕ) → a ≤ j → j < a + n → p j ≡ true) → count_by p (range_with_len a n) ≡ n
+count_all p a zero all = refl
+count_all p a (suc n) all =
+    let here : cond {A = ℕ} (p a) 1 0 ≡ 1 = one_or_none (p a) true 1 0 (all a (omega arith) (omega arith)) in
+    omega (arith, here, counted_cons p a (range_with_len (a + 1) n), count_all p (a + 1) n (λ j low high. all j (omega (arith, low)) (omega (arith, high))))
+
+-- Where every frame is done, those of the start and the finished ones are all.
+pub whole_count : (log : Log) → IsLegal log → ((i : ℕ) → i < length log.start → is_done log i ≡ true) → count_by (λ was. was) log.start + length (finished_of log.steps) ≡ length log.start
+whole_count log legal all = omega (arith, done_count_is log legal, count_all (is_done log) 0 (length log.start) (λ j low high. all j (omega (arith, high))))
+
 -- So at most as many frames are finished as the reel has.
 pub finished_most : (log : Log) → IsLegal log → length (finished_of log.steps) ≤ length log.start
 finished_most log legal = omega (arith, done_count_is log legal, done_count_most log)

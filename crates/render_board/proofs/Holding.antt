@@ -242,6 +242,35 @@ pub stopped_has_stop : (log : Log) (w : ℕ) → IsLegal log → turn_of log w �
 stopped_has_stop log w legal =
     legal_induction (λ l. (v : ℕ) → turn_of l v ≡ turns.Stopped → has_stop l.steps ≡ true) log legal (λ v h. cc) (λ before s well next old. stopped_after before s old) w
 
+or_none : (a : Bool) → (a || false) ≡ true → a ≡ true
+or_none true h = refl
+or_none false h = h
+
+-- one of the workers has stopped
+abbrev pub HasStopped : Log → Type 0
+HasStopped log = (w : ℕ) × (w < log.workers) × (turn_of log w ≡ turns.Stopped)
+
+stopper_after : (log : Log) (s : Step) → IsNext log s → (has_stop log.steps ≡ true → HasStopped log) → has_stop (log.steps ++ s ∷ []) ≡ true → HasStopped (with_step log s)
+stopper_after log (Claim v i) next old h =
+    let was : has_stop log.steps ≡ true = or_none (has_stop log.steps) (sym (has_stop-step log.steps (Claim v i)) ∙ h) in
+    absurd (true≢false (sym was ∙ next.1))
+stopper_after log (Finish v i) next old h =
+    let was = old (or_none (has_stop log.steps) (sym (has_stop-step log.steps (Finish v i)) ∙ h)) in
+    let other : was.0 ≢ v = λ e. let is : turns.Holds i ≡ turns.Stopped = sym next.1 ∙ ap (turn_of log) (sym e) ∙ was.2 in cc in
+    (was.0, was.1, turn_of-other log (Finish v i) was.0 other ∙ was.2)
+stopper_after log (Stop v why) next old h = (v, next.0, turn_of-own log (Stop v why) v refl)
+
+-- Where there is a stop, one of the workers has stopped; so there is none while none has.
+pub stop_has_worker : (log : Log) → IsLegal log → has_stop log.steps ≡ true → HasStopped log
+stop_has_worker log legal =
+    legal_induction (λ l. has_stop l.steps ≡ true → HasStopped l) log legal (λ h. absurd (false≢true h)) (λ before s well next old. stopper_after before s next old)
+
+pub none_stopped : (log : Log) → IsLegal log → ((w : ℕ) → w < log.workers → turn_of log w ≢ turns.Stopped) → has_stop log.steps ≡ false
+none_stopped log legal running = elim (true_or_false (has_stop log.steps)) [
+  | inl is ↦ let at = stop_has_worker log legal is in absurd (running at.0 at.1 at.2)
+  | inr none ↦ none
+]
+
 pub idle_or_holds : (log : Log) (w : ℕ) → IsLegal log → has_stop log.steps ≡ false → (turn_of log w ≡ turns.Idle) ⊎ ((i : ℕ) × (turn_of log w ≡ turns.Holds i))
 idle_or_holds log w legal going = by_turn (turn_of log w) (λ h. true≢false (sym (stopped_has_stop log w legal h) ∙ going))
 

@@ -4,7 +4,7 @@ use Rattle.std.specs.List.{list_any}
 use Rattle.render_board.specs.declared.step.Step.{Step}
 use Rattle.render_board.specs.declared.step.Step.TheVariants.{Claim, Finish, Stop}
 use Rattle.render_board.specs.declared.step.Why.{Why}
-use Rattle.render_board.specs.declared.board.Turn.TheVariants.{Idle, Holds}
+use Rattle.render_board.specs.declared.board.Turn.TheVariants.{Idle, Holds, Stopped}
 use Rattle.render_board.specs.Board.{Log, worker_of, is_claim_of, is_finish_of, is_stop, is_done, is_free, least_free, free_count, done_count, has_stop, turn_after, turn_of, IsNext, IsLegal, first_steps, with_step}
 use Rattle.render_board.specs.History.{finished_of, first_stop, first_why, is_source, is_disk, is_memory, is_changed, is_stop_by, stops_of}
 
@@ -59,16 +59,25 @@ pub record AreFinished : Type 0 where
       → i < length log.start
 
 -- The frames that are done are as many as those of the start and the finished ones together, and at
--- most the whole reel. A claim leaves one frame fewer free, and no other step changes that number.
+-- most the whole reel; they are the whole reel where every frame is done. A claim leaves one frame
+-- fewer free, and no other step changes that number.
 pub record AreNumbered : Type 0 where
   pub done : (log : Log) → IsLegal log
       → done_count log ≡ count_by (λ was. was) log.start + length (finished_of log.steps)
   pub most : (log : Log) → done_count log ≤ length log.start
+  pub whole : (log : Log) → IsLegal log → ((i : ℕ) → i < length log.start → is_done log i ≡ true)
+      → count_by (λ was. was) log.start + length (finished_of log.steps) ≡ length log.start
   pub claimed : (log : Log) (w i : ℕ) → IsNext log (Claim w i)
       → free_count log ≡ free_count (with_step log (Claim w i)) + 1
   pub finished : (log : Log) (w i : ℕ) → free_count (with_step log (Finish w i)) ≡ free_count log
   pub stopped : (log : Log) (w : ℕ) (why : Why)
       → free_count (with_step log (Stop w why)) ≡ free_count log
+
+-- There is a stop just where one of the workers has stopped.
+pub record AreStopped : Type 0 where
+  pub there : (log : Log) → IsLegal log → has_stop log.steps ≡ true
+      → (w : ℕ) × (w < log.workers) × (turn_of log w ≡ Stopped)
+  pub only : (log : Log) (w : ℕ) → IsLegal log → turn_of log w ≡ Stopped → has_stop log.steps ≡ true
 
 -- The first stop is a stop that has none before it, and no later step changes it.
 pub record IsFirst : Type 0 where
