@@ -3,7 +3,7 @@
 --     frames_of job      how many frames the reel has
 --     reel_of job files      for each frame its file and its bytes
 --     IsReelRun job told old new      what each call on the reel keeps, and so does each run of them
-use Rattle.std.specs.Prelude.{◌≡◌, ◌≢◌, ◌⊎◌, ℕ, ◌<◌, List, Option, IfSome}
+use Rattle.std.specs.Prelude.{◌≡◌, ◌≢◌, ◌⊎◌, ℕ, ◌<◌, List, Option, Some, IfSome}
 use Rattle.cf_base.specs.declared.file.FileId.{FileId}
 use Rattle.cf_base.specs.declared.file.FileId.TheVariants.{Body2}
 use Rattle.scan_source.specs.World.{World, file_at}
@@ -31,6 +31,10 @@ HasAcked job i files = Acks job.parts.digest (frames_of job) i files
 abbrev pub IsSoundReel : JobData → World → Files → Type 0
 IsSoundReel job world files = IsSoundAndFit job.parts.digest (frames_of job)
     (reel_of job (file_at world)) files
+
+-- the file is there with just these bytes
+abbrev pub HasStored : FileId → List ℕ → Files → Type 0
+HasStored file bytes files = files file ≡ Some bytes
 
 -- Each frame that version 1 acknowledges has a file of a frame's length. Sound files have.
 abbrev pub HasFrameFiles : JobData → Files → Type 0

@@ -9,7 +9,7 @@ ghost use Rattle.scan_source.specs.World.{World};
 ghost use Rattle.resume_ledger.specs.Ledger.{IsInForce, IsLedgerFile, IsWrittenLedgerFile};
 ghost use Rattle.resume_ledger.specs.Sound.{AddsNone, AddsAtMost, WritesOnly};
 ghost use Rattle.resume_ledger.specs.Attach.{HasAttached, IsAnswerTo};
-ghost use Rattle.reel_writer.specs.Reel.{frames_of, HasAcked, HasFrameFiles, IsSoundReel, IsReelRun, KeepsReel, IsWrittenFile};
+ghost use Rattle.reel_writer.specs.Reel.{frames_of, HasAcked, HasFrameFiles, HasStored, IsSoundReel, IsReelRun, KeepsReel, IsWrittenFile};
 ghost use Rattle.reel_writer.specs.View.{ReelView, IsReelOf, IsOpening, after_finish, after_fault, ledger_in, disk_in};
 
 use crate::files::{attach_for, frame_len};
@@ -166,6 +166,12 @@ impl<D: Disk, N: Work> Reel<D, N> {
         ensures shown { OnOk result (D.tells ≡ true
             → view_of (D.history self.new.disk) (file_of N.job frame.now.index)
             ≡ Some frame.now.bytes) }
+
+        // Whatever a crash leaves from now on has the file as it was rendered, whatever the folder was.
+        ensures stored { OnOk result (D.tells ≡ true
+            → Surely (moment_of (D.history self.new.disk))
+            (HasStored (file_of N.job frame.now.index) frame.now.bytes)) }
+
         ensures finished { OnOk result (self.new
             ≡ after_finish self.old frame.now.index self.new.disk) }
         ensures closed { OnErr result (self.new ≡ after_fault self.old self.new.disk) }

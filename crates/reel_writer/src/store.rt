@@ -6,7 +6,7 @@ ghost use Rattle.reel_disk.specs.Disk.{moment_of, view_of};
 ghost use Rattle.reel_disk.specs.Runs.{Surely};
 ghost use Rattle.resume_ledger.specs.Ledger.{Acks, Agrees};
 ghost use Rattle.resume_ledger.specs.Sound.{IsFrameFile};
-ghost use Rattle.reel_writer.specs.Reel.{IsFinishing};
+ghost use Rattle.reel_writer.specs.Reel.{HasStored, IsFinishing};
 
 use cf_base::FileId;
 use reel_disk::{Disk, DiskFault};
@@ -38,6 +38,8 @@ pub(crate) fn store<D: Disk>(
         (Acks ledger.old.digest (length ledger.old.gates) i)) }
     ensures shown { OnOk result (D.tells ≡ true
         → view_of (D.history disk.new) file ≡ Some bytes.now) }
+    ensures stored { OnOk result (D.tells ≡ true
+        → Surely (moment_of (D.history disk.new)) (HasStored file bytes.now)) }
     ensures agrees { OnOk result (D.tells ≡ true
         → Agrees (moment_of (D.history disk.new)) ledger.new) }
     ensures ledger { OnOk result (ledger.new

@@ -1,5 +1,5 @@
 use Rattle.std.proofs.Common.{rules, ◌≡◌, ◌≢◌, ◌∙◌, ◌+◌, ◌<◌, ℕ, Bool, true, false, List, [], ◌∷◌, ◌++◌, length, get_or, set, ap, sym, subst, arith}
-use Rattle.std.specs.Prelude.{count_by}
+use Rattle.std.specs.Prelude.{Some, count_by}
 use Rattle.std.proofs.lemmas.List.{length-set}
 use Rattle.conform_job.specs.Job.{file_of}
 use Rattle.frame_render.specs.Frame.{FrameBytes, IsFileOf}
@@ -81,6 +81,12 @@ pub returns-in-Ok-clause-acked : goal.returns-in-Ok-clause-acked
 returns-in-Ok-clause-acked g c told =
     let index : c.index-i.result ≡ c.args.frame.now.index = c.index-i.ensures.index ∙ ap (λ (f : FrameBytes). f.index) c.frame-frame.ensures in
     acked_of g.N.Work.job _ _ c.index-i.result c.args.frame.now.index _ c.self.invariant.0.digest c.self.invariant.0.size index (c.in-Ok.ensures.acked told)
+
+pub returns-in-Ok-clause-stored : goal.returns-in-Ok-clause-stored
+returns-in-Ok-clause-stored g c told files image =
+    let file : c.file.result ≡ file_of g.N.Work.job c.args.frame.now.index = c.file.ensures.own ∙ ap (λ (f : FrameBytes). file_of g.N.Work.job f.index) c.frame-frame.ensures in
+    let bytes : c.bytes.result.now ≡ c.args.frame.now.bytes = search rules in
+    ap files (sym file) ∙ c.in-Ok.ensures.stored told files image ∙ ap Some bytes
 
 pub push_within-requires : goal.push_within-requires
 push_within-requires g c =
