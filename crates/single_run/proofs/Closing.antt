@@ -1,7 +1,8 @@
 -- What the folder acknowledges where a run ends.
-use Rattle.std.proofs.Common.{◌≡◌, ◌≢◌, inl, inr, ℕ, zero, suc, ◌<◌, ◌≤◌, Bool, true, false, List, [], length, take, get_or, refl, sym, ◌∙◌, ap, subst, arith}
+use Rattle.std.proofs.Common.{◌≡◌, ◌≢◌, inl, inr, ℕ, zero, suc, ◌+◌, ◌<◌, ◌≤◌, Bool, true, false, not, cond, List, [], ◌∷◌, length, count_by, filter, take, get_or, refl, sym, ◌∙◌, ap, subst, arith}
 use Rattle.std.specs.Prelude.{Contains, ◌⊎◌, ◌↔◌, Option, Some, None, IfSome}
-use Rattle.std.proofs.lemmas.List.Sums.{count_by-le-length}
+use Rattle.std.specs.List.{range_with_len}
+use Rattle.std.proofs.lemmas.List.Sums.{count_by-le-length, sum_by-cons}
 use Rattle.cf_base.specs.Count.{HasRisen}
 use Rattle.scan_source.specs.Plan.{one_more}
 use Rattle.scan_source.specs.World.{World}
@@ -78,6 +79,32 @@ module _ {D : Type 0} (job : JobData) (tells : Bool) (history : D → History) (
       by (Changed key was_info now) is = exit_acked (agrees (λ was. let both = sym is ∙ was in cc)) gates opened listed same k
       by SourceFault is = exit_acked (agrees (λ was. let both = sym is ∙ was in cc)) gates opened listed same k
       by NoMemory is = exit_acked (agrees (λ was. let both = sym is ∙ was in cc)) gates opened listed same k
+
+-- a frame's gate is open, or it is closed
+split_gates : (gates : List Bool) (from : ℕ) (shut : ℕ → Bool) → ((k : ℕ) → k < length gates → shut (from + k) ≡ not (get_or gates k false))
+    → count_by (λ gate. gate) gates + length (filter shut (range_with_len from (length gates))) ≡ length gates
+split_gates [] from shut same = refl
+split_gates (gate ∷ gates) from shut same =
+    let first : shut from ≡ not gate = ap shut (omega arith) ∙ same 0 (omega arith) in
+    let rest = split_gates gates (from + 1) shut (λ k lt. ap shut (omega arith) ∙ same (suc k) (omega (arith, lt))) in
+    by gate first (sum_by-cons (λ (b : Bool). cond {A = ℕ} b 1 0) gate gates) rest
+  where
+    by : (b : Bool) → shut from ≡ not b → count_by (λ g. g) (b ∷ gates) ≡ cond b 1 0 + count_by (λ g. g) gates → count_by (λ g. g) gates + length (filter shut (range_with_len (from + 1) (length gates))) ≡ length gates
+        → count_by (λ g. g) (b ∷ gates) + length (filter shut (range_with_len from (suc (length gates)))) ≡ suc (length gates)
+    by true first all rest =
+        let less : length (filter shut (range_with_len from (suc (length gates)))) ≡ length (filter shut (range_with_len (from + 1) (length gates))) = rw first refl in
+        omega (arith, all, rest, less)
+    by false first all rest =
+        let more : length (filter shut (range_with_len from (suc (length gates)))) ≡ suc (length (filter shut (range_with_len (from + 1) (length gates)))) = rw first refl in
+        omega (arith, all, rest, more)
+
+-- so at Done the frames that were kept and those that were rendered are the whole reel
+pub rest_of : (job : JobData) (gates : List Bool) (kept rendered : ℕ) (end : RunEnd) (log : List ShareStep) → length gates ≡ frames_of job → kept ≡ count_by (λ gate. gate) gates → WereFinished job gates end rendered log → end ≡ Done → kept + rendered ≡ frames_of job
+unfolding closed_frames
+rest_of job gates kept rendered end log size count finished done =
+    let all = split_gates gates 0 (λ i. not (get_or gates i false)) (λ k lt. ap (λ (n : ℕ). not (get_or gates n false)) (omega arith)) in
+    let closed : length (filter (λ i. not (get_or gates i false)) (range_with_len 0 (length gates))) ≡ rendered = ap (λ (n : ℕ). length (closed_frames gates n)) size ∙ sym (finished.all done) in
+    omega (arith, all, closed, size, count)
 
 -- at Done every frame is among those that were acknowledged and those that were finished
 pub all_done : (job : JobData) (gates : List Bool) (acks : List ℕ) (rendered : ℕ) (log : List ShareStep) → WereFinished job gates Done rendered log → acks ≡ take rendered (closed_frames gates (frames_of job)) → (i : ℕ) → i < frames_of job → (get_or gates i false ≡ true) ⊎ Contains acks i

@@ -20,7 +20,9 @@ use Rattle.conform_job.specs.Names.{Tells}
 use Rattle.conform_job.specs.Refusals.{file_of_key}
 use Rattle.conform_job.specs.declared.parts.JobParts.{JobParts}
 use Rattle.frame_render.specs.Frame.{IsFrontOf}
-use Rattle.single_run.specs.Ends.{seen_by}
+use Rattle.single_run.specs.Ends.{HasSeen, IsFail, seen_by}
+use Rattle.single_run.specs.declared.run_end.RunEnd.{RunEnd}
+use Rattle.single_run.specs.declared.run_end.RunEnd.TheVariants.{Done, OtherJob, BadLedger, Changed, SourceFault, DiskFault, NoMemory}
 use Rattle.single_run.proofs.Heads.{need_past_head}
 
 pub info_known : (p : JobParts) (told : Option World) (infos : List (Key × FrameInfo)) → AreInfosOf p told infos → (key : Key) (info : FrameInfo) → info_at infos key ≡ Some info → IsInfoOf p told key info
@@ -78,3 +80,13 @@ info_in other seen.Fault = other
 
 pub same_info : (is info : FrameInfo) (len : ℕ) → seen.Info is ≡ seen.Info info → need_of is ≤ len → need_of info ≤ len
 same_info is info len same whole = let one : is ≡ info = ap (info_in is) same in subst (λ (i : FrameInfo). need_of i ≤ len) one whole
+
+-- a load that failed found nothing changed
+pub fail_seen : (key : Key) (info : FrameInfo) (into : List ℕ) (end : RunEnd) → IsFail end → HasSeen key info into end
+fail_seen key info into Done fail = absurd fail
+fail_seen key info into (OtherJob kept wanted) fail = absurd fail
+fail_seen key info into (BadLedger len) fail = absurd fail
+fail_seen key info into (Changed other was now) fail = absurd fail
+fail_seen key info into SourceFault fail = tt
+fail_seen key info into DiskFault fail = absurd fail
+fail_seen key info into NoMemory fail = tt

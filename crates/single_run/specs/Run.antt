@@ -2,7 +2,7 @@
 --     WasOpened      a run whose folder was opened: what it finished, asked for and left acknowledged
 --     WasRefused      a run whose folder was not
 --     IsWhole      the folder has the whole reel
-use Rattle.std.specs.Prelude.{◌≡◌, ◌≢◌, ◌⊎◌, ◌↔◌, ℕ, ◌<◌, Bool, true, false, List, [], length, take, count_by, Contains, slice_index_or, Option, Some, IfSome}
+use Rattle.std.specs.Prelude.{◌≡◌, ◌≢◌, ◌⊎◌, ◌↔◌, ℕ, ◌+◌, ◌<◌, Bool, true, false, List, [], length, take, count_by, Contains, slice_index_or, Option, Some, IfSome}
 use Rattle.scan_source.specs.World.{World, file_at}
 use Rattle.conform_job.specs.Job.{JobData, file_of}
 use Rattle.frame_render.specs.Frame.{frame_file}
@@ -22,7 +22,8 @@ use Rattle.single_run.specs.declared.run_end.Report.{Report}
 use Rattle.single_run.specs.declared.run_end.RunEnd.{RunEnd}
 use Rattle.single_run.specs.declared.run_end.RunEnd.TheVariants.{Done, OtherJob, BadLedger, Changed, SourceFault, DiskFault, NoMemory}
 
--- The folder was unsealed or this job's. `gates` are the frames that the opening kept. The folder
+-- The folder was unsealed or this job's. `gates` are the frames that the opening kept; at Done these and
+-- the rendered ones are the whole reel. The folder
 -- acknowledges now just these and those that the run finished. Where the disk failed, that is so of
 -- all frames but the next one, whose finish failed. The log is that of the share, of so many frames.
 pub record WasOpened (job : JobData) (told : Option World) (capacity : ℕ) (tells : Bool)
@@ -34,6 +35,7 @@ pub record WasOpened (job : JobData) (told : Option World) (capacity : ℕ) (tel
   pub fit : tells ≡ true → IsFit job.parts.digest (frames_of job) (view_of old)
   pub is_end : IsEnd job told end
   pub kept : report.kept ≡ count_by (λ gate. gate) gates
+  pub rest : end ≡ Done → report.kept + report.rendered ≡ frames_of job
   pub finished : WereFinished job gates end report.rendered log
   pub shared : WereShared capacity log report
   pub exit : tells ≡ true → (k : ℕ)

@@ -10,7 +10,7 @@ ghost use Rattle.conform_job.specs.Answers.{AreInfosOf};
 ghost use Rattle.conform_job.specs.Keys.{info_at};
 ghost use Rattle.conform_job.specs.Names.{Tells};
 ghost use Rattle.frame_render.specs.Frame.{IsFrontOf};
-ghost use Rattle.single_run.specs.Ends.{seen_by, IsFail, IsStop};
+ghost use Rattle.single_run.specs.Ends.{seen_by, HasSeen, IsFail, IsSeenBy, IsStop};
 ghost use Rattle.single_run.specs.Scanned.{IsScanned};
 
 use crate::RunEnd;
@@ -59,6 +59,7 @@ fn look<N: Work, S: Scans>(
         → need_of info ≤ length into.new.items) }
     ensures front { IfOk result (λ now. now ≡ Seen.Info info
         → IfSome N.files (λ world. IsFrontOf N.job (file_at world) key info into.new.items)) }
+    ensures seen { IfOk result (λ now. IsSeenBy now (need_of info) into.new.items) }
     ensures stop { IfErr result IsFail }
     ensures scan { IsScanned S.world S.faults S.loads 1 (result
         ≡ Err RunEnd.SourceFault) scan.old scan.new }
@@ -77,7 +78,7 @@ fn look<N: Work, S: Scans>(
 /// The source frame with this key, by one load of its file, whose header is read again. It lies in the spare room, where
 /// there is one.
 ///
-/// `Changed` comes where no file is there, or its header isn't what the job has; `SourceFault`
+/// `Changed` comes where no file is there, or its header isn't what the job has, and tells which it is; `SourceFault`
 /// where the load failed; `NoMemory` for want of memory alone.
 pub fn fetch<N: Work, S: Scans>(
     alloc: Global,
@@ -93,6 +94,7 @@ pub fn fetch<N: Work, S: Scans>(
     requires known { info_at N.job.infos key ≡ Some info }
     ensures key { IfOk result (λ frame. (arc_value frame).key ≡ key) }
     ensures stop { IfErr result (IsStop N.job N.files) }
+    ensures seen { IfErr result (HasSeen key info rooms.new.file.items) }
     ensures never { result ≢ Err RunEnd.DiskFault }
     ensures scan { IsScanned S.world S.faults S.loads 1 (result
         ≡ Err RunEnd.SourceFault) scan.old scan.new }

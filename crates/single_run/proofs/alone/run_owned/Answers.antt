@@ -10,7 +10,7 @@ use Rattle.reel_writer.proofs.ReelLaws.{reel_run_along}
 use Rattle.reel_writer.proofs.Writing.{opened_has, own_file, own_written, writes_wider}
 use Rattle.single_run.specs.Ends.{refused_by}
 use Rattle.single_run.specs.declared.run_end.RunEnd.TheVariants as run_end
-use Rattle.single_run.proofs.Closing.{was_refused, whole_reel}
+use Rattle.single_run.proofs.Closing.{rest_of, was_refused, whole_reel}
 use Rattle.single_run.proofs.alone.run_owned.Goals as goal
 
 pub returns-in-Ok-clause-ran : goal.returns-in-Ok-clause-ran
@@ -21,6 +21,7 @@ returns-in-Ok-clause-ran g c = inl (record {
   fit = λ told. (c.in-Ok.ensures.answer told).fit;
   is_end = c.run_opened-end.ensures.end;
   kept = c.run_opened-end.ensures.kept ∙ c.in-Ok.ensures.opening.1;
+  rest = λ done. rest_of g.N.Work.job c.in-Ok.reel.ledger.gates _ _ _ c.run_opened-end.result.2 c.in-Ok.ensures.known.size (c.run_opened-end.ensures.kept ∙ c.in-Ok.ensures.opening.1) c.run_opened-end.ensures.finished done;
   finished = c.run_opened-end.ensures.finished;
   shared = c.run_opened-end.ensures.shared;
   exit = c.run_opened-end.ensures.exit;

@@ -1,8 +1,8 @@
-use Rattle.std.proofs.Common.{◌≡◌, ℕ, List, ◌∙◌, ap, subst}
+use Rattle.std.proofs.Common.{◌≡◌, ℕ, List, refl, ◌∙◌, ap, subst}
 use Rattle.std.specs.Prelude.{None, IfSome}
 use Rattle.dpx_header.specs.Frame.{need_of}
 use Rattle.dpx_header.specs.Reading.{info_of}
-use Rattle.scan_source.specs.Answers.{IsLoaded, first_bytes}
+use Rattle.scan_source.specs.Answers.{Fills, IsLoaded, first_bytes}
 use Rattle.scan_source.specs.World.{file_at}
 use Rattle.scan_source.specs.declared.scans.Loaded.TheVariants as loaded
 use Rattle.source_reels.specs.Reels.{path_of_key}
@@ -36,3 +36,17 @@ returns-in-Absent-clause-changed g c other =
     absent_changed g.N.Work.job g.N.Work.files c.args.key c.args.info c.path_of-path.result (c.path_of-path.ensures ∙ ap (λ (j : JobData). path_of_key j.parts.reels c.args.key) c.requires.job)
     (info_known _ _ _ c.requires.infos c.args.key c.args.info c.requires.known)
     (told_here _ _ (λ world. file_at world c.path_of-path.result ≡ None) c.requires.files c.in-Absent.ensures.told)
+
+pub returns-in-Got-clause-seen : goal.returns-in-Got-clause-seen
+returns-in-Got-clause-seen g c = record {
+  answer = loaded.Got c.in-Got.len;
+  fills = subst (λ (n : ℕ). Fills (loaded.Got c.in-Got.len) n c.load.new.into.items) c.need.ensures c.in-Got.ensures.fills;
+  says = c.seen_in.ensures.seen ∙ ap (λ (l : List ℕ). seen_by (info_of (first_bytes 2048 l) c.in-Got.len)) c.deref.ensures.value;
+}
+
+pub returns-in-Absent-clause-seen : goal.returns-in-Absent-clause-seen
+returns-in-Absent-clause-seen g c = record {
+  answer = loaded.Absent;
+  fills = c.in-Absent.ensures.fills;
+  says = refl;
+}
