@@ -49,6 +49,13 @@ ledger_shown job moment ledger agrees digest size i =
       λ is. subst (λ (d : List ℕ). Acks d (frames_of job) i moment.view) digest (subst (λ (n : ℕ). Acks ledger.digest n i moment.view) size (shown.0 is)),
     )
 
+-- a folder that was opened, and no more, acknowledges just what the opening kept
+pub opened_acks : (job : JobData) (old new : History) (ledger : LedgerState) → IsOpened job.parts.digest (frames_of job) (file_of job) (frame_size job) (view_of old) new ledger
+    → IsOpenFor job.parts.digest (frames_of job) ledger → (i : ℕ) → HasAcked job i (view_of new) ↔ HasKept job i (view_of old)
+opened_acks job old new ledger opened known i =
+    let shown = ledger_shown job (moment_of new) ledger opened.agrees known.digest_is known.size i in
+    (λ acks. (opened.gates i).0 (shown.0 acks), λ kept. shown.1 ((opened.gates i).1 kept))
+
 module _ {D : Type 0} (job : JobData) (told : Option World) (start : Option Moment) (tells : Bool) (history : D → History) (faults : D → ℕ) where
   pub beginning : (disk : D) (reel : ReelView D) (log : Log) (workers : ℕ) → start ≡ start_of tells (history disk) → (tells ≡ true → (history disk).now ≡ 0) → faults disk ≡ 0
       → (tells ≡ true → IsReelRun job told (history disk) (history reel.disk)) → (tells ≡ true → Spares (history disk) (history reel.disk) IsLedgerFile) → (tells ≡ true → WritesOnly (history disk) (history reel.disk) IsWrittenLedgerFile)

@@ -21,7 +21,7 @@ use Rattle.render_board.specs.declared.step.Step.{Step}
 use Rattle.render_board.specs.declared.step.Step.TheVariants.{Claim, Finish, Stop}
 use Rattle.render_board.specs.declared.step.Why.{Why}
 use Rattle.render_board.specs.declared.step.Why.TheVariants.{Source, Disk, Memory, Changed}
-use Rattle.render_board.specs.Board.{Log, is_done, is_finish_of, turn_of, claim_of, IsNext, with_step}
+use Rattle.render_board.specs.Board.{Log, after_claim, is_done, is_finish_of, turn_of, claim_of, IsNext, with_step}
 use Rattle.render_board.specs.History.{finished_of, is_source, is_disk, is_memory, is_changed, is_stop_by, stops_of}
 use Rattle.render_board.proofs.Steps.{slice_get-push, isnt_other, finished_own, done_as_before, IsLegal-step, is_done-start}
 use Rattle.render_board.proofs.Histories.{finished_of-finish, finished_of-claim, finished_of-stop, stops_of-step}
@@ -387,3 +387,9 @@ module _ {D : Type 0} (job : JobData) (told : Option World) (start : Option Mome
           (subst (λ (l : Log). IsStation job told start tells history faults (record { reel = after_fault v.reel reel.disk; log = l; totals = record { source = v.totals.source; disk = td; memory = v.totals.memory; changed = v.totals.changed } })) (sym same_log)
           (subst (λ (n : ℕ). IsStation job told start tells history faults (record { reel = after_fault v.reel reel.disk; log = with_step v.log (Stop w Disk); totals = record { source = v.totals.source; disk = n; memory = v.totals.memory; changed = v.totals.changed } })) (sym more)
           (station_fail v w i reel.disk is opened known holds run none_lost others spares rose)))
+
+-- no claim changes how many workers there are
+pub claim_workers : (log : Log) (worker : ℕ) (answer : Answer) → (after_claim log worker answer).workers ≡ log.workers
+claim_workers log worker (Take i) = refl
+claim_workers log worker NoneLeft = refl
+claim_workers log worker Stopped = refl

@@ -2,8 +2,13 @@
 //! whenever the lock is free.
 #![tactic(auto)]
 
+mod crewed;
+mod leaving;
 mod marks;
 mod station;
+mod worker_calls;
 
+pub use crewed::Crewed;
+pub use leaving::{Away, Held, Leave, Reason};
 pub use marks::Marks;
 pub use station::Station;

@@ -8,12 +8,13 @@ ghost use Rattle.resume_ledger.specs.Sound.{AddsAtMost};
 ghost use Rattle.render_board.specs.Board.{turn_of, claim_of, least_free};
 ghost use Rattle.render_board.specs.declared.board.Turn.TheVariants as turns;
 ghost use Rattle.render_board.specs.declared.step.Why.TheVariants as whys;
-ghost use Rattle.reel_writer.specs.Reel.{frames_of, HasAcked, IsReelRun, IsWrittenFile, KeepsReel};
+ghost use Rattle.reel_writer.specs.Reel.{frames_of, HasAcked, HasStored, IsReelRun, IsWrittenFile, KeepsReel};
 ghost use Rattle.reel_writer.specs.View.{IsReelOf};
 ghost use Rattle.shared_station.specs.Marks.{IsBlankOf, IsSettled, raised_by};
 ghost use Rattle.shared_station.specs.Station.{StationView, IsStation};
 ghost use Rattle.shared_station.specs.StationSteps.{IsBeginning, MayStop, after_claimed, after_failed, after_finished, after_stopped};
 
+use crate::crewed::Crewed;
 use crate::marks::Marks;
 use conform_job::Work;
 use reel_disk::{Disk, DiskFault, Start};
@@ -35,15 +36,25 @@ struct Totals<A: Ledger, B: Ledger, C: Ledger, E: Ledger> {
 /// the board or none.
 ///
 /// Contracts see the reel, the board's log, and the totals of stops.
-pub struct Station<D: Disk, N: Work + Start, A: Ledger, B: Ledger, C: Ledger, E: Ledger> {
+pub struct Station<
+    D: Disk,
+    N: Work + Start,
+    W: Crewed,
+    A: Ledger,
+    B: Ledger,
+    C: Ledger,
+    E: Ledger,
+> {
     reel: Reel<D, N>,
     board: Board,
     totals: Totals<A, B, C, E>,
     of: PhantomData<N>,
+    crew: PhantomData<W>,
 }
 
-impl<D: Disk, N: Work + Start, A: Ledger, B: Ledger, C: Ledger, E: Ledger> Model
-    for Station<D, N, A, B, C, E> {
+impl<D: Disk, N: Work + Start, W: Crewed, A: Ledger, B: Ledger, C: Ledger, E: Ledger> Model
+    for Station<D, N, W, A, B, C, E> {
+    ghost use Rattle.std.specs.Prelude.{◌≡◌};
     ghost use Rattle.std.specs.Coded.{codes};
     ghost use Rattle.reel_writer.specs.View.{reel_code};
     ghost use Rattle.shared_station.specs.Station.{StationView, IsStation};
@@ -56,12 +67,14 @@ impl<D: Disk, N: Work + Start, A: Ledger, B: Ledger, C: Ledger, E: Ledger> Model
 
     ghost invariant = { λ s.
         IsStation N.job N.files N.start D.tells D.history D.faults
-        (record { reel = s.reel; log = s.board; totals = record { source = s.totals.source.total; disk = s.totals.disk.total; memory = s.totals.memory.total; changed = s.totals.changed.total } }) };
+        (record { reel = s.reel; log = s.board; totals = record { source = s.totals.source.total; disk = s.totals.disk.total; memory = s.totals.memory.total; changed = s.totals.changed.total } })
+        × (s.board.workers ≡ W.workers) };
 }
 
-impl<D: Disk, N: Work + Start, A: Ledger, B: Ledger, C: Ledger, E: Ledger> Station<
+impl<D: Disk, N: Work + Start, W: Crewed, A: Ledger, B: Ledger, C: Ledger, E: Ledger> Station<
     D,
     N,
+    W,
     A,
     B,
     C,
@@ -76,12 +89,13 @@ impl<D: Disk, N: Work + Start, A: Ledger, B: Ledger, C: Ledger, E: Ledger> Stati
         disk: Blank,
         memory: Blank,
         changed: Blank,
-    ) -> (Station<D, N, A, B, C, E>, Marks<A, B, C, E>)
+    ) -> (Station<D, N, W, A, B, C, E>, Marks<A, B, C, E>)
         requires source { IsBlankOf A.name A.parts source.name source.parts }
         requires disk { IsBlankOf B.name B.parts disk.name disk.parts }
         requires memory { IsBlankOf C.name C.parts memory.name memory.parts }
         requires changed { IsBlankOf E.name E.parts changed.name changed.parts }
         requires beginning { IsBeginning N.job N.files N.start D.tells D.history D.faults reel board }
+        requires workers { board.workers ≡ W.workers }
         ensures reel { result.0.reel ≡ reel }
         ensures log { result.0.log ≡ board }
         ensures source { (result.1.source.parts ≡ A.parts) × (result.1.source.amount ≡ 0) }
@@ -104,6 +118,7 @@ impl<D: Disk, N: Work + Start, A: Ledger, B: Ledger, C: Ledger, E: Ledger> Stati
                 changed: changed_book,
             },
             of: PhantomData,
+            crew: PhantomData,
         };
         let marks = Marks {
             source: source_share,
@@ -148,6 +163,7 @@ impl<D: Disk, N: Work + Start, A: Ledger, B: Ledger, C: Ledger, E: Ledger> Stati
         ensures spares { D.tells ≡ true → Spares (D.history self.old.reel.disk) (D.history self.new.reel.disk) (IsWrittenFile (file_of N.job frame.now.index)) }
         ensures acked { OnOk result (D.tells ≡ true → Surely (moment_of (D.history self.new.reel.disk)) (HasAcked N.job frame.now.index)) }
         ensures shown { OnOk result (D.tells ≡ true → view_of (D.history self.new.reel.disk) (file_of N.job frame.now.index) ≡ Some frame.now.bytes) }
+        ensures stored { OnOk result (D.tells ≡ true → Surely (moment_of (D.history self.new.reel.disk)) (HasStored (file_of N.job frame.now.index) frame.now.bytes)) }
         ensures same { D.same self.old.reel.disk self.new.reel.disk }
         ensures cause { HasCause (D.faults self.old.reel.disk) (D.faults self.new.reel.disk) (IsErr result) }
         ensures steady { OnOk result (D.faults self.new.reel.disk ≡ D.faults self.old.reel.disk) }
@@ -196,6 +212,7 @@ impl<D: Disk, N: Work + Start, A: Ledger, B: Ledger, C: Ledger, E: Ledger> Stati
         ensures workers { result ≡ self.now.log.workers }
         ensures some { 1 ≤ result }
         ensures most { result ≤ 16 }
+        ensures named { self.now.log.workers ≡ W.workers }
         ensures kept { IsStation N.job N.files N.start D.tells D.history D.faults self.now }
     {
         self.board.workers()
@@ -228,6 +245,7 @@ impl<D: Disk, N: Work + Start, A: Ledger, B: Ledger, C: Ledger, E: Ledger> Stati
     pub fn into_parts(self) -> (Reel<D, N>, Board)
         ensures reel { result.0 ≡ self.reel }
         ensures log { result.1 ≡ self.log }
+        ensures named { self.log.workers ≡ W.workers }
         ensures kept { IsStation N.job N.files N.start D.tells D.history D.faults self }
     {
         let Station {
@@ -235,6 +253,7 @@ impl<D: Disk, N: Work + Start, A: Ledger, B: Ledger, C: Ledger, E: Ledger> Stati
             board,
             totals: _,
             of: _,
+            crew: _,
         } = self;
         (reel, board)
     }

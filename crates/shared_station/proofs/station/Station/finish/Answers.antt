@@ -1,29 +1,34 @@
-use Rattle.std.proofs.Common.{◌≡◌, true, rules, ◌∙◌, subst}
+use Rattle.std.proofs.Common.{◌≡◌, true, rules, ◌∙◌, ap, subst}
 use Rattle.resume_ledger.specs.Sound.{AddsAtMost}
 use Rattle.reel_writer.specs.Reel.{frames_of, KeepsReel}
+use Rattle.render_board.specs.Board.{Log}
 use Rattle.render_board.proofs.Holding.{held_isnt_done}
 use Rattle.shared_station.specs.Station.{StationView}
 use Rattle.shared_station.proofs.StationKeeps.{finished_as, failed_as}
 use Rattle.shared_station.proofs.station.Station.finish.Goals as goal
 
 pub finish-requires-clause-fresh : goal.finish-requires-clause-fresh
-finish-requires-clause-fresh g c = c.self.invariant.gates c.args.frame.now.index ∙ held_isnt_done c.self.inside.board c.args.worker c.args.frame.now.index c.self.invariant.legal (search rules)
+finish-requires-clause-fresh g c = c.self.invariant.0.gates c.args.frame.now.index ∙ held_isnt_done c.self.inside.board c.args.worker c.args.frame.now.index c.self.invariant.0.legal (search rules)
 
 pub invariant_of-self : goal.invariant_of-self
 invariant_of-self g c =
     let s = c.self.inside in
-    let v : StationView _ = record { reel = s.reel; log = s.board; totals = record { source = s.totals.source.total; disk = s.totals.disk.total; memory = s.totals.memory.total; changed = s.totals.changed.total } } in
-    finished_as g.N.Work.job g.N.Work.files g.N.Start.start g.D.Disk.tells g.D.Disk.history g.D.Disk.faults v c.args.worker c.self.invariant
-    c.args.frame.now.index c.finish.new.self c.finished.new.self (search rules) (search rules) (search rules) c.finish.ensures.run c.finish.ensures.none_lost c.finish.ensures.others c.finish.ensures.spares
-    (c.in-Ok.ensures.finished) (search rules) c.in-Ok.ensures.acked c.in-Ok.ensures.steady
+    let v : StationView _ = record { reel = s.reel; log = s.board; totals = record { source = s.totals.source.total; disk = s.totals.disk.total; memory = s.totals.memory.total; changed = s.totals.changed.total } } in (
+      finished_as g.N.Work.job g.N.Work.files g.N.Start.start g.D.Disk.tells g.D.Disk.history g.D.Disk.faults v c.args.worker c.self.invariant.0
+          c.args.frame.now.index c.finish.new.self c.finished.new.self (search rules) (search rules) (search rules) c.finish.ensures.run c.finish.ensures.none_lost c.finish.ensures.others c.finish.ensures.spares
+          (c.in-Ok.ensures.finished) (search rules) c.in-Ok.ensures.acked c.in-Ok.ensures.steady,
+      ap (λ (l : Log). l.workers) c.finished.ensures ∙ c.self.invariant.1,
+    )
 
 pub invariant_of-self-in-Err : goal.invariant_of-self-in-Err
 invariant_of-self-in-Err g c =
     let s = c.self.inside in
-    let v : StationView _ = record { reel = s.reel; log = s.board; totals = record { source = s.totals.source.total; disk = s.totals.disk.total; memory = s.totals.memory.total; changed = s.totals.changed.total } } in
-    failed_as g.N.Work.job g.N.Work.files g.N.Start.start g.D.Disk.tells g.D.Disk.history g.D.Disk.faults v c.args.worker c.self.invariant
-    c.args.frame.now.index c.finish.new.self c.stop.new.self (search rules) (search rules) (search rules) c.finish.ensures.run c.finish.ensures.none_lost c.finish.ensures.others c.finish.ensures.spares
-    c.add.new.self.total c.in-Err.ensures.closed c.stop.ensures (search rules) (search rules)
+    let v : StationView _ = record { reel = s.reel; log = s.board; totals = record { source = s.totals.source.total; disk = s.totals.disk.total; memory = s.totals.memory.total; changed = s.totals.changed.total } } in (
+      failed_as g.N.Work.job g.N.Work.files g.N.Start.start g.D.Disk.tells g.D.Disk.history g.D.Disk.faults v c.args.worker c.self.invariant.0
+          c.args.frame.now.index c.finish.new.self c.stop.new.self (search rules) (search rules) (search rules) c.finish.ensures.run c.finish.ensures.none_lost c.finish.ensures.others c.finish.ensures.spares
+          c.add.new.self.total c.in-Err.ensures.closed c.stop.ensures (search rules) (search rules),
+      ap (λ (l : Log). l.workers) c.stop.ensures ∙ c.self.invariant.1,
+    )
 
 pub returns-in-Ok-clause-others : goal.returns-in-Ok-clause-others
 returns-in-Ok-clause-others g c =
