@@ -6,13 +6,16 @@ use Rattle.std.proofs.lemmas.Option.{same_Some}
 use Rattle.cf_base.specs.declared.file.FileId.{FileId}
 use Rattle.scan_source.specs.World.{World}
 use Rattle.frame_share.specs.declared.step.ShareStep.{ShareStep}
-use Rattle.conform_job.specs.Job.{JobData}
+use Rattle.conform_job.specs.Job.{JobData, file_of}
+use Rattle.frame_render.specs.Frame.{frame_size}
 use Rattle.reel_disk.specs.Disk.{Files, Moment, History, IsFirm, IsLoose, moment_of, view_of}
 use Rattle.reel_disk.specs.Runs.{Spares, Surely}
 use Rattle.reel_disk.proofs.Sparing.{spares_wider}
-use Rattle.resume_ledger.specs.Ledger.{IsFit}
+use Rattle.resume_ledger.specs.Attach.{IsOpened, IsOpenFor}
+use Rattle.resume_ledger.specs.Ledger.{IsFit, LedgerState}
 use Rattle.resume_ledger.specs.Sound.{WritesOnly}
 use Rattle.render_board.specs.Board.{Log, has_stop, is_done}
+use Rattle.render_board.proofs.Counts.{whole_count}
 use Rattle.render_board.specs.History.{finished_of, first_why, is_disk, stops_of}
 use Rattle.render_board.specs.declared.step.Step.{Step}
 use Rattle.render_board.specs.declared.step.Step.TheVariants.{Claim, Finish, Stop}
@@ -23,7 +26,7 @@ use Rattle.reel_writer.specs.Reel.{frames_of, IsReelRun}
 use Rattle.single_run.specs.declared.run_end.Report.{Report}
 use Rattle.single_run.specs.declared.run_end.RunEnd.{RunEnd}
 use Rattle.single_run.specs.declared.run_end.RunEnd.TheVariants.{Done, Changed as IsNow, SourceFault, DiskFault, NoMemory}
-use Rattle.station.specs.Crews.{AreShared, IsCrewRun, WasCrewed, end_by, log_of}
+use Rattle.station.specs.Crews.{AreShared, IsCrewRun, WasCrewed, WasUnmade, end_by, log_of}
 use Rattle.single_run.specs.Ends.{IsEnd}
 use Rattle.single_run.specs.Run.{AreAllAcked}
 use Rattle.shared_station.specs.Station.{IsStation, StationView, HasChanges, IsCrewFile, MayCrewWrite, ShowsDone, at_start, start_of}
@@ -31,7 +34,7 @@ use Rattle.reel_writer.specs.View.{IsReelOf}
 use Rattle.reel_writer.proofs.Writing.{own_file, own_written, writes_wider}
 use Rattle.single_run.proofs.Closing.{images_acked}
 use Rattle.station.proofs.Gathering.{end_done, no_first}
-use Rattle.shared_station.proofs.Opening.{run_back, start_at}
+use Rattle.shared_station.proofs.Opening.{opened_acks, run_back, start_at}
 use Rattle.station.proofs.Resting.{closed_has_stop}
 use Rattle.shared_station.proofs.StationKeeps.{open_shows}
 
@@ -59,8 +62,8 @@ pub with_steps : {A : Type 0} (o : Option A) (P : A → Type 0) (Q : Type 0) →
 with_steps None P Q some made each = absurd (false≢true some)
 with_steps (Some a) P Q some made each = each a made
 
-module _ {D : Type 0} (job : JobData) (told : Option World) (start : Option Moment) (tells : Bool) (history : D → History) (faults : D → ℕ) (disk other : D) (steps : List Step) (end : RunEnd) (report : Report)
-    (start_is : start ≡ start_of tells (history disk)) (at_zero : tells ≡ true → (history disk).now ≡ 0) (made : IsCrewRun job told start tells history faults steps end report other) where
+module _ {D : Type 0} (job : JobData) (told : Option World) (workers : ℕ) (start : Option Moment) (tells : Bool) (history : D → History) (faults : D → ℕ) (disk other : D) (steps : List Step) (end : RunEnd) (report : Report)
+    (start_is : start ≡ start_of tells (history disk)) (at_zero : tells ≡ true → (history disk).now ≡ 0) (made : IsCrewRun job told workers start tells history faults steps end report other) where
   abbrev v : StationView D
   v = made.station
 
@@ -132,12 +135,12 @@ module _ {D : Type 0} (job : JobData) (told : Option World) (start : Option Mome
       by true some = absurd (omega (arith, none, some refl))
       by false some = refl
 
-  pub crewed : (tells ≡ true → IsFit job.parts.digest (frames_of job) (view_of (history disk))) → (log : List ShareStep) → AreShared log report → WasCrewed job told tells (history disk) (history other) steps end report log
+  pub crewed : (tells ≡ true → IsFit job.parts.digest (frames_of job) (view_of (history disk))) → (log : List ShareStep) → AreShared log report → WasCrewed job told workers tells (history disk) (history other) steps end report log
   crewed fit log shared =
-      subst (λ (l : List Step). WasCrewed job told tells (history disk) (history other) l end report log) made.steps_are
-      (subst (λ (d : D). WasCrewed job told tells (history disk) (history d) v.log.steps end report log) made.disk_is (record {
+      subst (λ (l : List Step). WasCrewed job told workers tells (history disk) (history other) l end report log) made.steps_are
+      (subst (λ (d : D). WasCrewed job told workers tells (history disk) (history d) v.log.steps end report log) made.disk_is
+      (subst (λ (n : ℕ). WasCrewed job told n tells (history disk) (history v.reel.disk) v.log.steps end report log) made.named (record {
         gates = v.log.start;
-        workers = v.log.workers;
         size = made.is.size;
         opening = opening;
         fit = fit;
@@ -148,13 +151,23 @@ module _ {D : Type 0} (job : JobData) (told : Option World) (start : Option Mome
           (λ done. end_done v.log.steps (first_why v.log.steps) refl (sym ends_here ∙ done)),
           (λ none. ends_here ∙ ap end_by (no_first v.log.steps none)),
         );
-        all = λ done. made.whole (ap has_stop (sym made.steps_are) ∙ end_done v.log.steps (first_why v.log.steps) refl (sym ends_here ∙ done));
-        kept = made.kept ∙ made.is.kept;
-        rendered = made.rendered ∙ ap (λ (l : List Step). length (finished_of l)) (sym made.steps_are);
+        all = all_at_done;
+        kept = kept_then;
+        rendered = rendered_then;
+        rest = λ done. let sum = whole_count v.log made.is.legal (λ i lt. all_at_done done i (omega (arith, lt, made.is.size))) in omega (arith, sum, kept_then, rendered_then, made.is.size);
         shared = shared;
         exit = λ t none. open_shows job told v.log v.reel.ledger.closed (view_of (history v.reel.disk)) (open_still none) (made.is.shown t);
         failed_exit = λ t some. subst (λ (b : Bool). ShowsDone job v.log b (view_of (history v.reel.disk))) (made.is.closed.1 some) (made.is.shown t);
-      }))
+      })))
+    where
+      all_at_done : end ≡ Done → (i : ℕ) → i < frames_of job → is_done v.log i ≡ true
+      all_at_done done = made.whole (ap has_stop (sym made.steps_are) ∙ end_done v.log.steps (first_why v.log.steps) refl (sym ends_here ∙ done))
+
+      kept_then : report.kept ≡ count_by (λ gate. gate) v.log.start
+      kept_then = made.kept ∙ made.is.kept
+
+      rendered_then : report.rendered ≡ length (finished_of v.log.steps)
+      rendered_then = made.rendered ∙ ap (λ (l : List Step). length (finished_of l)) (sym made.steps_are)
 
   -- the disk's count of faults: it was 0 at the start
   pub crew_failed : 1 ≤ stops_of is_disk steps → 1 ≤ faults other
@@ -181,3 +194,17 @@ module _ {D : Type 0} (job : JobData) (told : Option World) (start : Option Mome
       still : (b : Bool) → (b ≡ true → 1 ≤ stops_of is_disk v.log.steps) → b ≡ false
       still true some = absurd (true≢false (sym (closed_has_stop v.log.steps (some refl)) ∙ none))
       still false some = refl
+
+-- no memory was left once the folder was open
+pub was_unmade : (job : JobData) (tells : Bool) (old new : History) (ledger : LedgerState) (end : RunEnd) (report : Report) (log : List ShareStep)
+    → (tells ≡ true → IsOpened job.parts.digest (frames_of job) (file_of job) (frame_size job) (view_of old) new ledger) → IsOpenFor job.parts.digest (frames_of job) ledger
+    → end ≡ NoMemory → (report.kept ≡ 0) × (report.rendered ≡ 0) → (report.loads ≡ 0) × (report.misses ≡ 0) → log ≡ [] → WasUnmade job tells old new end report log
+was_unmade job tells old new ledger end report log opened known ends none loads unasked = record {
+  no_memory = ends;
+  fit = λ told. (opened told).fit;
+  exit = λ told. opened_acks job old new ledger (opened told) known;
+  kept = none.0;
+  rendered = none.1;
+  loads = loads;
+  unasked = unasked;
+}

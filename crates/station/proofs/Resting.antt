@@ -33,7 +33,7 @@ use Rattle.shared_station.specs.StationSteps.{why_by}
 use Rattle.conform_job.specs.Answers.{count_after}
 use Rattle.single_run.specs.Scanned.{IsScanned}
 use Rattle.station.specs.Stepped.{HasStepped}
-use Rattle.station.specs.Worked.{HasCauses, HasCounted, KeepsParts, KeepsSources, MayRaise}
+use Rattle.station.specs.Worked.{HasCauses, HasCounted, KeepsParts, KeepsSources}
 use Rattle.single_run.proofs.Scanning.{loads_along, scanned_itself}
 use Rattle.station.proofs.Working.{counted_along, parts_along, causes_none}
 
@@ -151,20 +151,6 @@ stop_causes job told end why more failed before now same stop fails loaded raise
 pub still_causes : (told : Option World) (more : ℕ) (failed : Bool) (before now : Tallies) → now ≡ before → HasCauses told more failed before now
 still_causes told more failed before now still =
     subst (HasCauses told more failed before) (sym still) (causes_none told before before more failed (record { source = refl; disk = refl; memory = refl; changed = refl }) (record { source = refl; changed = refl }))
-
--- the same where the stop may not have been made
-pub may_causes : (job : JobData) (told : Option World) (end : RunEnd) (why : Why) (more : ℕ) (failed : Bool) (before now : Tallies) → why ≡ why_by end → IsStop job told end → (end ≡ SourceFault → failed ≡ true) → (IsChange end → 1 ≤ more) → MayRaise why before now → HasCauses told more failed before now
-may_causes job told end why more failed before now same stop fails loaded (inl still) = still_causes told more failed before now still
-may_causes job told end why more failed before now same stop fails loaded (inr raised) = stop_causes job told end why more failed before now same stop fails loaded raised
-
--- a stop for the disk is for no source file
-pub disk_causes : (told : Option World) (more : ℕ) (failed : Bool) (before now : Tallies) → MayRaise Disk before now → HasCauses told more failed before now
-disk_causes told more failed before now (inl still) = still_causes told more failed before now still
-disk_causes told more failed before now (inr raised) = subst (HasCauses told more failed before) (sym raised) (record {
-  parts = record { source = refl; disk = refl; memory = refl; changed = refl };
-  source = λ rose. absurd (omega (arith, rose));
-  changed = λ rose. absurd (omega (arith, rose));
-})
 
 pub stepped_by : {S : Type 0} (told : Option World) (world : S → Option World) (faults loads : S → ℕ) (scan now : S) (counted count : ℕ) (had has failed : Bool) (before after : Tallies)
     → counted ≤ count → has ≡ (had || failed) → IsScanned world faults loads (count - counted) (failed ≡ true) scan now → HasCauses told (count - counted) failed before after

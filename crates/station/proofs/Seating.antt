@@ -1,8 +1,9 @@
 -- Seats and their marks, handed out and taken in.
-use Rattle.std.proofs.Common.{List, [], ◌∷◌, length, get_or, map, ◌++◌, append_assoc, take, drop, subst, sym, ◌∙◌, ◌<◌, ◌≤◌, All, ◌≡◌, ℕ, ◌+◌, ◌*◌, ◌^◌, ap, arith, refl}
+use Rattle.std.proofs.Common.{inl, inr, List, [], ◌∷◌, length, get_or, map, ◌++◌, append_assoc, take, drop, subst, sym, ◌∙◌, ◌<◌, ◌≤◌, All, ◌≡◌, ℕ, ◌+◌, ◌*◌, ◌^◌, ap, arith, refl}
 use Rattle.std.proofs.Math.ListN.{get_or-map}
 use Rattle.std.proofs.Math.Seq.{get_or-append_seam}
-use Rattle.std.proofs.lemmas.List.{append-nil, length-append, length-map, nil_from_length, take-append-le, take_all}
+use Rattle.std.proofs.lemmas.Bool.{cases_lt}
+use Rattle.std.proofs.lemmas.List.{append-nil, get_or_append_left, length-append, length-map, nil_from_length, take-append-le, take_all}
 use Rattle.frame_share.specs.Units.{Tally, fresh as unasked, joined as units_joined}
 use Rattle.shared_station.specs.Marks.{HasMoreThan, Tallies, fresh, joined}
 use Rattle.station.specs.Seats.{HasGiven, HasTaken, IsOnePart}
@@ -32,6 +33,16 @@ few_loads loads more came all few lent within most = omega arith
 
 pub next_number : (number came all size : ℕ) → number ≡ came → came < all → size ≡ all → size ≤ 16 → number + 1 < 2 ^ 16
 next_number number came all size is within e few = omega arith
+
+-- items that have their places as numbers, and one more
+pub numbered_more : {X : Type 0} (number : X → ℕ) (xs : List X) (x : X) (n : ℕ) → length xs ≡ n → number x ≡ n → ((k : ℕ) (d : X) → k < n → number (get_or xs k d) ≡ k)
+    → (k : ℕ) (d : X) → k < n + 1 → number (get_or (xs ++ x ∷ []) k d) ≡ k
+numbered_more number xs x n size last each k d lt = elim (cases_lt k n) [
+  | inl early ↦ ap number (get_or_append_left xs (x ∷ []) d k (omega (arith, early, size))) ∙ each k d early
+  | inr late ↦
+      let here : k ≡ length xs = omega (arith, late, lt, size) in
+      ap (λ (m : ℕ). number (get_or (xs ++ x ∷ []) m d)) here ∙ ap number (get_or-append_seam xs x [] d) ∙ last ∙ omega (arith, here, size)
+]
 
 pub more_left : (before now : Tallies) (n all size : ℕ) → HasGiven before n now → HasMoreThan size before → n < all → size ≡ all → HasMoreThan 1 now
 more_left before now n all size given parts within e = record {

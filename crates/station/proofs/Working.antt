@@ -13,15 +13,6 @@ use Rattle.single_run.specs.Scanned.{IsScanned}
 use Rattle.station.specs.Worked.{HasCauses, HasCounted, KeepsParts, KeepsSources}
 use Rattle.single_run.proofs.Scanning.{scanned_along}
 
--- what holds at Ok, where that came
-pub ok_has : {T E : Type 0} (r : Result T E) (P : Type 0) → is_ok r ≡ true → OnOk r P → P
-ok_has (Ok x) P is here = here
-ok_has (Err e) P is here = absurd (false≢true is)
-
--- a frame that is taken is one of the reel's
-pub take_within : (log : Log) (i n : ℕ) → claim_of log ≡ Take i → length log.start ≡ n → i < n
-take_within log i n takes size = let is = least_free_is log i (claim_takes log i takes).1 in omega (arith, is.1, size)
-
 pub parts_along : (a b c : Tallies) → KeepsParts a b → KeepsParts b c → KeepsParts a c
 parts_along a b c first second = record {
   source = second.source ∙ first.source;
@@ -30,21 +21,18 @@ parts_along a b c first second = record {
   changed = second.changed ∙ first.changed;
 }
 
-pub sources_along : (a b c : Tallies) → KeepsSources a b → KeepsSources b c → KeepsSources a c
-sources_along a b c first second = record { source = second.source ∙ first.source; changed = second.changed ∙ first.changed }
-
 -- misses that were counted, and then those of one round more
 pub counted_along : (before mid now : Tally) (loads more : ℕ) → HasCounted before loads mid → now.parts ≡ mid.parts → now.amount + loads ≡ mid.amount + more → HasCounted before more now
 counted_along before mid now loads more first parts amount = record { parts = parts ∙ first.parts; amount = let was = first.amount in omega (arith, was, amount) }
 
 module _ (told : Option World) where
-  -- rounds that stop for nothing, and then one that may
-  pub causes_along : (a b c : Tallies) (more all : ℕ) (failed : Bool) → KeepsParts a b → KeepsSources a b → HasCauses told more failed b c → more ≤ all → HasCauses told all failed a c
-  causes_along a b c more all failed parts sources causes le = record {
-    parts = parts_along a b c parts causes.parts;
-    source = λ rose. causes.source (omega (arith, rose, sources.source));
-    changed = λ rose. let cause = causes.changed (omega (arith, rose, sources.changed)) in (omega (arith, cause.0, le), cause.1);
-  }
+  -- rounds that count no stop, and then one that may
+  pub causes_along : (a b c : Tallies) (more all : ℕ) (failed : Bool) → b ≡ a → more ≤ all → HasCauses told more failed b c → HasCauses told all failed a c
+  causes_along a b c more all failed same le causes = subst (λ (m : Tallies). HasCauses told all failed m c) same (record {
+    parts = causes.parts;
+    source = causes.source;
+    changed = λ rose. let cause = causes.changed rose in (omega (arith, cause.0, le), cause.1);
+  })
 
   pub causes_none : (a b : Tallies) (all : ℕ) (failed : Bool) → KeepsParts a b → KeepsSources a b → HasCauses told all failed a b
   causes_none a b all failed parts sources = record {

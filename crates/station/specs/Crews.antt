@@ -49,11 +49,11 @@ pub record AreShared (log : List ShareStep) (report : Report) : Type 0 where
   pub misses : report.misses ≡ misses_of log
   pub loads : report.loads ≡ report.misses
 
--- The folder was unsealed or this job's, and the board has these steps. `gates` are the frames that the opening kept. The run
--- is Done just where no worker stopped, and then every frame is done; else it ends as the first stop says.
-pub record WasCrewed (job : JobData) (told : Option World) (tells : Bool) (old new : History) (steps : List Step) (end : RunEnd) (report : Report) (log : List ShareStep) : Type 0 where
+-- The folder was unsealed or this job's, and the board of so many workers has these steps. `gates` are the frames that the
+-- opening kept. The run is Done just where no worker stopped, and then every frame is done, and those that were kept and those
+-- that were rendered are the whole reel; else it ends as the first stop says.
+pub record WasCrewed (job : JobData) (told : Option World) (workers : ℕ) (tells : Bool) (old new : History) (steps : List Step) (end : RunEnd) (report : Report) (log : List ShareStep) : Type 0 where
   pub gates : List Bool
-  pub workers : ℕ
   pub size : length gates ≡ frames_of job
   pub opening : tells ≡ true → (k : ℕ) → (slice_index_or gates k false ≡ true) ↔ HasKept job k (view_of old)
   pub fit : tells ≡ true → IsFit job.parts.digest (frames_of job) (view_of old)
@@ -64,14 +64,18 @@ pub record WasCrewed (job : JobData) (told : Option World) (tells : Bool) (old n
   pub all : end ≡ Done → (i : ℕ) → i < frames_of job → is_done (log_of gates workers steps) i ≡ true
   pub kept : report.kept ≡ count_by (λ gate. gate) gates
   pub rendered : report.rendered ≡ length (finished_of steps)
+  pub rest : end ≡ Done → report.kept + report.rendered ≡ frames_of job
   pub shared : AreShared log report
   -- The folder acknowledges just the frames that are done; where the disk failed in a finish, these but for one gate.
   pub exit : tells ≡ true → stops_of is_disk steps ≡ 0 → (k : ℕ) → HasAcked job k (view_of new) ↔ (is_done (log_of gates workers steps) k ≡ true)
   pub failed_exit : tells ≡ true → 1 ≤ stops_of is_disk steps → ShowsDone job (log_of gates workers steps) true (view_of new)
 
--- No memory was left for the board, for the share or for room. No worker took a step, and no source frame was asked for.
-pub record WasUnmade (end : RunEnd) (report : Report) (log : List ShareStep) : Type 0 where
+-- The folder was unsealed or this job's, and no memory was left for the board, for the share or for room. No worker took a
+-- step, no source frame was asked for, and the folder acknowledges just the frames that the opening kept.
+pub record WasUnmade (job : JobData) (tells : Bool) (old new : History) (end : RunEnd) (report : Report) (log : List ShareStep) : Type 0 where
   pub no_memory : end ≡ NoMemory
+  pub fit : tells ≡ true → IsFit job.parts.digest (frames_of job) (view_of old)
+  pub exit : tells ≡ true → (k : ℕ) → HasAcked job k (view_of new) ↔ HasKept job k (view_of old)
   pub kept : report.kept ≡ 0
   pub rendered : report.rendered ≡ 0
   pub loads : (report.loads ≡ 0) × (report.misses ≡ 0)
@@ -79,7 +83,8 @@ pub record WasUnmade (end : RunEnd) (report : Report) (log : List ShareStep) : T
 
 -- Why there are no steps: the folder was not opened, or the board could not be made.
 abbrev pub IsUnstepped : JobData → Bool → History → History → RunEnd → Report → List ShareStep → Type 0
-IsUnstepped job tells old new end report log = WasRefused job tells old new end report log ⊎ WasUnmade end report log
+IsUnstepped job tells old new end report log =
+    WasRefused job tells old new end report log ⊎ WasUnmade job tells old new end report log
 
 -- the disk failed: a worker stopped for it, or the folder could not be opened
 abbrev pub HasDiskFailed : Option (List Step) → RunEnd → Type 0
@@ -106,9 +111,10 @@ pub record IsWorked {S : Type 0} (told : Option World) (world : S → Option Wor
   pub causes : HasCauses told more failed before after
 
 -- what the station keeps holds to the end
-pub record IsCrewRun {D : Type 0} (job : JobData) (told : Option World) (start : Option Moment) (tells : Bool) (history : D → History) (faults : D → ℕ) (steps : List Step) (end : RunEnd) (report : Report) (disk : D) : Type 0 where
+pub record IsCrewRun {D : Type 0} (job : JobData) (told : Option World) (workers : ℕ) (start : Option Moment) (tells : Bool) (history : D → History) (faults : D → ℕ) (steps : List Step) (end : RunEnd) (report : Report) (disk : D) : Type 0 where
   pub station : StationView D
   pub is : IsStation job told start tells history faults station
+  pub named : station.log.workers ≡ workers
   pub disk_is : station.reel.disk ≡ disk
   pub steps_are : station.log.steps ≡ steps
   pub ends : end ≡ end_by (first_why steps)

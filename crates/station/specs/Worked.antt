@@ -1,14 +1,9 @@
 -- What a worker does to its marks and its scan. All of it is this project's own rule.
-use Rattle.std.specs.Prelude.{◌≡◌, ◌⊎◌, ℕ, ◌+◌, ◌<◌, ◌≤◌, Bool, true, Option, None}
+use Rattle.std.specs.Prelude.{◌≡◌, ℕ, ◌+◌, ◌<◌, ◌≤◌, Bool, true, Option, None}
 use Rattle.scan_source.specs.World.{World}
 use Rattle.frame_share.specs.Units.{Tally}
-use Rattle.render_board.specs.declared.step.Why.{Why}
-use Rattle.shared_station.specs.Marks.{Tallies, raised_by}
+use Rattle.shared_station.specs.Marks.{Tallies}
 use Rattle.single_run.specs.Scanned.{IsScanned}
-
--- at most one stop is counted, of this why
-abbrev pub MayRaise : Why → Tallies → Tallies → Type 0
-MayRaise why before now = (now ≡ before) ⊎ (now ≡ raised_by why before)
 
 -- the parts stay
 pub record KeepsParts (before now : Tallies) : Type 0 where

@@ -29,7 +29,7 @@ use reel_disk::{Disk, Start};
 use reel_writer::Reel;
 use render_board::{Board, History, Step, Why};
 use scan_source::Scans;
-use shared_station::Station;
+use shared_station::{Crewed, Station};
 use single_run::{Report, RunEnd, end_of_opening, report_of};
 use std::alloc::Global;
 use std::marker::Brand;
@@ -189,9 +189,18 @@ fn make_ready<S: Scans, D: Disk, N: Work, A: Ledger, B: Ledger, C: Ledger, E: Le
 }
 
 /// What is known of a station that nobody shares any more.
-fn closing<N: Work + Start, A: Ledger, B: Ledger, C: Ledger, E: Ledger, S: Scans, D: Disk>(
+fn closing<
+    N: Work + Start,
+    W: Crewed,
+    A: Ledger,
+    B: Ledger,
+    C: Ledger,
+    E: Ledger,
+    S: Scans,
+    D: Disk,
+>(
     job: &Job,
-    station: Station<D, N, A, B, C, E>,
+    station: Station<D, N, W, A, B, C, E>,
     log: ShareLog,
     scans: Vec<S>,
     loads: u64,
@@ -203,7 +212,7 @@ fn closing<N: Work + Start, A: Ledger, B: Ledger, C: Ledger, E: Ledger, S: Scans
     ensures end { result.end ≡ end_by (first_why station.log.steps) }
     ensures steps { result.history ≡ Some station.log.steps }
     ensures log { result.log ≡ log }
-    ensures made { IsCrewRun N.job N.files N.start D.tells D.history D.faults station.log.steps result.end result.report result.disk }
+    ensures made { IsCrewRun N.job N.files W.workers N.start D.tells D.history D.faults station.log.steps result.end result.report result.disk }
     ensures acked { result.end ≡ RunEnd.Done → D.tells ≡ true → AreAllAcked N.job (moment_of (D.history result.disk)) }
     ensures scans { result.scans ≡ scans }
 {
@@ -223,6 +232,7 @@ fn closing<N: Work + Start, A: Ledger, B: Ledger, C: Ledger, E: Ledger, S: Scans
 /// The run of a crew over a reel that was opened, and its board.
 fn run_opened<
     N: Work + Start + Send + Sync,
+    W: Crewed + Send + Sync,
     A: Ledger + Send + Sync,
     B: Ledger + Send + Sync,
     C: Ledger + Send + Sync,
@@ -259,6 +269,7 @@ fn run_opened<
     requires files { All (λ s. Tells N.files (S.world s)) scans.items }
     requires infos { AreInfosOf N.job.parts N.files N.job.infos }
     requires beginning { IsBeginning N.job N.files N.start D.tells D.history D.faults reel board }
+    requires crew { board.workers ≡ W.workers }
     requires some { 0 < threads }
     requires within { threads ≤ vec_len scans }
     requires few { vec_len scans ≤ 16 }
@@ -270,10 +281,10 @@ fn run_opened<
     ensures some { is_some result.history ≡ true }
     ensures acked { result.end ≡ RunEnd.Done → D.tells ≡ true → AreAllAcked N.job (moment_of (D.history result.disk)) }
     ensures changed { IsChange result.end → 1 ≤ result.report.loads }
-    ensures made { IfSome result.history (λ steps. IsCrewRun N.job N.files N.start D.tells D.history D.faults steps result.end result.report result.disk) }
+    ensures made { IfSome result.history (λ steps. IsCrewRun N.job N.files W.workers N.start D.tells D.history D.faults steps result.end result.report result.disk) }
     ensures scans { AreWorked S.world S.faults S.loads S.same threads result.report.loads (result.end ≡ RunEnd.SourceFault) scans.items result.scans.items }
 {
-    let (station, mut marks) = Station::<D, N, A, B, C, E>::new(
+    let (station, mut marks) = Station::<D, N, W, A, B, C, E>::new(
         reel, board, source, failed, memory, changed,
     );
     let mut units = units;
@@ -289,6 +300,7 @@ fn run_opened<
 /// A crew under names of its ledgers.
 fn crew_under<
     N: Work + Start + Send + Sync,
+    W: Crewed + Send + Sync,
     A: Ledger + Send + Sync,
     B: Ledger + Send + Sync,
     C: Ledger + Send + Sync,
@@ -322,6 +334,7 @@ fn crew_under<
     requires infos { AreInfosOf N.job.parts N.files N.job.infos }
     requires scans { (1 ≤ vec_len scans) × (vec_len scans ≤ 16) }
     requires workers { (1 ≤ workers) × (workers ≤ 16) }
+    requires crew { W.workers ≡ min workers (vec_len scans) }
     requires start { N.start ≡ start_of D.tells (D.history disk) }
     requires moment { D.tells ≡ true → (D.history disk).now ≡ 0 }
     requires faults { D.faults disk ≡ 0 }
@@ -329,9 +342,11 @@ fn crew_under<
     ensures misses { result.report.misses ≡ result.report.loads }
 
     // Which frames the opening kept, what the folder acknowledges now, and the steps by which it came; or why there are none.
+    // There are as many workers as were asked for, at most one a scan.
     ensures ran { MatchOption result.history
         (IsUnstepped N.job D.tells (D.history disk) (D.history result.disk) result.end result.report result.log)
-        (λ steps. WasCrewed N.job N.files D.tells (D.history disk) (D.history result.disk) steps result.end result.report result.log) }
+        (λ steps. WasCrewed N.job N.files (min workers (vec_len scans)) D.tells (D.history disk) (D.history result.disk)
+        steps result.end result.report result.log) }
 
     // At Done every image acknowledges every frame, and the folder has the whole reel: that of a run on one thread.
     ensures acked { result.end ≡ RunEnd.Done → D.tells ≡ true → AreAllAcked N.job (moment_of (D.history result.disk)) }
@@ -370,7 +385,7 @@ fn crew_under<
         room,
         back,
     } = ready;
-    run_opened::<N, A, B, C, E, F, S, D, R>(
+    run_opened::<N, W, A, B, C, E, F, S, D, R>(
         rt,
         alloc,
         job,
@@ -421,9 +436,11 @@ pub fn run_crew<
     ensures misses { result.report.misses ≡ result.report.loads }
 
     // Which frames the opening kept, what the folder acknowledges now, and the steps by which it came; or why there are none.
+    // There are as many workers as were asked for, at most one a scan.
     ensures ran { MatchOption result.history
         (IsUnstepped N.job D.tells (D.history disk) (D.history result.disk) result.end result.report result.log)
-        (λ steps. WasCrewed N.job N.files D.tells (D.history disk) (D.history result.disk) steps result.end result.report result.log) }
+        (λ steps. WasCrewed N.job N.files (min workers (vec_len scans)) D.tells (D.history disk) (D.history result.disk)
+        steps result.end result.report result.log) }
 
     // At Done every image acknowledges every frame, and the folder has the whole reel: that of a run on one thread.
     ensures acked { result.end ≡ RunEnd.Done → D.tells ≡ true → AreAllAcked N.job (moment_of (D.history result.disk)) }
@@ -446,7 +463,7 @@ pub fn run_crew<
     ensures cause { HasCause (D.faults disk) (D.faults result.disk) (HasDiskFailed result.history result.end) }
     ensures steady { (HasDiskFailed result.history result.end → ⊥) → D.faults result.disk ≡ D.faults disk }
 {
-    crew_under::<N, Brand, Brand, Brand, Brand, Brand, S, D, R>(
+    crew_under::<N, Brand, Brand, Brand, Brand, Brand, Brand, S, D, R>(
         rt,
         alloc,
         job,

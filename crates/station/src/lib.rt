@@ -17,5 +17,5 @@ pub use frame_share::{ShareLog, ShareStep};
 pub use rounds::worker;
 pub use seat::Seat;
 pub use shared_frames::SharedFrames;
-pub use shared_station::{Marks, Station};
+pub use shared_station::{Crewed, Marks, Station};
 pub use single_run::{Report, RunEnd, run_alone};

@@ -10,8 +10,8 @@ ghost use Rattle.render_board.specs.declared.step.Why.TheVariants as whys;
 ghost use Rattle.reel_writer.specs.Reel.{frames_of};
 ghost use Rattle.single_run.specs.Ends.{IsChange, IsStop};
 ghost use Rattle.single_run.specs.Scanned.{IsScanned};
+ghost use Rattle.shared_station.specs.Marks.{raised_by};
 ghost use Rattle.station.specs.Stepped.{HasStepped};
-ghost use Rattle.station.specs.Worked.{MayRaise};
 
 use crate::rounds::{is_source_fault, why_of};
 use crate::seat::Seat;
@@ -22,16 +22,16 @@ use reel_disk::{Disk, Start};
 use reel_writer::Hashed;
 use render_board::{Claim, Turn, Why};
 use scan_source::Scans;
-use shared_station::{Marks, Station};
+use shared_station::{Crewed, Marks, Station};
 use single_run::{RunEnd, make_frame};
 use std::alloc::Global;
 use std::sync::ledger::Ledger;
 
 /// Whether a worker has stopped.
-fn has_stopped<D: Disk, N: Work + Start, A: Ledger, B: Ledger, C: Ledger, E: Ledger>(
-    station: &Station<D, N, A, B, C, E>,
+fn has_stopped<D: Disk, N: Work + Start, W: Crewed, A: Ledger, B: Ledger, C: Ledger, E: Ledger>(
+    station: &Station<D, N, W, A, B, C, E>,
 ) -> bool
-    ensures stopped { result ≡ true → has_stop station.now.log.steps ≡ true }
+    ensures stopped { result ≡ has_stop station.now.log.steps }
 {
     for worker in 0..station.workers() {
         if let Turn::Stopped = station.turn(worker) {
@@ -89,6 +89,7 @@ fn finish_as<
     S: Scans,
     D: Disk,
     N: Work + Start,
+    W: Crewed,
     A: Ledger,
     B: Ledger,
     C: Ledger,
@@ -97,7 +98,7 @@ fn finish_as<
 >(
     alloc: Global,
     job: &Job,
-    station: &mut Station<D, N, A, B, C, E>,
+    station: &mut Station<D, N, W, A, B, C, E>,
     share: &mut Share<N, F>,
     seat: &mut Seat<S, N, A, B, C, E, F>,
     worker: u16,
@@ -152,6 +153,7 @@ fn finish_one<
     S: Scans,
     D: Disk,
     N: Work + Start,
+    W: Crewed,
     A: Ledger,
     B: Ledger,
     C: Ledger,
@@ -160,7 +162,7 @@ fn finish_one<
 >(
     alloc: Global,
     job: &Job,
-    station: &mut Station<D, N, A, B, C, E>,
+    station: &mut Station<D, N, W, A, B, C, E>,
     share: &mut Share<N, F>,
     seat: &mut Seat<S, N, A, B, C, E, F>,
     worker: u16,
@@ -197,6 +199,7 @@ fn finish_held<
     S: Scans,
     D: Disk,
     N: Work + Start,
+    W: Crewed,
     A: Ledger,
     B: Ledger,
     C: Ledger,
@@ -205,7 +208,7 @@ fn finish_held<
 >(
     alloc: Global,
     job: &Job,
-    station: &mut Station<D, N, A, B, C, E>,
+    station: &mut Station<D, N, W, A, B, C, E>,
     share: &mut Share<N, F>,
     seat: &mut Seat<S, N, A, B, C, E, F>,
 ) -> bool
@@ -235,8 +238,8 @@ fn finish_held<
 
 /// Claims a frame for worker 0, while all workers are idle. There is none where a worker has stopped, and else where every
 /// frame is done.
-fn claim_first<D: Disk, N: Work + Start, A: Ledger, B: Ledger, C: Ledger, E: Ledger>(
-    station: &mut Station<D, N, A, B, C, E>,
+fn claim_first<D: Disk, N: Work + Start, W: Crewed, A: Ledger, B: Ledger, C: Ledger, E: Ledger>(
+    station: &mut Station<D, N, W, A, B, C, E>,
 ) -> Option<u32>
     requires idle { (w : ℕ) → w < station.old.log.workers → turn_of station.old.log w ≡ turns.Idle }
     ensures taken { IfSome result (λ i. (station.new.log ≡ with_step station.old.log (steps.Claim 0 i)) × IsNext station.old.log (steps.Claim 0 i)) }
@@ -254,6 +257,7 @@ fn finish_free<
     S: Scans,
     D: Disk,
     N: Work + Start,
+    W: Crewed,
     A: Ledger,
     B: Ledger,
     C: Ledger,
@@ -262,7 +266,7 @@ fn finish_free<
 >(
     alloc: Global,
     job: &Job,
-    station: &mut Station<D, N, A, B, C, E>,
+    station: &mut Station<D, N, W, A, B, C, E>,
     share: &mut Share<N, F>,
     seat: &mut Seat<S, N, A, B, C, E, F>,
 )
@@ -291,18 +295,16 @@ fn finish_free<
     unreachable!()
 }
 
-/// Stops as worker 0, for want of memory, where no worker has stopped.
-fn stop_first<D: Disk, N: Work + Start, A: Ledger, B: Ledger, C: Ledger, E: Ledger>(
-    station: &mut Station<D, N, A, B, C, E>,
+/// Stops as worker 0, for want of memory, while no worker has stopped.
+fn stop_first<D: Disk, N: Work + Start, W: Crewed, A: Ledger, B: Ledger, C: Ledger, E: Ledger>(
+    station: &mut Station<D, N, W, A, B, C, E>,
     marks: &mut Marks<A, B, C, E>,
 )
+    requires none { has_stop station.old.log.steps ≡ false }
     ensures stopped { has_stop station.new.log.steps ≡ true }
-    ensures marks { MayRaise whys.Memory marks.old marks.new }
+    ensures marks { marks.new ≡ raised_by whys.Memory marks.old }
 {
     let _ = station.workers();
-    if let Turn::Stopped = station.turn(0) {
-        return;
-    }
     station.stop(0, Why::Memory, marks);
 }
 
@@ -313,6 +315,7 @@ pub(crate) fn finish_rest<
     S: Scans,
     D: Disk,
     N: Work + Start,
+    W: Crewed,
     A: Ledger,
     B: Ledger,
     C: Ledger,
@@ -321,7 +324,7 @@ pub(crate) fn finish_rest<
 >(
     alloc: Global,
     job: &Job,
-    station: &mut Station<D, N, A, B, C, E>,
+    station: &mut Station<D, N, W, A, B, C, E>,
     share: &mut Share<N, F>,
     seat: &mut Seat<S, N, A, B, C, E, F>,
     all_put: bool,

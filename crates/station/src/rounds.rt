@@ -7,10 +7,11 @@ ghost use Rattle.frame_render.specs.Frame.{frame_size};
 ghost use Rattle.render_board.specs.declared.step.Why.TheVariants as whys;
 ghost use Rattle.reel_writer.specs.Reel.{frames_of};
 ghost use Rattle.single_run.specs.Ends.{IsChange, IsStop};
+ghost use Rattle.shared_station.specs.Leaving.{HasLeft};
 ghost use Rattle.shared_station.specs.Marks.{Tallies};
 ghost use Rattle.single_run.specs.Scanned.{IsScanned};
 ghost use Rattle.shared_station.specs.StationSteps.{MayStop, why_by};
-ghost use Rattle.station.specs.Worked.{HasCauses, HasCounted, KeepsParts, KeepsSources, MayRaise};
+ghost use Rattle.station.specs.Worked.{HasCauses, HasCounted};
 
 use crate::seat::Seat;
 use crate::shared_frames::SharedFrames;
@@ -19,9 +20,9 @@ use conform_job::{Job, Work};
 use frame_render::{FrameBuf, Rendered, Rooms};
 use reel_disk::{Disk, Start};
 use reel_writer::Hashed;
-use render_board::{Claim, Turn, Why};
+use render_board::Why;
 use scan_source::Scans;
-use shared_station::{Marks, Station};
+use shared_station::{Away, Crewed, Held, Leave, Marks, Station};
 use single_run::RunEnd;
 use std::alloc::Global;
 use std::sync::ledger::Ledger;
@@ -51,79 +52,78 @@ pub(crate) fn why_of<N: Work>(end: RunEnd) -> Why
     }
 }
 
-/// Claims a frame, where the worker may.
-fn take_frame<D: Disk, N: Work + Start, A: Ledger, B: Ledger, C: Ledger, E: Ledger, R: Wait>(
-    rt: &R,
-    number: u16,
-    station: &Mutex<Station<D, N, A, B, C, E>>,
-) -> Option<u32>
-    ensures within { IfSome result (λ i. i < frames_of N.job) }
+/// Takes a frame, where there is one for the worker.
+fn take_frame<
+    D: Disk,
+    N: Work + Start,
+    W: Crewed,
+    A: Ledger,
+    B: Ledger,
+    C: Ledger,
+    E: Ledger,
+    R: Wait,
+>(rt: &R, number: u16, station: &Mutex<Station<D, N, W, A, B, C, E>>) -> Result<Held, Away>
+    ensures within { IfOk result (λ i. i < frames_of N.job) }
 {
-    let mut guard = station.lock(rt);
-    let here = &mut *guard;
-    if number >= here.workers() || here.is_closed() {
-        return None;
-    }
-    match here.turn(number) {
-        Turn::Idle => {}
-        Turn::Holds(_) | Turn::Stopped => return None,
-    }
-    match here.claim(number) {
-        Claim::Take(i) => Some(i),
-        Claim::NoneLeft | Claim::Stopped => None,
-    }
+    station.lock(rt).take(number)
 }
 
-/// Finishes a frame, where the worker still holds it and the reel is open. It says whether it did.
-fn hand_in<D: Disk, N: Work + Start, A: Ledger, B: Ledger, C: Ledger, E: Ledger, R: Wait>(
+/// Finishes a frame that the worker took, where it still holds it and the reel is open.
+fn hand_in<
+    D: Disk,
+    N: Work + Start,
+    W: Crewed,
+    A: Ledger,
+    B: Ledger,
+    C: Ledger,
+    E: Ledger,
+    R: Wait,
+>(
     rt: &R,
     number: u16,
     marks: &mut Marks<A, B, C, E>,
-    station: &Mutex<Station<D, N, A, B, C, E>>,
+    station: &Mutex<Station<D, N, W, A, B, C, E>>,
+    held: Held,
     frame: &Hashed<N>,
-) -> bool
-    ensures marks { MayRaise whys.Disk marks.old marks.new }
-    ensures done { result ≡ true → marks.new ≡ marks.old }
+) -> Result<(), Leave>
+    requires index { frame.now.index ≡ held }
+    ensures unmarked { OnOk result (marks.new ≡ marks.old) }
+    ensures left { IfErr result (HasLeft (λ why. why ≡ whys.Disk) marks.old marks.new) }
 {
-    let mut guard = station.lock(rt);
-    let here = &mut *guard;
-    if number >= here.workers() || here.is_closed() {
-        return false;
-    }
-    match here.turn(number) {
-        Turn::Holds(i) if i == frame.frame().index() => {}
-        _ => return false,
-    }
-    here.finish(number, frame, marks).is_ok()
+    station.lock(rt).hand_in(number, held, frame, marks)
 }
 
-/// Stops, where the worker has not stopped and the reel is open.
-fn give_up<D: Disk, N: Work + Start, A: Ledger, B: Ledger, C: Ledger, E: Ledger, R: Wait>(
+/// Stops, where the worker has not stopped and the reel is open, with the frame that it took.
+fn give_up<
+    D: Disk,
+    N: Work + Start,
+    W: Crewed,
+    A: Ledger,
+    B: Ledger,
+    C: Ledger,
+    E: Ledger,
+    R: Wait,
+>(
     rt: &R,
     number: u16,
     marks: &mut Marks<A, B, C, E>,
-    station: &Mutex<Station<D, N, A, B, C, E>>,
+    station: &Mutex<Station<D, N, W, A, B, C, E>>,
+    held: Option<Held>,
     why: Why,
-)
+) -> Leave
     requires why { MayStop N.job N.files why }
-    ensures marks { MayRaise why marks.old marks.new }
+    ensures left { HasLeft (λ other. other ≡ why) marks.old marks.new result }
 {
-    let mut guard = station.lock(rt);
-    let here = &mut *guard;
-    if number >= here.workers() || here.is_closed() {
-        return;
-    }
-    match here.turn(number) {
-        Turn::Stopped => {}
-        Turn::Idle | Turn::Holds(_) => here.stop(number, why, marks),
-    }
+    station.lock(rt).give_up(number, held, why, marks)
 }
 
-/// One round: claims a frame, makes it and finishes it. The room is handed back where the worker goes on.
+/// One round: takes a frame, makes it and finishes it. The room is handed back where the worker goes on; else it has stopped, or
+/// was turned away.
 fn round<
     S: Scans,
     D: Disk,
     N: Work + Start,
+    W: Crewed,
     A: Ledger,
     B: Ledger,
     C: Ledger,
@@ -135,11 +135,11 @@ fn round<
     alloc: Global,
     job: &Job,
     seat: &mut Seat<S, N, A, B, C, E, F>,
-    station: &Mutex<Station<D, N, A, B, C, E>>,
+    station: &Mutex<Station<D, N, W, A, B, C, E>>,
     share: &SharedFrames<N, F>,
     rooms: &mut Rooms<N>,
     room: FrameBuf,
-) -> Option<FrameBuf>
+) -> Result<FrameBuf, Leave>
     requires job { job.now ≡ N.job }
     requires files { Tells N.files (S.world seat.old.scan) }
     requires infos { AreInfosOf N.job.parts N.files N.job.infos }
@@ -150,17 +150,19 @@ fn round<
     ensures number { seat.new.number ≡ seat.old.number }
     ensures parts { seat.new.units.parts ≡ seat.old.units.parts }
     ensures counted { seat.new.units.amount + seat.old.loads ≡ seat.old.units.amount + seat.new.loads }
-    ensures closed { IfSome result (λ back. seat.new.units.pending ≡ 0) }
-    ensures room { IfSome result (λ back. length back ≡ frame_size N.job) }
+    ensures closed { OnOk result (seat.new.units.pending ≡ 0) }
+    ensures room { IfOk result (λ back. length back ≡ frame_size N.job) }
     ensures later { seat.old.loads ≤ seat.new.loads }
     ensures most { seat.new.loads ≤ seat.old.loads + 2 }
     ensures scan { IsScanned S.world S.faults S.loads (seat.new.loads - seat.old.loads) (seat.new.has_failed ≡ true) seat.old.scan seat.new.scan }
     ensures same { S.same seat.old.scan seat.new.scan }
     ensures causes { HasCauses N.files (seat.new.loads - seat.old.loads) seat.new.has_failed seat.old.marks seat.new.marks }
-    ensures goes_on { IfSome result (λ back. KeepsSources seat.old.marks seat.new.marks × (seat.new.has_failed ≡ false)) }
+    ensures goes_on { OnOk result ((seat.new.marks ≡ seat.old.marks) × (seat.new.has_failed ≡ false)) }
+    ensures left { IfErr result (HasLeft (λ why. seat.new.has_failed ≡ true → why ≡ whys.Source) seat.old.marks seat.new.marks) }
 {
-    let Some(i) = take_frame(rt, seat.number, station) else {
-        return None;
+    let held = match take_frame(rt, seat.number, station) {
+        Ok(held) => held,
+        Err(away) => return Err(Leave::Away(away)),
     };
     let made = make_shared::<N, F, S, R>(
         rt,
@@ -168,7 +170,7 @@ fn round<
         job,
         &mut seat.scan,
         seat.number,
-        i,
+        held.frame(),
         rooms,
         room,
         seat.threads,
@@ -180,15 +182,14 @@ fn round<
     match made {
         Ok(frame) => {
             let hashed = Hashed::of(frame);
-            if !hand_in(rt, seat.number, &mut seat.marks, station, &hashed) {
-                return None;
+            match hand_in(rt, seat.number, &mut seat.marks, station, held, &hashed) {
+                Ok(()) => Ok(hashed.into_frame().into_buf()),
+                Err(leave) => Err(leave),
             }
-            Some(hashed.into_frame().into_buf())
         }
         Err(end) => {
             let why = why_of::<N>(end);
-            give_up(rt, seat.number, &mut seat.marks, station, why);
-            None
+            Err(give_up(rt, seat.number, &mut seat.marks, station, Some(held), why))
         }
     }
 }
@@ -198,11 +199,13 @@ fn round<
 /// as its seat says.
 ///
 /// It stops where a load failed, where memory ran out, where the disk failed in a finish, and where a source file isn't
-/// what it was when the job was planned. Each stop is counted in its marks.
+/// what it was when the job was planned. Each stop is counted in its marks. It leaves only where it has stopped or the station
+/// has turned it away: a frame that it took can't be let go, and a station alone says that it has no step for a worker.
 pub fn worker<
     S: Scans,
     D: Disk,
     N: Work + Start,
+    W: Crewed,
     A: Ledger,
     B: Ledger,
     C: Ledger,
@@ -214,9 +217,9 @@ pub fn worker<
     alloc: Global,
     job: &Job,
     seat: &mut Seat<S, N, A, B, C, E, F>,
-    station: &Mutex<Station<D, N, A, B, C, E>>,
+    station: &Mutex<Station<D, N, W, A, B, C, E>>,
     share: &SharedFrames<N, F>,
-)
+) -> Leave
     requires job { job.now ≡ N.job }
     requires files { Tells N.files (S.world seat.old.scan) }
     requires infos { AreInfosOf N.job.parts N.files N.job.infos }
@@ -229,19 +232,29 @@ pub fn worker<
     ensures scan { IsScanned S.world S.faults S.loads seat.new.loads (seat.new.has_failed ≡ true) seat.old.scan seat.new.scan }
     ensures same { S.same seat.old.scan seat.new.scan }
     ensures causes { HasCauses N.files seat.new.loads seat.new.has_failed seat.old.marks seat.new.marks }
+    ensures left { HasLeft (λ why. seat.new.has_failed ≡ true → why ≡ whys.Source) seat.old.marks seat.new.marks result }
 {
     let mut room = match FrameBuf::new(alloc, job) {
         Ok(room) => room,
-        Err(_) => {
-            give_up(rt, seat.number, &mut seat.marks, station, Why::Memory);
-            return;
-        }
+        Err(_) => return give_up(rt, seat.number, &mut seat.marks, station, None, Why::Memory),
     };
     let mut rooms = Rooms::new(alloc);
     for _ in 0..job.timeline().count() {
         match round(rt, alloc, job, seat, station, share, &mut rooms, room) {
-            Some(back) => room = back,
-            None => return,
+            Ok(back) => room = back,
+            Err(leave) => return leave,
         }
+    }
+    // So many finishes leave no frame, and the station says so.
+    match take_frame(rt, seat.number, station) {
+        Err(away) => Leave::Away(away),
+        Ok(held) => give_up(
+            rt,
+            seat.number,
+            &mut seat.marks,
+            station,
+            Some(held),
+            Why::Memory,
+        ),
     }
 }

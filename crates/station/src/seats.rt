@@ -1,5 +1,5 @@
 //! The seats of a crew: one for each scan, made before the workers begin and taken apart after they have returned.
-ghost use Rattle.std.specs.Prelude.{◌≡◌, ◌+◌, ◌*◌, ◌<◌, ◌≤◌, ◌++◌, ◌∷◌, ℕ, All, [], false, length, map, sum_by, vec_len, vec_capacity};
+ghost use Rattle.std.specs.Prelude.{◌≡◌, ◌+◌, ◌*◌, ◌<◌, ◌≤◌, ◌++◌, ◌∷◌, ℕ, All, [], false, length, map, slice_index_or, sum_by, vec_len, vec_capacity};
 ghost use Rattle.frame_share.specs.Units.{fresh as unasked};
 ghost use Rattle.shared_station.specs.Marks.{HasMoreThan, fresh};
 ghost use Rattle.station.specs.Seats.{HasGiven, HasTaken, IsOnePart};
@@ -41,6 +41,7 @@ pub(crate) fn seat_all<S: Scans, N: Work, A: Ledger, B: Ledger, C: Ledger, E: Le
     requires closed { units.old.pending ≡ 0 }
     ensures scans { map (λ s. s.scan) result.items ≡ scans.items }
     ensures len { vec_len result ≡ vec_len scans }
+    ensures numbers { (k : ℕ) (d : _) → k < vec_len scans → (slice_index_or result.items k d).number ≡ k }
     ensures fresh { All (λ s. (s.marks ≡ fresh) × (s.loads ≡ 0) × (s.has_failed ≡ false)) result.items }
     ensures given { HasGiven marks.old (vec_len scans) marks.new }
     ensures unasked { All (λ s. s.units ≡ unasked) result.items }

@@ -15,7 +15,7 @@ use conform_job::{Job, Work};
 use frame_share::Share;
 use reel_disk::{Disk, Start};
 use scan_source::Scans;
-use shared_station::Station;
+use shared_station::{Crewed, Station};
 use std::alloc::Global;
 use std::sync::ledger::Ledger;
 use std::sync::{Mutex, Wait};
@@ -27,6 +27,7 @@ fn drive<
     S: Scans + Send,
     D: Disk + Send,
     N: Work + Start + Send + Sync,
+    W: Crewed + Send + Sync,
     A: Ledger + Send + Sync,
     B: Ledger + Send + Sync,
     C: Ledger + Send + Sync,
@@ -38,7 +39,7 @@ fn drive<
     alloc: Global,
     job: &Job,
     seats: &mut [Seat<S, N, A, B, C, E, F>],
-    station: &Mutex<Station<D, N, A, B, C, E>>,
+    station: &Mutex<Station<D, N, W, A, B, C, E>>,
     share: &SharedFrames<N, F>,
 )
     requires some { 0 < length seats.old }
@@ -68,7 +69,7 @@ fn drive<
             requires none { seat.old.loads ≡ 0 }
             requires unfailed { seat.old.has_failed ≡ false }
             requires closed { seat.old.units.pending ≡ 0 }
-        { worker(rt, alloc, job, seat, station, share) },
+        { drop(worker(rt, alloc, job, seat, station, share)) },
     );
 }
 
@@ -77,6 +78,7 @@ fn drive_first<
     S: Scans + Send,
     D: Disk + Send,
     N: Work + Start + Send + Sync,
+    W: Crewed + Send + Sync,
     A: Ledger + Send + Sync,
     B: Ledger + Send + Sync,
     C: Ledger + Send + Sync,
@@ -89,7 +91,7 @@ fn drive_first<
     job: &Job,
     seats: &mut [Seat<S, N, A, B, C, E, F>],
     threads: usize,
-    station: &Mutex<Station<D, N, A, B, C, E>>,
+    station: &Mutex<Station<D, N, W, A, B, C, E>>,
     share: &SharedFrames<N, F>,
 )
     requires some { 0 < threads }
@@ -127,6 +129,7 @@ pub(crate) fn work_all<
     S: Scans + Send,
     D: Disk + Send,
     N: Work + Start + Send + Sync,
+    W: Crewed + Send + Sync,
     A: Ledger + Send + Sync,
     B: Ledger + Send + Sync,
     C: Ledger + Send + Sync,
@@ -139,9 +142,9 @@ pub(crate) fn work_all<
     job: &Job,
     seats: &mut [Seat<S, N, A, B, C, E, F>],
     threads: usize,
-    station: Station<D, N, A, B, C, E>,
+    station: Station<D, N, W, A, B, C, E>,
     share: Share<N, F>,
-) -> (Station<D, N, A, B, C, E>, Share<N, F>)
+) -> (Station<D, N, W, A, B, C, E>, Share<N, F>)
     requires some { 0 < threads }
     requires within { threads ≤ length seats.old }
     requires job { job.now ≡ N.job }

@@ -13,6 +13,7 @@ returns-clause-made g c =
     record {
       station = c.args.station;
       is = c.into_parts-reel.ensures.kept;
+      named = c.into_parts-reel.ensures.named;
       disk_is = search rules;
       steps_are = refl;
       ends = search rules;

@@ -1,19 +1,20 @@
-use Rattle.std.proofs.Common.{◌≡◌, ◌∙◌, ◌≤◌, Vec, ap, arith, inl, min, refl, sym, subst, vec_len}
+use Rattle.std.proofs.Common.{◌≡◌, ◌∙◌, ◌≤◌, ℕ, Vec, ap, arith, inl, inr, min, refl, sym, subst, vec_len}
 use Rattle.std.specs.Prelude.{MatchOption}
 use Rattle.std.specs.declared.alloc.Global.{Global}
 use Rattle.reel_disk.specs.Disk.{view_of}
 use Rattle.reel_disk.specs.Runs.{Spares}
 use Rattle.reel_disk.proofs.Sparing.{spares_wider}
+use Rattle.render_board.specs.Board.{Log}
 use Rattle.render_board.specs.History.{first_why, is_disk, stops_of}
 use Rattle.resume_ledger.specs.Ledger.{IsLedgerFile, IsWrittenLedgerFile}
 use Rattle.resume_ledger.specs.Sound.{WritesOnly}
-use Rattle.station.specs.Crews.{AreWorked, IsCrewRun, IsUnstepped, WasCrewed}
+use Rattle.station.specs.Crews.{AreWorked, IsCrewRun, IsUnstepped, WasCrewed, WasUnmade}
 use Rattle.reel_writer.specs.Changes.{IsOwnFile, MayWrite}
 use Rattle.reel_writer.proofs.Writing.{writes_wider}
 use Rattle.single_run.specs.Run.{WasRefused}
 use Rattle.single_run.specs.declared.run_end.RunEnd.TheVariants as ends
 use Rattle.single_run.proofs.Closing.{was_refused, whole_reel}
-use Rattle.station.proofs.Crewing.{by_steps, crew_run, crew_spares, crew_writes, crewed, with_steps}
+use Rattle.station.proofs.Crewing.{by_steps, crew_run, crew_spares, crew_writes, crewed, was_unmade, with_steps}
 use Rattle.station.proofs.Gathering.{end_disk, unworked}
 use Rattle.shared_station.proofs.Opening.{beginning}
 use Rattle.station.proofs.crew.crew_under.Goals as goal
@@ -27,6 +28,13 @@ run_opened-requires-clause-beginning g c κs within =
 pub run_opened-requires-clause-within : goal.run_opened-requires-clause-within
 run_opened-requires-clause-within g c κs within = let is = c.from.ensures in let least = c.min-threads.ensures in let len = c.len.ensures in omega (arith, is, least, len)
 
+pub run_opened-requires-clause-crew : goal.run_opened-requires-clause-crew
+run_opened-requires-clause-crew g c κs within =
+    let least = c.min-threads.ensures in
+    let len = c.len.ensures in
+    let threads : c.min-threads.result ≡ min c.args.workers (vec_len c.args.scans) = omega (arith, least, len) in
+    ap (λ (l : Log). l.workers) c.in-Some.ensures.board ∙ threads ∙ sym c.requires.crew
+
 -- the folder was not opened
 pub returns-in-Err-clause-scans : goal.returns-in-Err-clause-scans
 returns-in-Err-clause-scans g c =
@@ -39,7 +47,7 @@ returns-in-Err-clause-ran g c =
     let made = c.unmade.ensures in
     let was = was_refused g.N.Work.job g.D.Disk.tells (g.D.Disk.history c.args.disk) (g.D.Disk.history c.in-Err.disk) c.in-Err.fault _ _ _ (made.end ∙ c.end_of_opening.ensures.end) c.in-Err.ensures.known c.in-Err.ensures.answer c.in-Err.ensures.adds_none made.kept made.loads made.log in
     let crew = c.unmade.result in
-    subst (λ steps. MatchOption steps (IsUnstepped g.N.Work.job g.D.Disk.tells (g.D.Disk.history c.args.disk) (g.D.Disk.history crew.disk) crew.end crew.report crew.log) (λ all. WasCrewed g.N.Work.job g.N.Work.files g.D.Disk.tells (g.D.Disk.history c.args.disk) (g.D.Disk.history crew.disk) all crew.end crew.report crew.log)) (sym made.history)
+    subst (λ steps. MatchOption steps (IsUnstepped g.N.Work.job g.D.Disk.tells (g.D.Disk.history c.args.disk) (g.D.Disk.history crew.disk) crew.end crew.report crew.log) (λ all. WasCrewed g.N.Work.job g.N.Work.files (min c.args.workers (vec_len c.args.scans)) g.D.Disk.tells (g.D.Disk.history c.args.disk) (g.D.Disk.history crew.disk) all crew.end crew.report crew.log)) (sym made.history)
     (inl (subst (λ d. WasRefused g.N.Work.job g.D.Disk.tells (g.D.Disk.history c.args.disk) (g.D.Disk.history d) c.unmade.result.end c.unmade.result.report c.unmade.result.log) (sym made.disk) was))
 
 pub returns-in-Err-clause-sound_has : goal.returns-in-Err-clause-sound_has
@@ -58,6 +66,14 @@ returns-in-Err-clause-writes g c told =
     (writes_wider _ _ IsWrittenLedgerFile may (λ q ledger. inl ledger) (c.in-Err.ensures.writes told))
 
 -- it was, and memory ran out
+pub returns-in-None-clause-ran : goal.returns-in-None-clause-ran
+returns-in-None-clause-ran g c =
+    let made = c.unmade-in-None.ensures in
+    let was = was_unmade g.N.Work.job g.D.Disk.tells (g.D.Disk.history c.args.disk) (g.D.Disk.history c.in-Ok.reel.disk) c.in-Ok.reel.ledger _ _ _ c.in-Ok.ensures.answer c.in-Ok.ensures.known made.end made.kept made.loads made.log in
+    let crew = c.unmade-in-None.result in
+    subst (λ steps. MatchOption steps (IsUnstepped g.N.Work.job g.D.Disk.tells (g.D.Disk.history c.args.disk) (g.D.Disk.history crew.disk) crew.end crew.report crew.log) (λ all. WasCrewed g.N.Work.job g.N.Work.files (min c.args.workers (vec_len c.args.scans)) g.D.Disk.tells (g.D.Disk.history c.args.disk) (g.D.Disk.history crew.disk) all crew.end crew.report crew.log)) (sym made.history)
+    (inr (subst (λ d. WasUnmade g.N.Work.job g.D.Disk.tells (g.D.Disk.history c.args.disk) (g.D.Disk.history d) crew.end crew.report crew.log) (sym (made.disk ∙ c.close.ensures)) was))
+
 pub returns-in-None-clause-scans : goal.returns-in-None-clause-scans
 returns-in-None-clause-scans g c =
     let met = g.met.S.Scans g.world.𝓛 g.world.𝓜 g.world.𝓡 ((λ s x. x), (λ x. x), (λ x. x), (λ x. x)) in
@@ -83,8 +99,9 @@ returns-in-None-clause-writes g c told =
 pub returns-clause-ran : goal.returns-clause-ran
 returns-clause-ran g c =
     by_steps c.run_opened.result.history _ _ _ c.run_opened.ensures.some c.run_opened.ensures.made (λ steps made.
-    crewed g.N.Work.job g.N.Work.files g.N.Start.start g.D.Disk.tells g.D.Disk.history g.D.Disk.faults c.args.disk c.run_opened.result.disk steps c.run_opened.result.end c.run_opened.result.report
-    c.requires.start c.requires.moment made (λ told. (c.in-Ok.ensures.answer told).fit) c.run_opened.result.log c.run_opened.ensures.shared)
+    subst (λ (n : ℕ). WasCrewed g.N.Work.job g.N.Work.files n g.D.Disk.tells (g.D.Disk.history c.args.disk) (g.D.Disk.history c.run_opened.result.disk) steps c.run_opened.result.end c.run_opened.result.report c.run_opened.result.log) c.requires.crew
+    (crewed g.N.Work.job g.N.Work.files g.W.Crewed.workers g.N.Start.start g.D.Disk.tells g.D.Disk.history g.D.Disk.faults c.args.disk c.run_opened.result.disk steps c.run_opened.result.end c.run_opened.result.report
+    c.requires.start c.requires.moment made (λ told. (c.in-Ok.ensures.answer told).fit) c.run_opened.result.log c.run_opened.ensures.shared))
 
 pub returns-clause-scans : goal.returns-clause-scans
 returns-clause-scans g c =
@@ -97,19 +114,19 @@ returns-clause-scans g c =
 pub returns-clause-run : goal.returns-clause-run
 returns-clause-run g c told =
     with_steps c.run_opened.result.history _ _ c.run_opened.ensures.some c.run_opened.ensures.made (λ steps made.
-    crew_run g.N.Work.job g.N.Work.files g.N.Start.start g.D.Disk.tells g.D.Disk.history g.D.Disk.faults c.args.disk c.run_opened.result.disk steps c.run_opened.result.end c.run_opened.result.report
+    crew_run g.N.Work.job g.N.Work.files g.W.Crewed.workers g.N.Start.start g.D.Disk.tells g.D.Disk.history g.D.Disk.faults c.args.disk c.run_opened.result.disk steps c.run_opened.result.end c.run_opened.result.report
     c.requires.start c.requires.moment made told)
 
 pub returns-clause-spares : goal.returns-clause-spares
 returns-clause-spares g c told =
     with_steps c.run_opened.result.history _ _ c.run_opened.ensures.some c.run_opened.ensures.made (λ steps made.
-    crew_spares g.N.Work.job g.N.Work.files g.N.Start.start g.D.Disk.tells g.D.Disk.history g.D.Disk.faults c.args.disk c.run_opened.result.disk steps c.run_opened.result.end c.run_opened.result.report
+    crew_spares g.N.Work.job g.N.Work.files g.W.Crewed.workers g.N.Start.start g.D.Disk.tells g.D.Disk.history g.D.Disk.faults c.args.disk c.run_opened.result.disk steps c.run_opened.result.end c.run_opened.result.report
     c.requires.start c.requires.moment made told)
 
 pub returns-clause-writes : goal.returns-clause-writes
 returns-clause-writes g c told =
     with_steps c.run_opened.result.history _ _ c.run_opened.ensures.some c.run_opened.ensures.made (λ steps made.
-    crew_writes g.N.Work.job g.N.Work.files g.N.Start.start g.D.Disk.tells g.D.Disk.history g.D.Disk.faults c.args.disk c.run_opened.result.disk steps c.run_opened.result.end c.run_opened.result.report
+    crew_writes g.N.Work.job g.N.Work.files g.W.Crewed.workers g.N.Start.start g.D.Disk.tells g.D.Disk.history g.D.Disk.faults c.args.disk c.run_opened.result.disk steps c.run_opened.result.end c.run_opened.result.report
     c.requires.start c.requires.moment made told)
 
 pub returns-clause-sound_has : goal.returns-clause-sound_has

@@ -1,4 +1,8 @@
+use Rattle.std.proofs.Common.{min, vec_len}
 use Rattle.station.proofs.crew.run_crew.Given as goal
+
+abbrev pub ghosts-crew_under-W-Crewed : goal.ghosts-crew_under-W-Crewed
+ghosts-crew_under-W-Crewed g a = record { workers = min a.workers (vec_len a.scans) }
 
 abbrev pub ghosts-crew_under-A-Ledger : goal.ghosts-crew_under-A-Ledger
 ghosts-crew_under-A-Ledger g a = record { name = a.source.name; parts = a.source.parts }

@@ -1,6 +1,7 @@
-use Rattle.std.proofs.Common.{sym}
+use Rattle.std.proofs.Common.{true, sym, ◌∙◌}
+use Rattle.std.proofs.lemmas.Bool.{true≢false}
 use Rattle.render_board.proofs.Holding.{stopped_has_stop}
 use Rattle.station.proofs.rest.stop_first.Goals as goal
 
-pub returns-in-Stopped-clause-stopped : goal.returns-in-Stopped-clause-stopped
-returns-in-Stopped-clause-stopped g c = stopped_has_stop c.args.station.now.log 0 c.workers.ensures.kept.legal (sym c.in-Stopped.ensures)
+pub stop-requires-clause-running : goal.stop-requires-clause-running
+stop-requires-clause-running g c is = true≢false (sym (stopped_has_stop c.args.station.now.log 0 c.workers.ensures.kept.legal is) ∙ c.requires.none)

@@ -2,7 +2,7 @@ use Rattle.std.proofs.Common.{◌≡◌, ◌*◌, ◌≤◌, false, length}
 use Rattle.frame_render.specs.Frame.{frame_size}
 use Rattle.reel_writer.specs.Reel.{frames_of}
 use Rattle.single_run.specs.Scanned.{IsScanned}
-use Rattle.station.specs.Worked.{HasCounted, KeepsParts, KeepsSources}
+use Rattle.station.specs.Worked.{HasCounted}
 use Rattle.station.proofs.rounds.worker.Given as goal
 
 -- no round has stopped
@@ -19,6 +19,5 @@ invariant-loop g l = record {
   unfailed : l.seat.has_failed ≡ false;
   scan : IsScanned g.S.Scans.world g.S.Scans.faults g.S.Scans.loads l.seat.loads ⊥ l.fn.seat.scan l.seat.scan;
   same : g.S.Scans.same l.fn.seat.scan l.seat.scan;
-  parts : KeepsParts l.fn.seat.marks l.seat.marks;
-  sources : KeepsSources l.fn.seat.marks l.seat.marks;
+  marks : l.seat.marks ≡ l.fn.seat.marks;
 }

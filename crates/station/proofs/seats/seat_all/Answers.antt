@@ -4,7 +4,7 @@ use Rattle.std.proofs.lemmas.List.Elements.{All-push}
 use Rattle.frame_share.specs.Units.{fresh as unasked}
 use Rattle.shared_station.specs.Marks.{fresh}
 use Rattle.station.specs.Seats.{HasGiven}
-use Rattle.station.proofs.Seating.{all_came, given_more, has_room, more_came, more_left, next_number, not_all_came, units_amount, units_closed, units_left}
+use Rattle.station.proofs.Seating.{all_came, given_more, has_room, more_came, more_left, next_number, not_all_came, numbered_more, units_amount, units_closed, units_left}
 use Rattle.station.proofs.seats.seat_all.Goals as goal
 
 pub loop-scan-preserved : goal.loop-scan-preserved
@@ -19,6 +19,7 @@ loop-scan-preserved g c =
       len = omega (arith, more, c.loop-scan.invariant.len, c.push_within.ensures.len);
       scans = rw (c.push_within.ensures.items, map-append, c.loop-scan.invariant.scans) refl;
       fresh = rw c.push_within.ensures.items (All-push (λ s. (s.marks ≡ fresh) × (s.loads ≡ 0) × (s.has_failed ≡ false)) c.loop-scan.seats.items _ c.loop-scan.invariant.fresh (c.split.ensures.new, refl, refl));
+      numbers = rw (c.push_within.ensures.items, more) (numbered_more (λ s. s.number) c.loop-scan.seats.items _ _ (search rules) c.loop-scan.invariant.number c.loop-scan.invariant.numbers);
       given = given_more _ _ _ _ _ _ c.loop-scan.invariant.given c.split.ensures.new c.split.ensures.all more;
       unasked = rw c.push_within.ensures.items (All-push (λ s. s.units ≡ unasked) c.loop-scan.seats.items _ c.loop-scan.invariant.unasked c.split-in-loop-scan.ensures.new);
       shares = units_left _ _ _ _ _ c.split-in-loop-scan.ensures.new c.split-in-loop-scan.ensures.all c.loop-scan.invariant.shares more;
@@ -54,6 +55,7 @@ returns g c =
     record {
       scans = inv.scans ∙ is;
       len = inv.len ∙ size;
+      numbers = λ k d lt. inv.numbers k d (omega (arith, lt, size));
       fresh = inv.fresh;
       given = subst (λ n. HasGiven c.args.marks.now n c.loop-scan.marks) size inv.given;
       unasked = inv.unasked;

@@ -1,4 +1,4 @@
-use Rattle.std.proofs.Common.{◌≡◌, ◌+◌, ◌++◌, All, length, map, false, vec_len, vec_capacity}
+use Rattle.std.proofs.Common.{◌≡◌, ℕ, ◌<◌, ◌+◌, ◌++◌, All, get_or, length, map, false, vec_len, vec_capacity}
 use Rattle.frame_share.specs.Units.{fresh as unasked}
 use Rattle.shared_station.specs.Marks.{fresh}
 use Rattle.station.specs.Seats.{HasGiven}
@@ -13,6 +13,7 @@ invariant-loop-scan g l = record {
   capacity : vec_capacity l.seats ≡ vec_capacity l.initial.seats;
   len : vec_len l.seats ≡ length l.yielded;
   scans : map (λ s. s.scan) l.seats.items ≡ l.yielded;
+  numbers : (k : ℕ) (d : _) → k < length l.yielded → (get_or l.seats.items k d).number ≡ k;
   fresh : All (λ s. (s.marks ≡ fresh) × (s.loads ≡ 0) × (s.has_failed ≡ false)) l.seats.items;
   given : HasGiven l.initial.marks (length l.yielded) l.marks;
   unasked : All (λ s. s.units ≡ unasked) l.seats.items;
