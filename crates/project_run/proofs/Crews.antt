@@ -39,7 +39,7 @@ module _ {S : Type 0} (world : S → Option World) (faults loads : S → ℕ) (s
 
   pub crew_job_run : (log : List ShareStep) (job : JobData) (told : Option World) (workers count : ℕ) (old new : List S) (disk disk_after : DiskState) (how : RunEnd) (report : Report) (steps : Option (List Step)) → count ≡ length old
       → report.frames ≡ frames_of job
-      → MatchOption steps (IsUnstepped job disk.tells disk.history disk_after.history how report log) (λ all. WasCrewed job told disk.tells disk.history disk_after.history all how report log)
+      → MatchOption steps (IsUnstepped job disk.tells disk.history disk_after.history how report log) (λ all. WasCrewed job told (min workers count) disk.tells disk.history disk_after.history all how report log)
       → (disk.tells ≡ true → IsReelRun job told disk.history disk_after.history)
       → (how ≡ ends.Done → disk.tells ≡ true → AreAllAcked job (moment_of disk_after.history))
       → (how ≡ ends.Done → disk.tells ≡ true → HasWhole job told disk.history disk_after.history)
@@ -57,7 +57,7 @@ module _ {S : Type 0} (world : S → Option World) (faults loads : S → ℕ) (s
     frames = frames;
     steps = steps;
     log = log;
-    ran = ran;
+    ran = subst (λ n. MatchOption steps (IsUnstepped job disk.tells disk.history disk_after.history how report log) (λ all. WasCrewed job told (min workers n) disk.tells disk.history disk_after.history all how report log)) all ran;
     run = run;
     acked = acked;
     whole = whole;

@@ -55,8 +55,9 @@ module _ {S : Type 0} (world : S → Option World) (faults loads : S → ℕ) (s
     -- the steps of the workers, how the run ended by them, and what the folder acknowledges now; or why there are none
     pub steps : Option (List Step)
     pub log : List ShareStep
+    -- there are as many workers as were asked for, at most one a scan
     pub ran : MatchOption steps (IsUnstepped job disk.tells disk.history disk_after.history how report log)
-        (λ all. WasCrewed job told disk.tells disk.history disk_after.history all how report log)
+        (λ all. WasCrewed job told (min workers (length old)) disk.tells disk.history disk_after.history all how report log)
     -- the crash promise
     pub run : disk.tells ≡ true → IsReelRun job told disk.history disk_after.history
     pub acked : how ≡ ends.Done → disk.tells ≡ true → AreAllAcked job (moment_of disk_after.history)
