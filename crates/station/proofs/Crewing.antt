@@ -1,6 +1,6 @@
 -- What a crew leaves, from what the station kept.
-use Rattle.std.proofs.Common.{◌≡◌, inl, inr, ℕ, zero, suc, ◌+◌, ◌<◌, ◌≤◌, Bool, true, false, List, [], ◌∷◌, length, get_or, slice_get, refl, sym, ◌∙◌, ap, subst, arith}
-use Rattle.std.specs.Prelude.{◌↔◌, ◌⊎◌, Option, Some, None, IfSome, MatchOption, count_by, is_some}
+use Rattle.std.proofs.Common.{◌≡◌, inl, inr, ℕ, zero, suc, ◌<◌, ◌≤◌, Bool, true, false, List, [], ◌∷◌, length, get_or, slice_get, refl, sym, ◌∙◌, ap, subst, arith}
+use Rattle.std.specs.Prelude.{◌↔◌, Option, Some, None, IfSome, MatchOption, count_by, is_some}
 use Rattle.std.proofs.lemmas.Bool.{false≢true, true≢false}
 use Rattle.std.proofs.lemmas.Option.{same_Some}
 use Rattle.cf_base.specs.declared.file.FileId.{FileId}
@@ -8,13 +8,13 @@ use Rattle.scan_source.specs.World.{World}
 use Rattle.frame_share.specs.declared.step.ShareStep.{ShareStep}
 use Rattle.conform_job.specs.Job.{JobData, file_of}
 use Rattle.frame_render.specs.Frame.{frame_size}
-use Rattle.reel_disk.specs.Disk.{Files, Moment, History, IsFirm, IsLoose, moment_of, view_of}
-use Rattle.reel_disk.specs.Runs.{Spares, Surely}
+use Rattle.reel_disk.specs.Disk.{Moment, History, IsFirm, IsLoose, moment_of, view_of}
+use Rattle.reel_disk.specs.Runs.{Spares}
 use Rattle.reel_disk.proofs.Sparing.{spares_wider}
 use Rattle.resume_ledger.specs.Attach.{IsOpened, IsOpenFor}
 use Rattle.resume_ledger.specs.Ledger.{IsFit, LedgerState}
 use Rattle.resume_ledger.specs.Sound.{WritesOnly}
-use Rattle.render_board.specs.Board.{Log, has_stop, is_done}
+use Rattle.render_board.specs.Board.{has_stop, is_done}
 use Rattle.render_board.proofs.Counts.{whole_count}
 use Rattle.render_board.specs.History.{finished_of, first_why, is_disk, stops_of}
 use Rattle.render_board.specs.declared.step.Step.{Step}
@@ -25,8 +25,8 @@ use Rattle.reel_writer.specs.Changes.{HasKept, IsOwnFile, MayWrite}
 use Rattle.reel_writer.specs.Reel.{frames_of, IsReelRun}
 use Rattle.single_run.specs.declared.run_end.Report.{Report}
 use Rattle.single_run.specs.declared.run_end.RunEnd.{RunEnd}
-use Rattle.single_run.specs.declared.run_end.RunEnd.TheVariants.{Done, Changed as IsNow, SourceFault, DiskFault, NoMemory}
-use Rattle.station.specs.Crews.{AreShared, IsCrewRun, WasCrewed, WasUnmade, end_by, log_of}
+use Rattle.single_run.specs.declared.run_end.RunEnd.TheVariants.{Done, NoMemory}
+use Rattle.station.specs.Crews.{AreShared, IsCrewRun, WasCrewed, WasUnmade, end_by}
 use Rattle.single_run.specs.Ends.{IsEnd}
 use Rattle.single_run.specs.Run.{AreAllAcked}
 use Rattle.shared_station.specs.Station.{IsStation, StationView, HasChanges, IsCrewFile, MayCrewWrite, ShowsDone, at_start, start_of}

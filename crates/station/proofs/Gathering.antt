@@ -2,7 +2,7 @@
 use Rattle.std.proofs.Common.{◌≡◌, inl, inr, cond, ℕ, zero, suc, ◌+◌, ◌<◌, ◌≤◌, Bool, true, false, List, [], ◌∷◌, All, length, get_or, map, refl, sym, ◌∙◌, ap, subst, arith}
 use Rattle.std.specs.Prelude.{◌⊎◌, Option, None, Some, sum_by}
 use Rattle.std.proofs.lemmas.Option.{same_Some}
-use Rattle.std.proofs.lemmas.List.{get_or-map, get_or_default, get_or_past, length-map}
+use Rattle.std.proofs.lemmas.List.{get_or-map, get_or_past, length-map}
 use Rattle.std.proofs.lemmas.List.Sums.{sum_by-cons}
 use Rattle.std.proofs.lemmas.Bool.{cases_lt, true≢false}
 use Rattle.scan_source.specs.World.{World}
@@ -12,8 +12,7 @@ use Rattle.render_board.specs.declared.step.Why.{Why}
 use Rattle.render_board.specs.declared.step.Why.TheVariants.{Source, Disk, Memory, Changed}
 use Rattle.render_board.specs.History.{first_why, is_changed, is_disk, is_source, is_stop_by, stops_of}
 use Rattle.render_board.specs.Board.{has_stop}
-use Rattle.single_run.specs.declared.run_end.RunEnd.{RunEnd}
-use Rattle.single_run.specs.declared.run_end.RunEnd.TheVariants.{Done, OtherJob, BadLedger, Changed as IsNow, SourceFault, DiskFault, NoMemory}
+use Rattle.single_run.specs.declared.run_end.RunEnd.TheVariants.{Done, SourceFault, DiskFault}
 use Rattle.station.specs.Crews.{AreWorked, IsWorked, end_by}
 use Rattle.single_run.specs.Ends.{IsChange}
 use Rattle.shared_station.specs.Marks.{Tallies, fresh}

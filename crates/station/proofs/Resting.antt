@@ -1,6 +1,6 @@
 -- How steps that are made from a seat add up, and what is left when none is free.
-use Rattle.std.proofs.Common.{◌≡◌, ◌≢◌, inl, inr, ℕ, ◌+◌, ◌-◌, ◌^◌, ◌<◌, ◌≤◌, min, Bool, true, false, ◌||◌, List, [], ◌∷◌, ◌++◌, All, length, get_or, set, refl, sym, ◌∙◌, ap, subst, arith}
-use Rattle.std.specs.Prelude.{◌⊎◌, Option, None, Some}
+use Rattle.std.proofs.Common.{◌≡◌, ◌≢◌, inl, inr, ℕ, ◌+◌, ◌-◌, ◌<◌, ◌≤◌, Bool, true, false, ◌||◌, List, [], ◌∷◌, ◌++◌, All, length, get_or, set, refl, sym, ◌∙◌, ap, subst, arith}
+use Rattle.std.specs.Prelude.{◌⊎◌, Option}
 use Rattle.std.proofs.lemmas.Bool.{true≢false, cases_eq, cases_lt}
 use Rattle.cf_base.specs.Count.{HasRisen}
 use Rattle.scan_source.specs.World.{World}
@@ -11,7 +11,6 @@ use Rattle.std.proofs.lemmas.List.Sums.{count_by-le-length}
 use Rattle.render_board.specs.declared.board.Turn.TheVariants as turns
 use Rattle.render_board.specs.declared.step.Step.{Step}
 use Rattle.render_board.specs.declared.step.Step.TheVariants.{Claim, Finish, Stop}
-use Rattle.render_board.specs.declared.step.Why.TheVariants.{Disk}
 use Rattle.render_board.specs.declared.step.Why.{Why}
 use Rattle.render_board.specs.declared.board.Claim.{Claim as Answer}
 use Rattle.render_board.specs.declared.board.Claim.TheVariants as answers
@@ -33,7 +32,7 @@ use Rattle.shared_station.specs.StationSteps.{why_by}
 use Rattle.conform_job.specs.Answers.{count_after}
 use Rattle.single_run.specs.Scanned.{IsScanned}
 use Rattle.station.specs.Stepped.{HasStepped}
-use Rattle.station.specs.Worked.{HasCauses, HasCounted, KeepsParts, KeepsSources}
+use Rattle.station.specs.Worked.{HasCauses, HasCounted}
 use Rattle.single_run.proofs.Scanning.{loads_along, scanned_itself}
 use Rattle.station.proofs.Working.{counted_along, parts_along, causes_none}
 
@@ -146,11 +145,6 @@ stop_causes job told end why more failed before now same stop fails loaded raise
     by SourceFault stop fails loaded = record { parts = record { source = refl; disk = refl; memory = refl; changed = refl }; source = λ rose. fails refl; changed = λ rose. absurd (omega (arith, rose)) }
     by DiskFault stop fails loaded = record { parts = record { source = refl; disk = refl; memory = refl; changed = refl }; source = λ rose. absurd (omega (arith, rose)); changed = λ rose. absurd (omega (arith, rose)) }
     by NoMemory stop fails loaded = record { parts = record { source = refl; disk = refl; memory = refl; changed = refl }; source = λ rose. absurd (omega (arith, rose)); changed = λ rose. absurd (omega (arith, rose)) }
-
--- where nothing is counted, nothing wants a cause
-pub still_causes : (told : Option World) (more : ℕ) (failed : Bool) (before now : Tallies) → now ≡ before → HasCauses told more failed before now
-still_causes told more failed before now still =
-    subst (HasCauses told more failed before) (sym still) (causes_none told before before more failed (record { source = refl; disk = refl; memory = refl; changed = refl }) (record { source = refl; changed = refl }))
 
 pub stepped_by : {S : Type 0} (told : Option World) (world : S → Option World) (faults loads : S → ℕ) (scan now : S) (counted count : ℕ) (had has failed : Bool) (before after : Tallies)
     → counted ≤ count → has ≡ (had || failed) → IsScanned world faults loads (count - counted) (failed ≡ true) scan now → HasCauses told (count - counted) failed before after

@@ -1,5 +1,5 @@
 -- Seats and their marks, handed out and taken in.
-use Rattle.std.proofs.Common.{inl, inr, List, [], ◌∷◌, length, get_or, map, ◌++◌, append_assoc, take, drop, subst, sym, ◌∙◌, ◌<◌, ◌≤◌, All, ◌≡◌, ℕ, ◌+◌, ◌*◌, ◌^◌, ap, arith, refl}
+use Rattle.std.proofs.Common.{inl, inr, List, [], ◌∷◌, length, get_or, map, ◌++◌, append_assoc, take, drop, subst, sym, ◌∙◌, ◌<◌, ◌≤◌, All, ◌≡◌, ℕ, ◌+◌, ◌*◌, ◌^◌, ap, arith}
 use Rattle.std.proofs.Math.ListN.{get_or-map}
 use Rattle.std.proofs.Math.Seq.{get_or-append_seam}
 use Rattle.std.proofs.lemmas.Bool.{cases_lt}

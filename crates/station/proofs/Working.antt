@@ -1,13 +1,8 @@
 -- How a worker's rounds add up.
-use Rattle.std.proofs.Common.{◌≡◌, ℕ, ◌+◌, ◌-◌, ◌<◌, ◌≤◌, Bool, true, length, sym, ◌∙◌, ap, subst, arith}
-use Rattle.std.specs.Prelude.{Option, None, Some, Result, Ok, Err, OnOk}
-use Rattle.std.specs.Result.{is_ok}
-use Rattle.std.proofs.lemmas.Bool.{false≢true}
+use Rattle.std.proofs.Common.{◌≡◌, ℕ, ◌+◌, ◌-◌, ◌≤◌, Bool, ◌∙◌, arith}
+use Rattle.std.specs.Prelude.{Option}
 use Rattle.scan_source.specs.World.{World}
 use Rattle.frame_share.specs.Units.{Tally}
-use Rattle.render_board.specs.declared.board.Claim.TheVariants.{Take}
-use Rattle.render_board.specs.Board.{Log, claim_of}
-use Rattle.render_board.proofs.Holding.{claim_takes, least_free_is}
 use Rattle.shared_station.specs.Marks.{Tallies}
 use Rattle.single_run.specs.Scanned.{IsScanned}
 use Rattle.station.specs.Worked.{HasCauses, HasCounted, KeepsParts, KeepsSources}
@@ -26,14 +21,6 @@ pub counted_along : (before mid now : Tally) (loads more : ℕ) → HasCounted b
 counted_along before mid now loads more first parts amount = record { parts = parts ∙ first.parts; amount = let was = first.amount in omega (arith, was, amount) }
 
 module _ (told : Option World) where
-  -- rounds that count no stop, and then one that may
-  pub causes_along : (a b c : Tallies) (more all : ℕ) (failed : Bool) → b ≡ a → more ≤ all → HasCauses told more failed b c → HasCauses told all failed a c
-  causes_along a b c more all failed same le causes = subst (λ (m : Tallies). HasCauses told all failed m c) same (record {
-    parts = causes.parts;
-    source = causes.source;
-    changed = λ rose. let cause = causes.changed rose in (omega (arith, cause.0, le), cause.1);
-  })
-
   pub causes_none : (a b : Tallies) (all : ℕ) (failed : Bool) → KeepsParts a b → KeepsSources a b → HasCauses told all failed a b
   causes_none a b all failed parts sources = record {
     parts = parts;

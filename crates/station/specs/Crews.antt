@@ -4,7 +4,7 @@
 --     WasUnmade      a run whose board or share could not be made
 --     AreShared      the log of the source frames that the workers shared
 --     AreWorked      what the workers did with their scans
-use Rattle.std.specs.Prelude.{◌≡◌, ◌≢◌, ◌↔◌, ◌⊎◌, ℕ, ◌+◌, ◌<◌, ◌≤◌, Bool, true, false, List, [], length, sum_by, count_by, slice_index_or, Option, Some, None, MatchOption}
+use Rattle.std.specs.Prelude.{◌≡◌, ◌↔◌, ◌⊎◌, ℕ, ◌+◌, ◌<◌, ◌≤◌, Bool, true, false, List, [], length, sum_by, count_by, slice_index_or, Option, Some, None, MatchOption}
 use Rattle.scan_source.specs.World.{World}
 use Rattle.conform_job.specs.Job.{JobData}
 use Rattle.frame_share.specs.declared.step.ShareStep.{ShareStep}

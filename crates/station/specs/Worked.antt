@@ -3,7 +3,6 @@ use Rattle.std.specs.Prelude.{◌≡◌, ℕ, ◌+◌, ◌<◌, ◌≤◌, Bool,
 use Rattle.scan_source.specs.World.{World}
 use Rattle.frame_share.specs.Units.{Tally}
 use Rattle.shared_station.specs.Marks.{Tallies}
-use Rattle.single_run.specs.Scanned.{IsScanned}
 
 -- the parts stay
 pub record KeepsParts (before now : Tallies) : Type 0 where

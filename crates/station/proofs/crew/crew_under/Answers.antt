@@ -8,7 +8,7 @@ use Rattle.render_board.specs.Board.{Log}
 use Rattle.render_board.specs.History.{first_why, is_disk, stops_of}
 use Rattle.resume_ledger.specs.Ledger.{IsLedgerFile, IsWrittenLedgerFile}
 use Rattle.resume_ledger.specs.Sound.{WritesOnly}
-use Rattle.station.specs.Crews.{AreWorked, IsCrewRun, IsUnstepped, WasCrewed, WasUnmade}
+use Rattle.station.specs.Crews.{AreWorked, IsUnstepped, WasCrewed, WasUnmade}
 use Rattle.reel_writer.specs.Changes.{IsOwnFile, MayWrite}
 use Rattle.reel_writer.proofs.Writing.{writes_wider}
 use Rattle.single_run.specs.Run.{WasRefused}

@@ -1,4 +1,4 @@
-use Rattle.std.proofs.Common.{true, sym, ◌∙◌}
+use Rattle.std.proofs.Common.{sym, ◌∙◌}
 use Rattle.std.proofs.lemmas.Bool.{true≢false}
 use Rattle.render_board.proofs.Holding.{stopped_has_stop}
 use Rattle.station.proofs.rest.stop_first.Goals as goal

@@ -1,4 +1,4 @@
-use Rattle.std.proofs.Common.{◌≡◌, true, false, rules, refl, arith, sym, ◌∙◌}
+use Rattle.std.proofs.Common.{◌≡◌, true, rules, refl, arith, sym, ◌∙◌}
 use Rattle.std.proofs.lemmas.Bool.{true≢false}
 use Rattle.single_run.proofs.Scanning.{scanned_as}
 use Rattle.station.proofs.Working.{counted_along, round_along}
