@@ -34,7 +34,7 @@ module _ {D : Type 0} where
   IsUntaken v worker NoneLeft = claim_of v.log ≡ answers.NoneLeft
   IsUntaken v worker Stopped = claim_of v.log ≡ answers.Stopped
 
-  -- the worker is turned away, for this reason: its turn is none of those that it may be at, say
+  -- the worker is turned away, for this reason; `MayBe` says which its turn may be
   abbrev pub IsAway : (Turn → Type 0) → StationView D → (worker : ℕ) → Reason → Type 0
   IsAway MayBe v worker Unknown = v.log.workers ≤ worker
   IsAway MayBe v worker Closed = v.reel.ledger.closed ≡ true
@@ -43,7 +43,8 @@ module _ {D : Type 0} where
   IsAway MayBe v worker Stopped = ⊥
 
   -- the worker has stopped, which makes this of the station; or it was turned away, which changes nothing
-  abbrev pub HasGone : (Turn → Type 0) → (before : StationView D) → (worker : ℕ) → (after : StationView D) → Leave → (now : StationView D) → Type 0
+  abbrev pub HasGone : (Turn → Type 0) → (before : StationView D) → (worker : ℕ) → (after : StationView D) → Leave
+      → (now : StationView D) → Type 0
   HasGone MayBe before worker after leaves.Stopped now = now ≡ after
   HasGone MayBe before worker after (leaves.Away reason) now = IsAway MayBe before worker reason × (now ≡ before)
 

@@ -163,7 +163,8 @@ impl<D: Disk, N: Work + Start, W: Crewed, A: Ledger, B: Ledger, C: Ledger, E: Le
         ensures spares { D.tells ≡ true → Spares (D.history self.old.reel.disk) (D.history self.new.reel.disk) (IsWrittenFile (file_of N.job frame.now.index)) }
         ensures acked { OnOk result (D.tells ≡ true → Surely (moment_of (D.history self.new.reel.disk)) (HasAcked N.job frame.now.index)) }
         ensures shown { OnOk result (D.tells ≡ true → view_of (D.history self.new.reel.disk) (file_of N.job frame.now.index) ≡ Some frame.now.bytes) }
-        ensures stored { OnOk result (D.tells ≡ true → Surely (moment_of (D.history self.new.reel.disk)) (HasStored (file_of N.job frame.now.index) frame.now.bytes)) }
+        ensures stored { OnOk result (D.tells ≡ true → Surely (moment_of (D.history self.new.reel.disk))
+            (HasStored (file_of N.job frame.now.index) frame.now.bytes)) }
         ensures same { D.same self.old.reel.disk self.new.reel.disk }
         ensures cause { HasCause (D.faults self.old.reel.disk) (D.faults self.new.reel.disk) (IsErr result) }
         ensures steady { OnOk result (D.faults self.new.reel.disk ≡ D.faults self.old.reel.disk) }
