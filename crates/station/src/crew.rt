@@ -212,7 +212,8 @@ fn closing<
     ensures end { result.end ≡ end_by (first_why station.log.steps) }
     ensures steps { result.history ≡ Some station.log.steps }
     ensures log { result.log ≡ log }
-    ensures made { IsCrewRun N.job N.files W.workers N.start D.tells D.history D.faults station.log.steps result.end result.report result.disk }
+    ensures made { IsCrewRun N.job N.files W.workers N.start D.tells D.history D.faults station.log.steps
+        result.end result.report result.disk }
     ensures acked { result.end ≡ RunEnd.Done → D.tells ≡ true → AreAllAcked N.job (moment_of (D.history result.disk)) }
     ensures scans { result.scans ≡ scans }
 {
@@ -281,7 +282,8 @@ fn run_opened<
     ensures some { is_some result.history ≡ true }
     ensures acked { result.end ≡ RunEnd.Done → D.tells ≡ true → AreAllAcked N.job (moment_of (D.history result.disk)) }
     ensures changed { IsChange result.end → 1 ≤ result.report.loads }
-    ensures made { IfSome result.history (λ steps. IsCrewRun N.job N.files W.workers N.start D.tells D.history D.faults steps result.end result.report result.disk) }
+    ensures made { IfSome result.history (λ steps. IsCrewRun N.job N.files W.workers N.start D.tells D.history D.faults steps
+        result.end result.report result.disk) }
     ensures scans { AreWorked S.world S.faults S.loads S.same threads result.report.loads (result.end ≡ RunEnd.SourceFault) scans.items result.scans.items }
 {
     let (station, mut marks) = Station::<D, N, W, A, B, C, E>::new(
