@@ -1,9 +1,21 @@
--- Counts of faults, which are kept in 64 bits and stay at their last value.
+-- Counts, which are kept in 64 bits and stay at their last value.
 use Rattle.std.specs.Prelude.{ℕ, ◌+◌, ◌-◌, ◌^◌, ◌≤◌, min}
+
+-- a count as 64 bits keep it
+abbrev pub kept : ℕ → ℕ
+kept count = min count (2 ^ 64 - 1)
+
+-- 64 bits hold it
+abbrev pub IsKept : ℕ → Type 0
+IsKept count = count ≤ 2 ^ 64 - 1
 
 -- the count went up, or stands at its last value
 abbrev pub HasRisen : ℕ → ℕ → Type 0
 HasRisen before now = min (before + 1) (2 ^ 64 - 1) ≤ now
+
+-- the count went up by one at most, and not past its last value
+abbrev pub HasRisenByOne : ℕ → ℕ → Type 0
+HasRisenByOne before now = now ≤ min (before + 1) (2 ^ 64 - 1)
 
 -- the count never falls, and a failure has its cause in it
 pub record HasCause (before now : ℕ) (Failed : Type 0) : Type 0 where

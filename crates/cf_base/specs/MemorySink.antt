@@ -1,6 +1,7 @@
 -- A sink in memory as contracts see it: which of its puts fail, and what they leave.
 use Rattle.std.specs.Prelude.{◌≡◌, ◌⊎◌, ℕ, ◌+◌, ◌-◌, ◌^◌, min, Bool, cond, ◌==◌, List, ◌++◌, take}
 use Rattle.std.specs.List.{list_any}
+use Rattle.cf_base.specs.Count.{kept}
 use Rattle.cf_base.specs.declared.sink.MemorySink.{MemorySink}
 use Rattle.cf_base.specs.declared.sink.Put.{Put}
 use Rattle.cf_base.specs.declared.sink.Put.TheVariants.{All, Failed}
@@ -18,7 +19,7 @@ abbrev pub written_in : MemorySink → List ℕ
 written_in sink = sink.bytes.items
 
 abbrev pub faults_in : MemorySink → ℕ
-faults_in sink = sink.faults
+faults_in sink = kept sink.faults
 
 -- the number of the next put: the first has the number 1
 abbrev pub next_put : PutPlan → ℕ

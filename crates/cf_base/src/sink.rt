@@ -1,6 +1,6 @@
 //! Where the output of a command goes.
 ghost use Rattle.std.specs.Prelude.{◌≡◌, ◌≤◌, ℕ, true, false, List, [], ◌++◌, take, Option, Some, IfOk};
-ghost use Rattle.cf_base.specs.Count.{HasRisen};
+ghost use Rattle.cf_base.specs.Count.{HasRisen, HasRisenByOne, IsKept, kept};
 ghost use Rattle.std.specs.Io.KnownBytes.{Appends};
 ghost use Rattle.cf_base.specs.MemorySink.{plan_of, written_in, faults_in, next_put, fails_next, after_put, IsPut};
 ghost use Rattle.cf_base.specs.Sink.{AppendsPrefix};
@@ -24,16 +24,20 @@ pub trait Sink {
     /// The bytes put so far, where the sink tells them: a sink that tells them goes on to tell.
     ghost written: { Self → Option (List ℕ) };
 
-    /// How often the sink has failed. The count never falls, and stands still at 2^64 - 1.
+    /// How often the sink has failed. The count never falls, and stays at 2^64 - 1 once it is there.
     ghost faults: { Self → ℕ };
 
-    /// Appends the piece, or a prefix of it where the sink fails. The count rises in a call that fails and in no other.
+    /// Appends the piece, or a prefix of it where the sink fails. The count rises by one in a call that fails, and in no other.
     fn put(&mut self, piece: &[u8]) -> Put
         ensures all { result ≡ Put.All → Appends (written self.old) (written self.new) piece.now }
         ensures prefix { AppendsPrefix (written self.old) (written self.new) piece.now }
         ensures failed { result ≡ Put.Failed → HasRisen (faults self.old) (faults self.new) }
+        ensures once { result ≡ Put.Failed → HasRisenByOne (faults self.old) (faults self.new) }
         ensures steady { result ≡ Put.All → faults self.new ≡ faults self.old }
         ensures later { faults self.old ≤ faults self.new };
+
+    /// The count is never past 2^64 - 1.
+    ghost bounded: { (sink : Self) → IsKept (faults sink) };
 }
 
 /// A sink in memory, which tells its bytes. A growth that finds no memory is a fault, and so is each put that fails by its
@@ -79,6 +83,7 @@ impl MemorySink {
         ensures planned { result ≡ fails_next (plan_of self.old) }
         ensures changed { self.new ≡ record self.old { puts = next_put (plan_of self.old); faults = self.new.faults } }
         ensures failed { result ≡ true → HasRisen self.old.faults self.new.faults }
+        ensures once { result ≡ true → HasRisenByOne self.old.faults self.new.faults }
         ensures steady { result ≡ false → self.new.faults ≡ self.old.faults }
         ensures later { self.old.faults ≤ self.new.faults }
     {
@@ -114,9 +119,13 @@ fn front_of(piece: &[u8], keep: u64) -> &[u8]
 }
 
 impl Sink for MemorySink {
+    ghost use Rattle.std.proofs.Common.{arith};
+
     ghost written = { λ sink. Some (written_in sink) };
 
     ghost faults = { faults_in };
+
+    ghost bounded = { λ sink. Prim.omega arith };
 
     fn put(&mut self, piece: &[u8]) -> Put
         ensures answer { IsPut (plan_of self.old) (written_in self.old) (written_in self.new) piece.now result }
@@ -124,6 +133,7 @@ impl Sink for MemorySink {
         ensures all { result ≡ Put.All → written_in self.new ≡ written_in self.old ++ piece.now }
         ensures prefix { AppendsPrefix (Some (written_in self.old)) (Some (written_in self.new)) piece.now }
         ensures failed { result ≡ Put.Failed → HasRisen (faults_in self.old) (faults_in self.new) }
+        ensures once { result ≡ Put.Failed → HasRisenByOne (faults_in self.old) (faults_in self.new) }
         ensures steady { result ≡ Put.All → faults_in self.new ≡ faults_in self.old }
         ensures later { faults_in self.old ≤ faults_in self.new }
     {
@@ -166,9 +176,13 @@ impl<W: Write> StreamSink<W> {
 }
 
 impl<W: Write> Sink for StreamSink<W> {
+    ghost use Rattle.std.proofs.Common.{arith};
+
     ghost written = { λ sink. W.contents sink.writer };
 
-    ghost faults = { λ sink. sink.faults };
+    ghost faults = { λ sink. kept sink.faults };
+
+    ghost bounded = { λ sink. Prim.omega arith };
 
     fn put(&mut self, piece: &[u8]) -> Put {
         let mut taken = 0;

@@ -1,6 +1,7 @@
 -- A disk in memory as contracts see it.
 use Rattle.std.specs.Prelude.{◌≡◌, ℕ, ◌+◌, ◌-◌, ◌^◌, min, Bool, false, ◌==◌, ◌||◌, nat_le, List, [], Option, None, Some}
 use Rattle.std.specs.List.{list_any}
+use Rattle.cf_base.specs.Count.{kept}
 use Rattle.reel_disk.specs.declared.memory.MemoryDisk.{MemoryDisk}
 use Rattle.reel_disk.specs.Disk.{History}
 use Rattle.reel_disk.specs.Memory.{history_of}
@@ -9,7 +10,7 @@ abbrev pub history_in : MemoryDisk → History
 history_in d = history_of d.store
 
 abbrev pub faults_in : MemoryDisk → ℕ
-faults_in d = d.faults
+faults_in d = kept d.faults
 
 -- The numbers of the calls that fail, and the call from which on each one fails. The first call has the number 1.
 pub record Script : Type 0 where

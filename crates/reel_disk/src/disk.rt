@@ -1,6 +1,6 @@
 //! A disk as the layers above see it: what a read answers, what a crash may still change, and each moment so far.
 ghost use Rattle.std.specs.Prelude.{◌≡◌, ◌≢◌, ℕ, ◌+◌, ◌≤◌, Bool, true, length};
-ghost use Rattle.cf_base.specs.Count.{HasCause};
+ghost use Rattle.cf_base.specs.Count.{HasCause, HasRisenByOne, IsKept};
 ghost use Rattle.reel_disk.specs.Disk.{History, view_of, HasLength, HasRead, IsStill, IsWithin, HasWrittenWhole, HasWrittenAt, HasSynced, IsInFile};
 
 use cf_base::FileId;
@@ -52,8 +52,8 @@ pub enum Did {
 /// The files of one reel folder, which a crash may catch at any moment.
 ///
 /// A write leaves its place loose: until a sync of that file a crash may change it. Each call may fail, and says so by
-/// its count of faults, which rises in a call that fails and in no other. A disk need not be `Drop`: who takes one hands
-/// it back.
+/// its count of faults, which rises by one in a call that fails, and in no other. A disk need not be `Drop`: who takes
+/// one hands it back.
 pub trait Disk {
     /// Whether disks of this type tell what they hold.
     ghost tells: { Bool };
@@ -61,7 +61,7 @@ pub trait Disk {
     /// Each moment until now: what a read answered then, and what was loose. It counts where `tells` is true.
     ghost history: { Self → History };
 
-    /// How often the disk has failed. The count never falls, and stands still at 2^64 - 1.
+    /// How often the disk has failed. The count never falls, and stays at 2^64 - 1 once it is there.
     ghost faults: { Self → ℕ };
 
     /// A disk that is lent stays the same loan in each call. It holds of any two disks that are not lent.
@@ -73,6 +73,7 @@ pub trait Disk {
         ensures time { tells ≡ true → IsStill (history self.old) (history self.new) }
         ensures same { same self.old self.new }
         ensures cause { HasCause (faults self.old) (faults self.new) (result ≡ Length.Failed) }
+        ensures once { result ≡ Length.Failed → HasRisenByOne (faults self.old) (faults self.new) }
         ensures steady { result ≢ Length.Failed → faults self.new ≡ faults self.old };
 
     /// Reads a file from byte `start` on, as much as it has there and `into` takes: `Bytes(n)` says how many bytes.
@@ -83,6 +84,7 @@ pub trait Disk {
         ensures time { tells ≡ true → IsStill (history self.old) (history self.new) }
         ensures same { same self.old self.new }
         ensures cause { HasCause (faults self.old) (faults self.new) (result ≡ Got.Failed) }
+        ensures once { result ≡ Got.Failed → HasRisenByOne (faults self.old) (faults self.new) }
         ensures steady { result ≢ Got.Failed → faults self.new ≡ faults self.old };
 
     /// Gives a file these bytes and no others. Until a sync of the file, a crash may leave anything there.
@@ -90,6 +92,7 @@ pub trait Disk {
         ensures told { tells ≡ true → HasWrittenWhole (history self.old) (history self.new) id bytes.now result }
         ensures same { same self.old self.new }
         ensures cause { HasCause (faults self.old) (faults self.new) (result ≡ Did.Failed) }
+        ensures once { result ≡ Did.Failed → HasRisenByOne (faults self.old) (faults self.new) }
         ensures steady { result ≡ Did.Done → faults self.new ≡ faults self.old };
 
     /// Writes over a part of a file that is there, from byte `start` on. Until a sync of the file, a crash may leave any
@@ -99,6 +102,7 @@ pub trait Disk {
         ensures told { tells ≡ true → HasWrittenAt (history self.old) (history self.new) id start bytes.now result }
         ensures same { same self.old self.new }
         ensures cause { HasCause (faults self.old) (faults self.new) (result ≡ Did.Failed) }
+        ensures once { result ≡ Did.Failed → HasRisenByOne (faults self.old) (faults self.new) }
         ensures steady { result ≡ Did.Done → faults self.new ≡ faults self.old };
 
     /// After it a crash leaves the file, or its absence, as a read answers it.
@@ -106,11 +110,15 @@ pub trait Disk {
         ensures told { tells ≡ true → HasSynced (history self.old) (history self.new) id result }
         ensures same { same self.old self.new }
         ensures cause { HasCause (faults self.old) (faults self.new) (result ≡ Did.Failed) }
+        ensures once { result ≡ Did.Failed → HasRisenByOne (faults self.old) (faults self.new) }
         ensures steady { result ≡ Did.Done → faults self.new ≡ faults self.old };
 
     ghost same_itself: { (d : Self) → same d d };
 
     ghost same_along: { (a b c : Self) → same a b → same b c → same a c };
+
+    /// The count is never past 2^64 - 1.
+    ghost bounded: { (d : Self) → IsKept (faults d) };
 }
 
 /// A disk that is lent: the calls of the lender are those of the disk.
@@ -128,6 +136,8 @@ impl<D: Disk> Disk for &mut D {
     ghost same_itself = { λ d. (refl, refl) };
 
     ghost same_along = { λ a b c first second. (second.0 ∙ first.0, second.1 ∙ first.1) };
+
+    ghost bounded = { λ d. D.bounded d.now };
 
     fn length(&mut self, id: FileId) -> Length {
         Disk::length(&mut **self, id)

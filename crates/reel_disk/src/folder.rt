@@ -1,6 +1,6 @@
 //! The folder of a real file system.
 ghost use Rattle.std.specs.Prelude.{◌≡◌, ◌≤◌, length, false, IfOk, ⊤};
-ghost use Rattle.cf_base.specs.Count.{HasCause};
+ghost use Rattle.cf_base.specs.Count.{HasCause, HasRisenByOne, kept};
 
 use crate::names::{LONGEST_NAME, name_of};
 use crate::{Did, Disk, Got, Length};
@@ -198,13 +198,15 @@ impl<R: Files + Drop> FolderDisk<R> {
 
     /// Counts a fault.
     fn fault(&mut self)
-        ensures { HasCause self.old.faults self.new.faults ⊤ }
+        ensures cause { HasCause self.old.faults self.new.faults ⊤ }
+        ensures once { HasRisenByOne self.old.faults self.new.faults }
     {
         self.faults = self.faults.saturating_add(1);
     }
 
     fn done(&mut self, outcome: io::Result<()>) -> Did
         ensures cause { HasCause self.old.faults self.new.faults (result ≡ Did.Failed) }
+        ensures once { result ≡ Did.Failed → HasRisenByOne self.old.faults self.new.faults }
         ensures steady { result ≡ Did.Done → self.new.faults ≡ self.old.faults }
     {
         match outcome {
@@ -219,18 +221,21 @@ impl<R: Files + Drop> FolderDisk<R> {
 
 impl<R: Files + Drop> Disk for FolderDisk<R> {
     ghost use Rattle.std.specs.Prelude.{false, None, []};
+    ghost use Rattle.std.proofs.Common.{arith};
 
     ghost tells = { false };
 
     ghost history = { λ d. record { now = 0; past = λ m. record { view = λ id. None; loose = [] } } };
 
-    ghost faults = { λ d. d.faults };
+    ghost faults = { λ d. kept d.faults };
 
     ghost same = { λ a b. Unit {0} };
 
     ghost same_itself = { λ a. tt };
 
     ghost same_along = { λ a b c first second. tt };
+
+    ghost bounded = { λ _. Prim.omega arith };
 
     fn length(&mut self, id: FileId) -> Length {
         match self.size(id) {

@@ -1,6 +1,6 @@
 //! A disk in memory, whose calls fail by number.
 ghost use Rattle.std.specs.Prelude.{◌≡◌, ◌≢◌, ◌↔◌, ℕ, true, false, length, OnOk, IfOk, ⊤};
-ghost use Rattle.cf_base.specs.Count.{HasCause};
+ghost use Rattle.cf_base.specs.Count.{HasCause, HasRisenByOne};
 ghost use Rattle.cf_base.specs.declared.file.FileId.{FileId};
 ghost use Rattle.reel_disk.specs.Crash.{IsCrash};
 ghost use Rattle.reel_disk.specs.Disk.{History, view_of, moment_of, HasLength, HasRead, IsStill, IsWithin, HasWrittenWhole, HasWrittenAt, HasSynced, IsInFile, IsImage, IsNewDisk};
@@ -115,6 +115,7 @@ impl MemoryDisk {
         ensures next { IsNextCall self.old self.new }
         ensures store { self.new.store ≡ self.old.store }
         ensures cause { HasCause self.old.faults self.new.faults (result ≡ true) }
+        ensures once { result ≡ true → HasRisenByOne self.old.faults self.new.faults }
         ensures steady { result ≡ false → self.new.faults ≡ self.old.faults }
     {
         self.calls = self.calls.saturating_add(1);
@@ -130,6 +131,7 @@ impl MemoryDisk {
         ensures calls { self.new.calls ≡ self.old.calls }
         ensures script { script_in self.new ≡ script_in self.old }
         ensures cause { HasCause self.old.faults self.new.faults ⊤ }
+        ensures once { HasRisenByOne self.old.faults self.new.faults }
     {
         self.faults = self.faults.saturating_add(1);
     }
@@ -138,6 +140,7 @@ impl MemoryDisk {
 impl Disk for MemoryDisk {
     ghost use Rattle.std.specs.Prelude.{true};
     ghost use Rattle.reel_disk.specs.MemoryDisk.{history_in, faults_in};
+    ghost use Rattle.std.proofs.Common.{arith};
 
     ghost tells = { true };
 
@@ -151,10 +154,13 @@ impl Disk for MemoryDisk {
 
     ghost same_along = { λ a b c first second. tt };
 
+    ghost bounded = { λ _. Prim.omega arith };
+
     fn length(&mut self, id: FileId) -> Length
         ensures answer { HasLength (view_of (history_in self.old) id) result }
         ensures time { IsStill (history_in self.old) (history_in self.new) }
         ensures cause { HasCause (faults_in self.old) (faults_in self.new) (result ≡ Length.Failed) }
+        ensures once { result ≡ Length.Failed → HasRisenByOne (faults_in self.old) (faults_in self.new) }
         ensures steady { result ≢ Length.Failed → faults_in self.new ≡ faults_in self.old }
         ensures next { IsNextCall self.old self.new }
         ensures fails { (result ≡ Length.Failed) ↔ (fails_at (script_in self.old) (next_call self.old) ≡ true) }
@@ -173,6 +179,7 @@ impl Disk for MemoryDisk {
         ensures answer { HasRead (view_of (history_in self.old) id) start into.new result }
         ensures time { IsStill (history_in self.old) (history_in self.new) }
         ensures cause { HasCause (faults_in self.old) (faults_in self.new) (result ≡ Got.Failed) }
+        ensures once { result ≡ Got.Failed → HasRisenByOne (faults_in self.old) (faults_in self.new) }
         ensures steady { result ≢ Got.Failed → faults_in self.new ≡ faults_in self.old }
         ensures next { IsNextCall self.old self.new }
         ensures fails { (result ≡ Got.Failed) ↔ (fails_at (script_in self.old) (next_call self.old) ≡ true) }
@@ -189,6 +196,7 @@ impl Disk for MemoryDisk {
     fn write_whole(&mut self, id: FileId, bytes: &[u8]) -> Did
         ensures told { HasWrittenWhole (history_in self.old) (history_in self.new) id bytes.now result }
         ensures cause { HasCause (faults_in self.old) (faults_in self.new) (result ≡ Did.Failed) }
+        ensures once { result ≡ Did.Failed → HasRisenByOne (faults_in self.old) (faults_in self.new) }
         ensures steady { result ≡ Did.Done → faults_in self.new ≡ faults_in self.old }
         ensures next { IsNextCall self.old self.new }
         ensures fails { fails_at (script_in self.old) (next_call self.old) ≡ true → result ≡ Did.Failed }
@@ -211,6 +219,7 @@ impl Disk for MemoryDisk {
         requires { IsInFile (view_of (history_in self.old) id) start (length bytes.now) }
         ensures told { HasWrittenAt (history_in self.old) (history_in self.new) id start bytes.now result }
         ensures cause { HasCause (faults_in self.old) (faults_in self.new) (result ≡ Did.Failed) }
+        ensures once { result ≡ Did.Failed → HasRisenByOne (faults_in self.old) (faults_in self.new) }
         ensures steady { result ≡ Did.Done → faults_in self.new ≡ faults_in self.old }
         ensures next { IsNextCall self.old self.new }
         ensures fails { fails_at (script_in self.old) (next_call self.old) ≡ true → result ≡ Did.Failed }
@@ -233,6 +242,7 @@ impl Disk for MemoryDisk {
     fn sync(&mut self, id: FileId) -> Did
         ensures told { HasSynced (history_in self.old) (history_in self.new) id result }
         ensures cause { HasCause (faults_in self.old) (faults_in self.new) (result ≡ Did.Failed) }
+        ensures once { result ≡ Did.Failed → HasRisenByOne (faults_in self.old) (faults_in self.new) }
         ensures steady { result ≡ Did.Done → faults_in self.new ≡ faults_in self.old }
         ensures next { IsNextCall self.old self.new }
         ensures fails { fails_at (script_in self.old) (next_call self.old) ≡ true → result ≡ Did.Failed }

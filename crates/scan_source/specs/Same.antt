@@ -3,6 +3,7 @@
 --     next_same path same      what there is after a call on that path
 --     faults_in scan      how often it has failed
 use Rattle.std.specs.Prelude.{◌≡◌, ℕ, List, Option, None, Some, MatchOption}
+use Rattle.cf_base.specs.Count.{kept}
 use Rattle.scan_source.specs.declared.same.SameScans.{SameScans}
 use Rattle.scan_source.specs.declared.scans.Loaded.{Loaded}
 use Rattle.scan_source.specs.declared.scans.Loaded.TheVariants.{Absent}
@@ -45,4 +46,4 @@ next_same path same = record same { texts = counted (file_at same.texts.files pa
 
 -- the scan of the texts alone may fail
 abbrev pub faults_in : SameScans → ℕ
-faults_in scan = scan.texts.faults
+faults_in scan = kept scan.texts.faults

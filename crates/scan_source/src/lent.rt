@@ -30,4 +30,6 @@ impl<S: Scans> Scans for &mut S {
     ghost same_refl = { λ _. (refl, refl) };
 
     ghost same_trans = { λ _ _ _ first then. (then.0 ∙ first.0, then.1 ∙ first.1) };
+
+    ghost bounded = { λ scan. S.bounded scan.now };
 }

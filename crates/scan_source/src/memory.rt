@@ -1,6 +1,6 @@
 //! Source files in memory.
 ghost use Rattle.std.specs.Prelude.{◌≡◌, ◌≤◌, ◌↔◌, Some, None, IsTrue, IsFalse, MatchOption, Contains, is_some, map, refl};
-ghost use Rattle.cf_base.specs.Count.{HasRisen};
+ghost use Rattle.cf_base.specs.Count.{HasRisen, HasRisenByOne, kept};
 ghost use Rattle.scan_source.specs.Memory.{memory_of};
 ghost use Rattle.scan_source.specs.Plan.{one_more};
 ghost use Rattle.scan_source.specs.World.{world_of, file_at};
@@ -51,6 +51,7 @@ impl MemoryScans {
         ensures planned { IsTrue result ↔ Contains self.old.fails.items (one_more self.old.calls) }
         ensures changed { self.new ≡ record self.old { calls = one_more self.old.calls; faults = self.new.faults } }
         ensures failed { IsTrue result → HasRisen self.old.faults self.new.faults }
+        ensures once { IsTrue result → HasRisenByOne self.old.faults self.new.faults }
         ensures steady { IsFalse result → self.new.faults ≡ self.old.faults }
         ensures later { self.old.faults ≤ self.new.faults }
     {
@@ -78,13 +79,15 @@ fn bytes_at<'a>(files: &'a [(PathText, Vec<u8>)], path: &PathText) -> Option<&'a
 }
 
 impl Scans for MemoryScans {
+    ghost use Rattle.std.proofs.Common.{arith};
+
     ghost world = { λ scan. Some (world_of (map (λ f. (f.0, f.1.items)) scan.files.items)) };
 
-    ghost faults = { λ scan. scan.faults };
+    ghost faults = { λ scan. kept scan.faults };
 
-    ghost loads = { λ scan. scan.loads };
+    ghost loads = { λ scan. kept scan.loads };
 
-    ghost heads = { λ scan. scan.heads };
+    ghost heads = { λ scan. kept scan.heads };
 
     ghost plan = { λ scan. Some (record { calls = scan.calls; fails = scan.fails.items }) };
 
@@ -122,4 +125,6 @@ impl Scans for MemoryScans {
     ghost same_refl = { λ _. tt };
 
     ghost same_trans = { λ _ _ _ _ _. tt };
+
+    ghost bounded = { λ _. (Prim.omega arith, Prim.omega arith, Prim.omega arith) };
 }

@@ -1,6 +1,6 @@
 //! Texts in memory, and one head for all other files.
 ghost use Rattle.std.specs.Prelude.{◌≡◌, ◌≢◌, ◌≤◌, None, is_some, refl};
-ghost use Rattle.cf_base.specs.Count.{HasRisen};
+ghost use Rattle.cf_base.specs.Count.{HasRisen, HasRisenByOne, kept};
 ghost use Rattle.scan_source.specs.Answers.{Fills};
 ghost use Rattle.scan_source.specs.Memory.{memory_of};
 ghost use Rattle.scan_source.specs.Plan.{one_more};
@@ -43,13 +43,15 @@ impl SameScans {
 }
 
 impl Scans for SameScans {
+    ghost use Rattle.std.proofs.Common.{arith};
+
     ghost world = { λ _. None };
 
     ghost faults = { faults_in };
 
-    ghost loads = { λ scan. scan.loads };
+    ghost loads = { λ scan. kept scan.loads };
 
-    ghost heads = { λ scan. scan.heads };
+    ghost heads = { λ scan. kept scan.heads };
 
     fn load(&mut self, path: &PathText, most: u64, into: &mut Vec<u8>) -> Loaded
         ensures answer { HasLoadedSame (same_of self.old) path.now most result into.new.items }
@@ -57,6 +59,7 @@ impl Scans for SameScans {
         ensures fills { Fills result most into.new.items }
 
         ensures failed { result ≡ Loaded.Failed → HasRisen (faults_in self.old) (faults_in self.new) }
+        ensures once { result ≡ Loaded.Failed → HasRisenByOne (faults_in self.old) (faults_in self.new) }
         ensures steady { result ≢ Loaded.Failed → faults_in self.new ≡ faults_in self.old }
         ensures later { faults_in self.old ≤ faults_in self.new }
 
@@ -76,6 +79,7 @@ impl Scans for SameScans {
         ensures next { same_of self.new ≡ next_same path.now (same_of self.old) }
 
         ensures failed { result ≡ Head.Failed → HasRisen (faults_in self.old) (faults_in self.new) }
+        ensures once { result ≡ Head.Failed → HasRisenByOne (faults_in self.old) (faults_in self.new) }
         ensures steady { result ≢ Head.Failed → faults_in self.new ≡ faults_in self.old }
         ensures later { faults_in self.old ≤ faults_in self.new }
 
@@ -93,4 +97,6 @@ impl Scans for SameScans {
     ghost same_refl = { λ _. tt };
 
     ghost same_trans = { λ _ _ _ _ _. tt };
+
+    ghost bounded = { λ _. (Prim.omega arith, Prim.omega arith, Prim.omega arith) };
 }

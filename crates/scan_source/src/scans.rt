@@ -1,6 +1,6 @@
 //! What reads source files.
 ghost use Rattle.std.specs.Prelude.{◌≡◌, ◌≢◌, ◌≤◌, ℕ, Option, None, IfSome, MatchOption};
-ghost use Rattle.cf_base.specs.Count.{HasRisen};
+ghost use Rattle.cf_base.specs.Count.{HasRisen, HasRisenByOne, IsKept};
 ghost use Rattle.scan_source.specs.Answers.{IsLoaded, Fills, IsHead};
 ghost use Rattle.scan_source.specs.Plan.{Plan, FollowsPlan, one_more};
 ghost use Rattle.scan_source.specs.World.{World, file_at};
@@ -31,7 +31,7 @@ pub enum Head {
     Failed,
 }
 
-/// Reads source files by path. What a call fails at is counted, so that a failure always has its cause. All counts
+/// Reads source files by path. Each call that fails is counted, once, so that a failure always has its cause. All counts
 /// stay at 2^64 - 1 once they are there.
 pub trait Scans: Drop {
     /// The files by path, where the scan tells them. No call changes them.
@@ -59,6 +59,7 @@ pub trait Scans: Drop {
         ensures fills { Fills result most into.new.items }
 
         ensures failed { result ≡ Loaded.Failed → HasRisen (faults self.old) (faults self.new) }
+        ensures once { result ≡ Loaded.Failed → HasRisenByOne (faults self.old) (faults self.new) }
         ensures steady { result ≢ Loaded.Failed → faults self.new ≡ faults self.old }
         ensures later { faults self.old ≤ faults self.new }
         ensures plan { MatchOption (plan self.old) (plan self.new ≡ None) (λ p. FollowsPlan p (plan self.new) (result ≡ Loaded.Failed)) }
@@ -74,6 +75,7 @@ pub trait Scans: Drop {
         ensures told { IfSome (world self.old) (λ files. IsHead result (file_at files path.now) into.new) }
 
         ensures failed { result ≡ Head.Failed → HasRisen (faults self.old) (faults self.new) }
+        ensures once { result ≡ Head.Failed → HasRisenByOne (faults self.old) (faults self.new) }
         ensures steady { result ≢ Head.Failed → faults self.new ≡ faults self.old }
         ensures later { faults self.old ≤ faults self.new }
         ensures plan { MatchOption (plan self.old) (plan self.new ≡ None) (λ p. FollowsPlan p (plan self.new) (result ≡ Head.Failed)) }
@@ -88,4 +90,7 @@ pub trait Scans: Drop {
 
     /// What stays the same loan at two calls does so over both.
     ghost same_trans: { (before between after : Self) → same before between → same between after → same before after };
+
+    /// No count is ever past 2^64 - 1.
+    ghost bounded: { (scan : Self) → IsKept (faults scan) × IsKept (loads scan) × IsKept (heads scan) };
 }

@@ -1,5 +1,6 @@
 //! Source files of the file system.
 ghost use Rattle.std.specs.Prelude.{◌≡◌, ◌≤◌, [], None, IfOk, IfSome, length, min, vec_len, refl};
+ghost use Rattle.cf_base.specs.Count.{kept};
 
 use crate::{Head, Loaded, Scans};
 use cf_base::{PathText, fill};
@@ -40,13 +41,15 @@ impl<R: Files + Drop> FileScans<R> {
 }
 
 impl<R: Files + Drop> Scans for FileScans<R> {
+    ghost use Rattle.std.proofs.Common.{arith};
+
     ghost world = { λ _. None };
 
-    ghost faults = { λ scan. scan.faults };
+    ghost faults = { λ scan. kept scan.faults };
 
-    ghost loads = { λ scan. scan.loads };
+    ghost loads = { λ scan. kept scan.loads };
 
-    ghost heads = { λ scan. scan.heads };
+    ghost heads = { λ scan. kept scan.heads };
 
     fn load(&mut self, path: &PathText, most: u64, into: &mut Vec<u8>) -> Loaded {
         self.loads = self.loads.saturating_add(1);
@@ -80,6 +83,8 @@ impl<R: Files + Drop> Scans for FileScans<R> {
     ghost same_refl = { λ _. tt };
 
     ghost same_trans = { λ _ _ _ _ _. tt };
+
+    ghost bounded = { λ _. (Prim.omega arith, Prim.omega arith, Prim.omega arith) };
 }
 
 /// Why a file wasn't read.

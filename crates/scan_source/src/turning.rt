@@ -1,6 +1,6 @@
 //! Source files in memory that change between two calls.
 ghost use Rattle.std.specs.Prelude.{◌≡◌, ◌≢◌, ◌≤◌, None, IsTrue, refl};
-ghost use Rattle.cf_base.specs.Count.{HasRisen};
+ghost use Rattle.cf_base.specs.Count.{HasRisen, HasRisenByOne, kept};
 ghost use Rattle.scan_source.specs.Answers.{Fills};
 ghost use Rattle.scan_source.specs.Memory.{memory_of, HasLoaded, HasLooked};
 ghost use Rattle.scan_source.specs.Plan.{one_more};
@@ -54,13 +54,15 @@ impl TurningScans {
 }
 
 impl Scans for TurningScans {
+    ghost use Rattle.std.proofs.Common.{arith};
+
     ghost world = { λ _. None };
 
     ghost faults = { faults_in };
 
-    ghost loads = { λ scan. scan.loads };
+    ghost loads = { λ scan. kept scan.loads };
 
-    ghost heads = { λ scan. scan.heads };
+    ghost heads = { λ scan. kept scan.heads };
 
     fn load(&mut self, path: &PathText, most: u64, into: &mut Vec<u8>) -> Loaded
         ensures answer { HasLoaded (serving (turning_of self.old)) path.now most result into.new.items }
@@ -68,6 +70,7 @@ impl Scans for TurningScans {
         ensures fills { Fills result most into.new.items }
 
         ensures failed { result ≡ Loaded.Failed → HasRisen (faults_in self.old) (faults_in self.new) }
+        ensures once { result ≡ Loaded.Failed → HasRisenByOne (faults_in self.old) (faults_in self.new) }
         ensures steady { result ≢ Loaded.Failed → faults_in self.new ≡ faults_in self.old }
         ensures later { faults_in self.old ≤ faults_in self.new }
 
@@ -87,6 +90,7 @@ impl Scans for TurningScans {
         ensures next { turning_of self.new ≡ next_turning (turning_of self.old) }
 
         ensures failed { result ≡ Head.Failed → HasRisen (faults_in self.old) (faults_in self.new) }
+        ensures once { result ≡ Head.Failed → HasRisenByOne (faults_in self.old) (faults_in self.new) }
         ensures steady { result ≢ Head.Failed → faults_in self.new ≡ faults_in self.old }
         ensures later { faults_in self.old ≤ faults_in self.new }
 
@@ -104,4 +108,6 @@ impl Scans for TurningScans {
     ghost same_refl = { λ _. tt };
 
     ghost same_trans = { λ _ _ _ _ _. tt };
+
+    ghost bounded = { λ _. (Prim.omega arith, Prim.omega arith, Prim.omega arith) };
 }
