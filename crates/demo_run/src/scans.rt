@@ -28,6 +28,8 @@ impl UnfailingScans {
 }
 
 impl Scans for UnfailingScans {
+    ghost use Rattle.std.proofs.Common.{arith};
+
     ghost world = { λ s. ⟦<MemoryScans as Scans>⟧.world s.scans };
 
     ghost faults = { λ _. 0 };
@@ -49,4 +51,6 @@ impl Scans for UnfailingScans {
     ghost same_refl = { λ _. tt };
 
     ghost same_trans = { λ _ _ _ _ _. tt };
+
+    ghost bounded = { λ _. (Prim.omega arith, Prim.omega arith, Prim.omega arith) };
 }
