@@ -229,6 +229,8 @@ struct Recording {
 }
 
 impl Scans for Recording {
+    ghost use Rattle.std.proofs.Common.{arith};
+
     ghost world = { λ scan. ⟦<MemoryScans as Scans>⟧.world scan.files };
 
     ghost faults = { λ scan. ⟦<MemoryScans as Scans>⟧.faults scan.files };
@@ -242,6 +244,8 @@ impl Scans for Recording {
     ghost same_refl = { λ scan. tt };
 
     ghost same_trans = { λ before between after one other. tt };
+
+    ghost bounded = { λ _. (Prim.omega arith, Prim.omega arith, Prim.omega arith) };
 
     fn load(&mut self, path: &PathText, most: u64, into: &mut Vec<u8>) -> Loaded {
         self.most = most;

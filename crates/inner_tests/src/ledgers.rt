@@ -186,6 +186,8 @@ impl<D: Disk + Drop> Disk for Short<D> {
 
     ghost same_along = { λ a b c first second. D.same_along a.disk b.disk c.disk first second };
 
+    ghost bounded = { λ d. D.bounded d.disk };
+
     fn length(&mut self, id: FileId) -> Length {
         self.disk.length(id)
     }

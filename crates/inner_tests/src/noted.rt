@@ -32,6 +32,8 @@ impl<D: Disk + Drop> Disk for Noted<D> {
 
     ghost same_along = { λ a b c first second. D.same_along a.disk b.disk c.disk first second };
 
+    ghost bounded = { λ d. D.bounded d.disk };
+
     fn length(&mut self, id: FileId) -> Length {
         let _ = self.calls.push(Call::Length(id));
         self.disk.length(id)

@@ -12,10 +12,10 @@ use std::alloc::Global;
 use std::marker::Brand;
 use std::sync::atomic::{AtomicU64, Ordering};
 use std::sync::{Arc, Wait};
-use std::thread::Threads;
+use std::thread::{self, Threads};
 
-/// How often a load looks whether what it waits for has come.
-const TURNS: u64 = 400_000_000;
+/// How many turns a load waits for what is to come.
+const TURNS: u64 = 1_000_000;
 
 const FIRST: u32 = 86_400;
 
@@ -61,6 +61,7 @@ impl Seen {
             if self.has_come(reel, number) {
                 return true;
             }
+            thread::yield_now();
         }
         false
     }
@@ -116,14 +117,16 @@ impl HeldScans {
 
 impl Scans for HeldScans {
     ghost use Rattle.std.specs.Prelude.{None};
+    ghost use Rattle.std.proofs.Common.{arith};
+    ghost use Rattle.cf_base.specs.Count.{kept};
 
     ghost world = { λ _. None };
 
-    ghost faults = { λ scan. scan.faults };
+    ghost faults = { λ scan. kept scan.faults };
 
-    ghost loads = { λ scan. scan.loads };
+    ghost loads = { λ scan. kept scan.loads };
 
-    ghost heads = { λ scan. scan.heads };
+    ghost heads = { λ scan. kept scan.heads };
 
     fn load(&mut self, path: &PathText, most: u64, into: &mut Vec<u8>) -> Loaded {
         into.clear();
@@ -155,6 +158,8 @@ impl Scans for HeldScans {
     ghost same_refl = { λ _. tt };
 
     ghost same_trans = { λ _ _ _ _ _. tt };
+
+    ghost bounded = { λ _. (Prim.omega arith, Prim.omega arith, Prim.omega arith) };
 }
 
 /// A disk that tells the scans when the first and the last frame are written.
@@ -176,6 +181,8 @@ impl<D: Disk + Drop> Disk for WatchedDisk<D> {
     ghost same_itself = { λ a. D.same_itself a.disk };
 
     ghost same_along = { λ a b c first second. D.same_along a.disk b.disk c.disk first second };
+
+    ghost bounded = { λ d. D.bounded d.disk };
 
     fn length(&mut self, id: FileId) -> Length {
         self.disk.length(id)

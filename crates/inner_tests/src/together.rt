@@ -82,14 +82,16 @@ impl CountedScans {
 
 impl Scans for CountedScans {
     ghost use Rattle.std.specs.Prelude.{None};
+    ghost use Rattle.std.proofs.Common.{arith};
+    ghost use Rattle.cf_base.specs.Count.{kept};
 
     ghost world = { λ _. None };
 
-    ghost faults = { λ scan. scan.faults };
+    ghost faults = { λ scan. kept scan.faults };
 
-    ghost loads = { λ scan. scan.loads };
+    ghost loads = { λ scan. kept scan.loads };
 
-    ghost heads = { λ scan. scan.heads };
+    ghost heads = { λ scan. kept scan.heads };
 
     fn load(&mut self, path: &PathText, most: u64, into: &mut Vec<u8>) -> Loaded {
         into.clear();
@@ -121,4 +123,6 @@ impl Scans for CountedScans {
     ghost same_refl = { λ _. tt };
 
     ghost same_trans = { λ _ _ _ _ _. tt };
+
+    ghost bounded = { λ _. (Prim.omega arith, Prim.omega arith, Prim.omega arith) };
 }
