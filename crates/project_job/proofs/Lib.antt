@@ -1,3 +1,4 @@
 mod Counted
 pub mod Laws
+pub mod Loading
 pub mod Projects

@@ -11,6 +11,7 @@ ghost use Rattle.conform_job.specs.Answers.{count_after, Grows, HeadsGrow};
 ghost use Rattle.conform_job.specs.Asks.{asks_of};
 ghost use Rattle.conform_job.specs.Infos.{HasEachOnce};
 ghost use Rattle.conform_job.specs.Job.{ArePlanned, JobData};
+ghost use Rattle.project_job.specs.Asked.{ComesBehind, HasInspectedFor, HasLoadedBehind, HasLoadedFor};
 ghost use Rattle.project_job.specs.Jobs.{list_in, cube_in, look_in, look_of_text, parts_of, itself, list_and_text, look_and_text, outcome_of_fault, Reaches, HasPlanned, MeansFile, unless_refused, IsOfJob, cube_count, AreCounted, AreLoaded};
 ghost use Rattle.outcome_line.specs.declared.outcome.Refused.TheVariants as refused;
 
@@ -70,6 +71,8 @@ pub fn planned<S: Scans>(alloc: Global, path: &PathText, scan: &mut S) -> Result
     ensures steady { result ≢ Err Outcome.SourceFault → S.faults scan.new ≡ S.faults scan.old }
     ensures later { S.faults scan.old ≤ S.faults scan.new }
     ensures loads { AreLoaded 1 3 (S.loads scan.old) (S.loads scan.new) }
+    ensures refused { IfErr result (HasLoadedFor (S.world scan.old) path.now (S.loads scan.old) (S.loads scan.new)) }
+    ensures refused_heads { IfErr result (HasInspectedFor (S.world scan.old) path.now (S.heads scan.old) (S.heads scan.new)) }
     ensures loaded { IfOk result (λ job. S.loads scan.new ≡ count_after (2 + cube_count job.parts.project.cube) (S.loads scan.old)) }
     ensures world { S.world scan.new ≡ S.world scan.old }
     ensures same { S.same scan.old scan.new }
@@ -107,6 +110,7 @@ fn project_in<S: Scans>(
 ) -> Result<ProjectText, Outcome>
     ensures told { IfSome (S.world scan.old) (λ world. MeansFile (file_at world path.now) result) }
     ensures kind { IfErr result IsOfJob }
+    ensures stage { IfErr result (ComesBehind 1) }
     ensures range { IfOk result (λ read. IsInRange read.project) }
     ensures counted { IfOk result (λ read. AreCounted read.project.rate read.project.reels) }
 
@@ -149,6 +153,7 @@ fn parts_of<S: Scans>(
     ensures steady { result ≢ Err Outcome.SourceFault → S.faults scan.new ≡ S.faults scan.old }
     ensures later { S.faults scan.old ≤ S.faults scan.new }
     ensures loads { AreLoaded 0 2 (S.loads scan.old) (S.loads scan.new) }
+    ensures refused { IfErr result (HasLoadedBehind project.cube (S.loads scan.old) (S.loads scan.new)) }
     ensures loaded { IfOk result (λ parts. S.loads scan.new ≡ count_after (1 + cube_count parts.project.cube) (S.loads scan.old)) }
     ensures heads { S.heads scan.new ≡ S.heads scan.old }
     ensures world { S.world scan.new ≡ S.world scan.old }
@@ -185,6 +190,7 @@ fn reels_of(alloc: Global, project: &Project) -> Result<ReelTable, Outcome>
     ensures table { Reaches itself result (unless_refused refused.Reels (table_of project.now.reels)) }
     ensures entries { IfOk result (λ table. table ≡ project.now.reels) }
     ensures kind { IfErr result IsOfJob }
+    ensures stage { IfErr result (ComesBehind 1) }
     ensures not_the_scan { result ≢ Err Outcome.SourceFault }
 {
     let Ok(entries) = project.reels.copy(alloc) else {
@@ -206,6 +212,7 @@ fn list_in<S: Scans>(
 ) -> Result<ListText, Outcome>
     ensures told { IfSome (S.world scan.old) (λ world. Reaches list_and_text result (list_in rate (file_at world path.now))) }
     ensures kind { IfErr result IsOfJob }
+    ensures stage { IfErr result (ComesBehind 2) }
     ensures made { IfOk result (λ read. IsWellMade rate read.list.mode read.list.events) }
 
     ensures failed { result ≡ Err Outcome.SourceFault → HasRisen (S.faults scan.old) (S.faults scan.new) }
@@ -236,6 +243,7 @@ fn timeline_of(alloc: Global, rate: Rate, list: EventList) -> Result<Timeline, O
     ensures timeline { Reaches itself result (unless_refused refused.Timeline (timeline_of rate list)) }
     ensures rate { IfOk result (λ timeline. timeline.rate ≡ rate) }
     ensures kind { IfErr result IsOfJob }
+    ensures stage { IfErr result (ComesBehind 2) }
     ensures not_the_scan { result ≢ Err Outcome.SourceFault }
 {
     match Timeline::build(alloc, rate, list) {
@@ -253,6 +261,8 @@ fn look_in<S: Scans>(
 ) -> Result<LookText, Outcome>
     ensures told { IfSome (S.world scan.old) (λ world. Reaches look_and_text result (look_in (file_at world) named.now)) }
     ensures kind { IfErr result IsOfJob }
+    ensures stage { IfErr result (ComesBehind 3) }
+    ensures named { IfErr result (λ _. cube_count named.now ≡ 1) }
 
     ensures failed { result ≡ Err Outcome.SourceFault → HasRisen (S.faults scan.old) (S.faults scan.new) }
     ensures steady { result ≢ Err Outcome.SourceFault → S.faults scan.new ≡ S.faults scan.old }
@@ -275,6 +285,7 @@ fn look_in<S: Scans>(
 fn cube_in<S: Scans>(alloc: Global, path: &PathText, scan: &mut S) -> Result<LookText, Outcome>
     ensures told { IfSome (S.world scan.old) (λ world. Reaches look_and_text result (cube_in (file_at world path.now))) }
     ensures kind { IfErr result IsOfJob }
+    ensures stage { IfErr result (ComesBehind 3) }
 
     ensures failed { result ≡ Err Outcome.SourceFault → HasRisen (S.faults scan.old) (S.faults scan.new) }
     ensures steady { result ≢ Err Outcome.SourceFault → S.faults scan.new ≡ S.faults scan.old }
@@ -301,6 +312,7 @@ fn cube_in<S: Scans>(alloc: Global, path: &PathText, scan: &mut S) -> Result<Loo
 fn look_of(alloc: Global, text: &[u8]) -> Result<Look, Outcome>
     ensures look { Reaches itself result (look_of_text text.now) }
     ensures kind { IfErr result IsOfJob }
+    ensures stage { IfErr result (ComesBehind 3) }
     ensures not_the_scan { result ≢ Err Outcome.SourceFault }
 {
     let cube = match read_cube(alloc, text) {

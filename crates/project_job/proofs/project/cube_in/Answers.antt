@@ -1,7 +1,9 @@
 -- The front of the cube's file stands for the file.
-use Rattle.std.proofs.Common.{◌≡◌, Ok, Err, subst}
+use Rattle.std.proofs.Common.{◌≡◌, Ok, Err, refl, subst}
 use Rattle.project_job.specs.Jobs.{look_of_text, itself, Reaches}
 use Rattle.project_job.proofs.Projects.{cube_had, cube_refused, cube_missing}
+use Rattle.project_job.proofs.Loading.{load_stage}
+use Rattle.outcome_line.specs.declared.outcome.Which.TheVariants as which
 use Rattle.project_job.proofs.project.cube_in.Goals as goal
 
 pub returns-in-Ok-look_of-clause-told : goal.returns-in-Ok-look_of-clause-told
@@ -16,3 +18,6 @@ returns-in-Err-look_of-clause-told g c =
 
 pub returns-in-Err-clause-told : goal.returns-in-Err-clause-told
 returns-in-Err-clause-told g c = cube_missing (g.S.Scans.world c.args.scan.now) c.args.path.now c.in-Err.outcome c.in-Err.ensures.told
+
+pub returns-in-Err-clause-stage : goal.returns-in-Err-clause-stage
+returns-in-Err-clause-stage g c = load_stage which.Cube 3 c.in-Err.outcome (λ cube. refl) c.in-Err.ensures.kind

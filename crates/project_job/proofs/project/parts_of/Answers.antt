@@ -1,6 +1,7 @@
 -- The steps to the parts of a job, one after another; the list and the cube are loaded.
-use Rattle.std.proofs.Common.{◌∙◌}
+use Rattle.std.proofs.Common.{◌∙◌, refl}
 use Rattle.project_job.proofs.Projects.{loaded_both, err_as, no_err, no_reels, no_list, no_timeline, no_look, all_parts}
+use Rattle.project_job.proofs.Loading.{loaded_behind, look_behind}
 use Rattle.project_job.proofs.project.parts_of.Goals as goal
 
 pub returns-in-Err-clause-told : goal.returns-in-Err-clause-told
@@ -58,3 +59,19 @@ returns-clause-steady g c other = c.in-Ok-look_in.ensures.steady (no_err _ _) �
 pub returns-clause-loads : goal.returns-clause-loads
 returns-clause-loads g c =
     loaded_both c.args.project.cube (g.S.Scans.loads c.args.scan.now) _ _ c.in-Ok-list_in.ensures.loads c.in-Ok-look_in.ensures.loads
+
+pub returns-in-Err-clause-refused : goal.returns-in-Err-clause-refused
+returns-in-Err-clause-refused g c =
+    loaded_behind c.args.project.cube c.in-Err.outcome 0 (g.S.Scans.loads c.args.scan.now) _ c.in-Err.ensures.stage refl
+
+pub returns-in-Err-list_in-clause-refused : goal.returns-in-Err-list_in-clause-refused
+returns-in-Err-list_in-clause-refused g c =
+    loaded_behind c.args.project.cube c.in-Err-list_in.outcome 1 (g.S.Scans.loads c.args.scan.now) _ c.in-Err-list_in.ensures.stage c.in-Err-list_in.ensures.loads
+
+pub returns-in-Err-timeline_of-clause-refused : goal.returns-in-Err-timeline_of-clause-refused
+returns-in-Err-timeline_of-clause-refused g c =
+    loaded_behind c.args.project.cube c.in-Err-timeline_of.outcome 1 (g.S.Scans.loads c.args.scan.now) _ c.in-Err-timeline_of.ensures.stage c.in-Ok-list_in.ensures.loads
+
+pub returns-in-Err-look_in-clause-refused : goal.returns-in-Err-look_in-clause-refused
+returns-in-Err-look_in-clause-refused g c =
+    look_behind c.args.project.cube c.in-Err-look_in.outcome (g.S.Scans.loads c.args.scan.now) _ _ c.in-Err-look_in.ensures.stage c.in-Err-look_in.ensures.named c.in-Ok-list_in.ensures.loads c.in-Err-look_in.ensures.loads

@@ -2,9 +2,11 @@
 use Rattle.std.proofs.Common.{◌+◌, sym, ap, ◌∙◌}
 use Rattle.conform_job.specs.Answers.{count_after}
 use Rattle.conform_job.specs.declared.parts.JobParts.{JobParts}
+use Rattle.project_file.specs.declared.Project.{Project}
 use Rattle.project_job.specs.Jobs.{cube_count}
 use Rattle.project_job.proofs.Counted.{counted_job}
 use Rattle.project_job.proofs.Projects.{no_project, no_parts, no_job, a_job, loaded_first, loaded_all, err_as, no_err, scan_of_job, job_of_scan}
+use Rattle.project_job.proofs.Loading.{project_loaded, parts_loaded, job_loaded, unasked, job_asked}
 use Rattle.project_job.proofs.project.planned.Goals as goal
 
 pub returns-in-Err-clause-told : goal.returns-in-Err-clause-told
@@ -72,3 +74,26 @@ returns-clause-failed g c e =
 pub returns-clause-steady : goal.returns-clause-steady
 returns-clause-steady g c other = c.in-Err-plan.ensures.steady (λ e. other (job_of_scan c.in-Err-plan.fault _ c.refused_job.ensures e))
     ∙ c.in-Ok-parts_of.ensures.steady (no_err _ _) ∙ c.in-Ok.ensures.steady (no_err _ _)
+
+pub returns-in-Err-clause-refused : goal.returns-in-Err-clause-refused
+returns-in-Err-clause-refused g c =
+    project_loaded (g.S.Scans.world c.args.scan.now) c.args.path.now c.in-Err.outcome _ _ c.in-Err.ensures.stage c.in-Err.ensures.told c.in-Err.ensures.loads
+
+pub returns-in-Err-parts_of-clause-refused : goal.returns-in-Err-parts_of-clause-refused
+returns-in-Err-parts_of-clause-refused g c =
+    parts_loaded (g.S.Scans.world c.args.scan.now) c.args.path.now c.in-Ok.read c.in-Ok.ensures.told c.in-Err-parts_of.outcome (g.S.Scans.loads c.args.scan.now) _ _ c.in-Ok.ensures.loads c.in-Err-parts_of.ensures.refused
+
+pub returns-clause-refused : goal.returns-clause-refused
+returns-clause-refused g c =
+    job_loaded (g.S.Scans.world c.args.scan.now) c.args.path.now c.in-Ok.read c.in-Ok.ensures.told c.in-Err-plan.fault c.refused_job.result _ _ c.refused_job.ensures
+    (loaded_all c.in-Ok.read.project.cube (g.S.Scans.loads c.args.scan.now) _ _ c.in-Ok.ensures.loads
+    (c.in-Err-plan.ensures.loads ∙ c.in-Ok-parts_of.ensures.loaded ∙ ap (λ (project : Project). count_after (1 + cube_count project.cube) (g.S.Scans.loads c.project_in.new.scan)) c.in-Ok-parts_of.ensures.project))
+
+pub returns-in-Err-clause-refused_heads : goal.returns-in-Err-clause-refused_heads
+returns-in-Err-clause-refused_heads g c = unasked (g.S.Scans.world c.args.scan.now) c.args.path.now c.in-Err.outcome _ _ c.in-Err.ensures.heads
+
+pub returns-in-Err-parts_of-clause-refused_heads : goal.returns-in-Err-parts_of-clause-refused_heads
+returns-in-Err-parts_of-clause-refused_heads g c = unasked (g.S.Scans.world c.args.scan.now) c.args.path.now c.in-Err-parts_of.outcome _ _ (c.in-Err-parts_of.ensures.heads ∙ c.in-Ok.ensures.heads)
+
+pub returns-clause-refused_heads : goal.returns-clause-refused_heads
+returns-clause-refused_heads g c = job_asked (g.S.Scans.world c.args.scan.now) c.args.path.now c.in-Err-plan.fault c.refused_job.result _ _ c.refused_job.ensures

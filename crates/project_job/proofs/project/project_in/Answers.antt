@@ -1,6 +1,10 @@
 -- The front of the project's file stands for the file.
+use Rattle.std.proofs.Common.{refl}
 use Rattle.project_job.proofs.Counted.{counted_project}
 use Rattle.project_job.proofs.Projects.{err_as, no_err, memory_apart, refused_apart, project_had, project_refused}
+use Rattle.project_job.proofs.Loading.{load_stage, memory_stage, own_stage}
+use Rattle.outcome_line.specs.declared.outcome.Which.TheVariants as which
+use Rattle.outcome_line.specs.declared.outcome.Refused.TheVariants as refused
 use Rattle.project_job.proofs.project.project_in.Goals as goal
 
 pub returns-in-Ok-read_project-clause-told : goal.returns-in-Ok-read_project-clause-told
@@ -39,3 +43,12 @@ returns-clause-failed g c e = absurd (memory_apart e)
 
 pub returns-clause-steady : goal.returns-clause-steady
 returns-clause-steady g c other = c.in-Ok.ensures.steady (no_err _ _)
+
+pub returns-in-Err-clause-stage : goal.returns-in-Err-clause-stage
+returns-in-Err-clause-stage g c = load_stage which.Project 1 c.in-Err.outcome (λ cube. refl) c.in-Err.ensures.kind
+
+pub returns-in-Err-Fault-clause-stage : goal.returns-in-Err-Fault-clause-stage
+returns-in-Err-Fault-clause-stage g c = own_stage 1 (refused.Project c.in-Err-Fault.fault) (λ cube. refl)
+
+pub returns-clause-stage : goal.returns-clause-stage
+returns-clause-stage g c = memory_stage 1

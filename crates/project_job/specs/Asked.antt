@@ -1,0 +1,66 @@
+-- What was asked of the scan where a project is refused: the files up to the one that has the fault, and no more.
+--     loads_of refusal cube      how many files are loaded before the refusal, of a project that names this cube
+--     HasLoadedFor told path before after reached      so many were loaded, where a refusal was reached
+--     HasInspectedFor told path before after reached      and no head was asked for, but where frames are judged
+use Rattle.std.specs.Prelude.{◌≡◌, ℕ, ◌+◌, List, Option, Some, None, IfSome, IfOk, Result}
+use Rattle.scan_source.specs.World.{World, file_at}
+use Rattle.conform_job.specs.Answers.{count_after}
+use Rattle.project_file.specs.Projects.{Means}
+use Rattle.project_file.specs.declared.Project.{Project}
+use Rattle.project_file.specs.declared.fault.ProjectFault.{ProjectFault}
+use Rattle.outcome_line.specs.declared.outcome.Outcome.{Outcome}
+use Rattle.outcome_line.specs.declared.outcome.Outcome.TheVariants as outcome
+use Rattle.outcome_line.specs.declared.outcome.Refused.{Refused}
+use Rattle.outcome_line.specs.declared.outcome.Refused.TheVariants as refused
+use Rattle.outcome_line.specs.declared.outcome.Which.TheVariants as which
+use Rattle.project_job.specs.Jobs.{cube_count}
+
+-- The project is loaded first, then the list, then the cube if one is named; a job is judged behind them all. A file that stands
+-- alone is no project's.
+abbrev pub loads_of : Refused → Option (List ℕ) → ℕ
+loads_of (refused.NoFile which.Project) cube = 1
+loads_of (refused.NoFile which.List) cube = 2
+loads_of (refused.NoFile which.Cube) cube = 3
+loads_of (refused.NoFile which.Frame) cube = 0
+loads_of (refused.Project fault) cube = 1
+loads_of (refused.Reels fault) cube = 1
+loads_of (refused.List fault) cube = 2
+loads_of (refused.Timeline fault) cube = 2
+loads_of (refused.Cube fault) cube = 3
+loads_of (refused.Job fault) cube = 2 + cube_count cube
+loads_of (refused.Frame fault) cube = 0
+
+-- what holds of a refusal, where it was reached
+abbrev pub IfRefused : Outcome → (Refused → Type 0) → Type 0
+IfRefused reached holds = (refusal : Refused) → reached ≡ outcome.Refused refusal → holds refusal
+
+-- a refusal is one that comes behind so many loads, whatever the project names
+abbrev pub ComesBehind : ℕ → Outcome → Type 0
+ComesBehind count reached = IfRefused reached (λ refusal. (cube : Option (List ℕ)) → loads_of refusal cube ≡ count)
+
+-- the project of this file, if it is one, names this cube
+abbrev pub FileNames : Option (List ℕ) → Option (List ℕ) → Type 0
+FileNames None cube = Unit {0}
+FileNames (Some text) cube = (read : Result Project ProjectFault) × Means text read × IfOk read (λ (project : Project). project.cube ≡ cube)
+
+-- the files up to this refusal were loaded, of the project at the path, which names this cube
+pub record WereLoaded (told : Option World) (path : List ℕ) (before after : ℕ) (refusal : Refused) : Type 0 where
+  pub cube : Option (List ℕ)
+  pub named : IfSome told (λ world. FileNames (file_at world path) cube)
+  pub loads : after ≡ count_after (loads_of refusal cube) before
+
+abbrev pub HasLoadedFor : Option World → List ℕ → (before after : ℕ) → Outcome → Type 0
+HasLoadedFor told path before after reached = IfRefused reached (WereLoaded told path before after)
+
+-- the same behind the project's own load, which was made of this count
+abbrev pub HasLoadedBehind : Option (List ℕ) → (before after : ℕ) → Outcome → Type 0
+HasLoadedBehind cube before after reached =
+    IfRefused reached (λ refusal. (first : ℕ) → before ≡ count_after 1 first → after ≡ count_after (loads_of refusal cube) first)
+
+-- no head is asked for before the frames of a job are judged
+abbrev pub WereInspected : Option World → List ℕ → (before after : ℕ) → Refused → Type 0
+WereInspected told path before after (refused.Job fault) = Unit {0}
+WereInspected told path before after other = after ≡ before
+
+abbrev pub HasInspectedFor : Option World → List ℕ → (before after : ℕ) → Outcome → Type 0
+HasInspectedFor told path before after reached = IfRefused reached (WereInspected told path before after)
