@@ -17,6 +17,7 @@ use Rattle.single_run.specs.Run.{AreAllAcked, HasWhole}
 use Rattle.single_run.specs.declared.run_end.Report.{Report}
 use Rattle.single_run.specs.declared.run_end.RunEnd.{RunEnd}
 use Rattle.single_run.specs.declared.run_end.RunEnd.TheVariants as ends
+use Rattle.project_job.specs.Asked.{HasLoadedFor}
 use Rattle.project_job.specs.Jobs.{HasPlanned, IsOfJob, AreLoaded, cube_count}
 use Rattle.outcome_line.specs.declared.outcome.Outcome.{Outcome}
 use Rattle.outcome_line.specs.declared.outcome.Outcome.TheVariants as outcomes
@@ -113,16 +114,22 @@ module _ {S : Type 0} (world : S → Option World) (faults loads : S → ℕ) (s
     failed_first (scan ∷ scans) first some is rose = (0, omega arith, λ d. subst (λ n. HasRisen n (faults used)) (ap faults (sym is)) rose)
 
     pub uncrewed : (path : List ℕ) (workers : ℕ) (scans : List S) (first : S) (disk : DiskState) (reached : Outcome) (output : List ℕ) → 0 < length scans → get_or scans 0 first ≡ first
-        → IfSome (world first) (λ files. HasPlanned (file_at files) path (Err reached)) → IsOfJob reached → AreLoaded 1 3 (loads first) (loads used) → (reached ≢ outcomes.SourceFault → faults used ≡ faults first)
+        → IfSome (world first) (λ files. HasPlanned (file_at files) path (Err reached)) → IsOfJob reached → AreLoaded 1 3 (loads first) (loads used)
+        → HasLoadedFor (world first) path (loads first) (loads used) reached → (reached ≢ outcomes.SourceFault → faults used ≡ faults first)
+        → faults first ≤ faults used → world used ≡ world first → same first used
         → IsCrewReply world faults loads same path workers scans (set scans 0 used) disk disk reached output
-    uncrewed path workers [] first disk reached output some is why kind texts steady = absurd (omega (arith, some))
-    uncrewed path workers (scan ∷ scans) first disk reached output some is why kind texts steady = inr (record {
+    uncrewed path workers [] first disk reached output some is why kind texts refused steady later told lent = absurd (omega (arith, some))
+    uncrewed path workers (scan ∷ scans) first disk reached output some is why kind texts refused steady later told lent = inr (record {
       why = subst (λ s. IfSome (world s) (λ files. HasPlanned (file_at files) path (Err reached))) (sym is) why;
       kind = kind;
       untouched = refl;
       size = refl;
       texts = λ d. subst (λ s. AreLoaded 1 3 (loads s) (loads used)) (sym is) texts;
+      refused = λ d. subst (λ s. HasLoadedFor (world s) path (loads s) (loads used) reached) (sym is) refused;
       steady = λ other d. steady other ∙ ap faults (sym is);
+      later = λ d. subst (λ s. faults s ≤ faults used) (sym is) later;
+      told = λ d. told ∙ ap world (sym is);
+      lent = λ d. subst (λ s. same s used) (sym is) lent;
       others = refl;
     })
 

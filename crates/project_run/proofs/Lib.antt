@@ -1,3 +1,4 @@
 pub mod Crews
+pub mod Leaving
 pub mod Looking
 pub mod Runs

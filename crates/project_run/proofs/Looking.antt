@@ -1,5 +1,5 @@
 -- A look at the ledger, and then at the files.
-use Rattle.std.proofs.Common.{◌≡◌, ℕ, false, true, List, length, Option, Some, Ok, Err, ap, inl, refl, sym, subst}
+use Rattle.std.proofs.Common.{◌≡◌, ℕ, false, true, List, length, Ok, Err, ap, inl, refl, sym, subst}
 use Rattle.cf_base.specs.declared.file.FileId.{FileId}
 use Rattle.cf_base.specs.declared.file.FileId.TheVariants as file
 use Rattle.conform_job.specs.Job.{JobData}

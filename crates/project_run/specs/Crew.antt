@@ -21,6 +21,7 @@ use Rattle.single_run.specs.Run.{AreAllAcked, HasWhole}
 use Rattle.single_run.specs.declared.run_end.Report.{Report}
 use Rattle.single_run.specs.declared.run_end.RunEnd.{RunEnd}
 use Rattle.single_run.specs.declared.run_end.RunEnd.TheVariants as ends
+use Rattle.project_job.specs.Asked.{HasLoadedFor}
 use Rattle.project_job.specs.Jobs.{ComesTo, HasPlanned, IsOfJob, AreLoaded, cube_count}
 use Rattle.outcome_line.specs.declared.outcome.Outcome.{Outcome}
 use Rattle.outcome_line.specs.declared.outcome.Outcome.TheVariants as outcome
@@ -81,14 +82,19 @@ module _ {S : Type 0} (world : S → Option World) (faults loads : S → ℕ) (s
     pub texts : HasFirstLoaded (2 + cube_count job.parts.project.cube) old planned
     pub ran : IsCrewJobRun job (told_by world old) workers planned new disk disk_after reached output
 
-  -- The project came to no job, the folder is as it was, and so are all scans but the first.
+  -- The project came to no job, the folder is as it was, and so are all scans but the first, which is handed back as it was lent.
   pub record IsUncrewed (path : List ℕ) (old new : List S) (disk disk_after : DiskState) (reached : Outcome) : Type 0 where
     pub why : IfSome (told_by world old) (λ files. HasPlanned (file_at files) path (Err reached))
     pub kind : IsOfJob reached
     pub untouched : disk_after ≡ disk
     pub size : length new ≡ length old
     pub texts : (scan : S) → AreLoaded 1 3 (loads (slice_index_or old 0 scan)) (loads (slice_index_or new 0 scan))
+    -- of a refused one the files up to the one that has the fault
+    pub refused : (scan : S) → HasLoadedFor (told_by world old) path (loads (slice_index_or old 0 scan)) (loads (slice_index_or new 0 scan)) reached
     pub steady : reached ≢ outcome.SourceFault → (scan : S) → faults (slice_index_or new 0 scan) ≡ faults (slice_index_or old 0 scan)
+    pub later : (scan : S) → faults (slice_index_or old 0 scan) ≤ faults (slice_index_or new 0 scan)
+    pub told : (scan : S) → world (slice_index_or new 0 scan) ≡ world (slice_index_or old 0 scan)
+    pub lent : (scan : S) → same (slice_index_or old 0 scan) (slice_index_or new 0 scan)
     pub others : drop 1 new ≡ drop 1 old
 
   abbrev pub IsCrewReply : List ℕ → ℕ → List S → List S → DiskState → DiskState → Outcome → List ℕ → Type 0

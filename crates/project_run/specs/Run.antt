@@ -21,6 +21,7 @@ use Rattle.single_run.specs.Run.{WasOpened, WasRefused, AreAllAcked, HasWhole}
 use Rattle.single_run.specs.declared.run_end.Report.{Report}
 use Rattle.single_run.specs.declared.run_end.RunEnd.{RunEnd}
 use Rattle.single_run.specs.declared.run_end.RunEnd.TheVariants as ends
+use Rattle.project_job.specs.Asked.{HasLoadedFor}
 use Rattle.project_job.specs.Jobs.{ComesTo, HasPlanned, IsOfJob, AreLoaded, cube_count}
 use Rattle.printed_text.specs.Text.{spaced_line}
 use Rattle.outcome_line.specs.declared.outcome.Outcome.{Outcome}
@@ -110,6 +111,8 @@ pub record IsUnplanned (told : Option World) (path : List ℕ) (disk disk_after 
   pub kind : IsOfJob reached
   pub untouched : disk_after ≡ disk
   pub texts : AreLoaded 1 3 loads loads_after
+  -- of a refused one the files up to the one that has the fault
+  pub refused : HasLoadedFor told path loads loads_after reached
 
 abbrev pub IsRunReply : Option World → List ℕ → ℕ → DiskState → DiskState → ℕ → ℕ → Outcome → List ℕ → Type 0
 IsRunReply told path share disk disk_after loads loads_after reached output =
@@ -125,3 +128,13 @@ IsOfRun (outcome.OldBadLedger len) = ⊥
 IsOfRun (outcome.Damaged frame kept found) = ⊥
 IsOfRun (outcome.SinkFault instead) = ⊥
 IsOfRun other = Unit {0}
+
+-- a project is refused, the new one or an old one
+abbrev pub IsRefusal : Outcome → Type 0
+IsRefusal (outcome.Refused refusal) = Unit {0}
+IsRefusal (outcome.OldRefused refusal) = Unit {0}
+IsRefusal other = ⊥
+
+-- no call is made on what is left alone where a project is refused
+abbrev pub IsLeftAlone : {A : Type 0} → A → A → Outcome → Type 0
+IsLeftAlone before after reached = IsRefusal reached → after ≡ before

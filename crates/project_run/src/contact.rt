@@ -1,12 +1,13 @@
 //! The command `sheet`.
-ghost use Rattle.std.specs.Prelude.{◌≡◌, ◌≢◌, ◌≤◌, true, length, Err, IfOk, MatchResult};
+ghost use Rattle.std.specs.Prelude.{◌≡◌, ◌≢◌, ◌≤◌, true, length, Err, IfErr, IfOk, MatchResult};
 ghost use Rattle.cf_base.specs.Count.{HasRisen};
 ghost use Rattle.cf_base.specs.declared.file.FileId.TheVariants as file;
 ghost use Rattle.reel_disk.specs.Runs.{Extends, Spares};
 ghost use Rattle.reel_writer.specs.Reel.{frames_of};
 ghost use Rattle.outcome_line.specs.Output.{line_of};
+ghost use Rattle.project_job.specs.Asked.{HasInspectedFor};
 ghost use Rattle.project_run.specs.Look.{IsOfLook};
-ghost use Rattle.project_run.specs.Run.{disk_state};
+ghost use Rattle.project_run.specs.Run.{IsLeftAlone, disk_state};
 ghost use Rattle.project_run.specs.Sheet.{HasSheet, IsSheetReply, IsSheeted, sheet_text};
 
 use crate::progress::outcome_of_fault;
@@ -43,11 +44,13 @@ pub fn sheet<S: Scans, D: Disk>(
     ensures steady { result ≢ Err Outcome.SourceFault → S.faults scan.new ≡ S.faults scan.old }
     ensures later { S.faults scan.old ≤ S.faults scan.new }
     ensures world { S.world scan.new ≡ S.world scan.old }
+    ensures refused_heads { IfErr result (HasInspectedFor (S.world scan.old) path.now (S.heads scan.old) (S.heads scan.new)) }
     ensures same { S.same scan.old scan.new }
 
     ensures disk_fault { result ≡ Err Outcome.DiskFault → HasRisen (D.faults disk.old) (D.faults disk.new) }
     ensures disk_steady { result ≢ Err Outcome.DiskFault → D.faults disk.new ≡ D.faults disk.old }
     ensures disk_later { D.faults disk.old ≤ D.faults disk.new }
+    ensures untouched { IfErr result (IsLeftAlone disk.old disk.new) }
 {
     let job = match planned(alloc, path, scan) {
         Ok(job) => job,

@@ -1,10 +1,10 @@
 //! A run by a crew.
-ghost use Rattle.std.specs.Prelude.{◌≡◌, ◌≢◌, ◌≤◌, true, All, AllPairs, Err, MatchResult, length, vec_len};
+ghost use Rattle.std.specs.Prelude.{◌≡◌, ◌≢◌, ◌≤◌, true, All, AllPairs, Err, IfErr, MatchResult, length, vec_len};
 ghost use Rattle.cf_base.specs.Count.{HasRisen};
 ghost use Rattle.conform_job.specs.Answers.{AreInfosOf};
 ghost use Rattle.outcome_line.specs.Output.{line_of};
 ghost use Rattle.project_run.specs.Crew.{HasFailed, IsCrewJobRun, IsCrewReply, told_by};
-ghost use Rattle.project_run.specs.Run.{IsOfRun, IsShareCount, disk_state};
+ghost use Rattle.project_run.specs.Run.{IsLeftAlone, IsOfRun, IsShareCount, disk_state};
 
 use crate::report::reply_of;
 use cf_base::PathText;
@@ -58,6 +58,7 @@ pub fn run_crewed<S: Scans + Send, D: Disk + Send, R: Threads + Wait + Sync>(
     ensures failed { result.result ≡ Err Outcome.SourceFault → HasFailed S.world S.faults S.loads S.same scans.items result.scans.items }
     ensures disk_fault { result.result ≡ Err Outcome.DiskFault → HasRisen (D.faults disk) (D.faults result.disk) }
     ensures disk_later { D.faults disk ≤ D.faults result.disk }
+    ensures untouched { IfErr result.result (IsLeftAlone disk result.disk) }
 {
     let job = match planned(alloc, path, &mut scans[0]) {
         Ok(job) => job,

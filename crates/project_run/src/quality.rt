@@ -1,13 +1,14 @@
 //! The command `qc`.
-ghost use Rattle.std.specs.Prelude.{◌≡◌, ◌≢◌, ◌≤◌, true, length, map, Err, MatchResult};
+ghost use Rattle.std.specs.Prelude.{◌≡◌, ◌≢◌, ◌≤◌, true, length, map, Err, IfErr, MatchResult};
 ghost use Rattle.cf_base.specs.Count.{HasRisen};
 ghost use Rattle.reel_disk.specs.Disk.{view_of, IsStill};
 ghost use Rattle.reel_writer.specs.Reel.{frames_of};
 ghost use Rattle.resume_ledger.specs.Look.{IsViewOf};
 ghost use Rattle.outcome_line.specs.Output.{line_of};
+ghost use Rattle.project_job.specs.Asked.{HasInspectedFor};
 ghost use Rattle.project_run.specs.Look.{IsOfLook};
 ghost use Rattle.project_run.specs.Quality.{IsCounted, IsQcReply, IsTabled};
-ghost use Rattle.project_run.specs.Run.{disk_state};
+ghost use Rattle.project_run.specs.Run.{IsLeftAlone, disk_state};
 
 use crate::progress::outcome_of_fault;
 use cf_base::PathText;
@@ -44,11 +45,13 @@ pub fn qc<S: Scans, D: Disk, C: Counter>(
     ensures steady { result ≢ Err Outcome.SourceFault → S.faults scan.new ≡ S.faults scan.old }
     ensures later { S.faults scan.old ≤ S.faults scan.new }
     ensures world { S.world scan.new ≡ S.world scan.old }
+    ensures refused_heads { IfErr result (HasInspectedFor (S.world scan.old) path.now (S.heads scan.old) (S.heads scan.new)) }
     ensures same { S.same scan.old scan.new }
 
     ensures disk_fault { result ≡ Err Outcome.DiskFault → HasRisen (D.faults disk.old) (D.faults disk.new) }
     ensures disk_steady { result ≢ Err Outcome.DiskFault → D.faults disk.new ≡ D.faults disk.old }
     ensures disk_later { D.faults disk.old ≤ D.faults disk.new }
+    ensures untouched { IfErr result (IsLeftAlone disk.old disk.new) }
 {
     let job = match planned(alloc, path, scan) {
         Ok(job) => job,

@@ -2,6 +2,7 @@
 use Rattle.std.proofs.Common.{◌≡◌, ◌<◌, get_or, length, rules}
 use Rattle.project_run.proofs.Crews.{all_tell, crewed, error_as, failed_before, failed_first, first_loaded, still_tell, uncrewed}
 use Rattle.project_run.proofs.Runs.{match_each}
+use Rattle.project_run.proofs.Leaving.{end_unrefused, left_by}
 use Rattle.project_run.proofs.crew.run_crewed.Goals as goal
 
 pub returns-in-Err-clause-reply : goal.returns-in-Err-clause-reply
@@ -10,7 +11,7 @@ returns-in-Err-clause-reply g c =
     let first : get_or c.args.scans.items 0 c.index_mut.result.now ≡ c.index_mut.result.now = search rules in
     let job = c.in-Err.ensures in
     uncrewed g.S.Scans.world g.S.Scans.faults g.S.Scans.loads g.S.Scans.same c.planned.new.scan c.args.path.now c.args.workers c.args.scans.items c.index_mut.result.now _ _ _ some first
-    job.told job.kind job.loads (λ other. job.steady (λ is. other cc))
+    job.told job.kind job.loads job.refused (λ other. job.steady (λ is. other cc)) job.later job.world job.same
 
 pub returns-in-Err-clause-failed : goal.returns-in-Err-clause-failed
 returns-in-Err-clause-failed g c is =
@@ -39,3 +40,6 @@ returns-clause-failed g c is =
     let some : 0 < length c.args.scans.items = search rules in
     let first : get_or c.args.scans.items 0 c.index_mut.result.now ≡ c.index_mut.result.now = search rules in
     failed_before g.S.Scans.world g.S.Scans.faults g.S.Scans.loads g.S.Scans.same c.planned.new.scan c.args.scans.items _ c.index_mut.result.now some first (c.in-Ok.ensures.steady (λ is. cc)) (c.run_job-ended.ensures.failed is)
+
+pub returns-clause-untouched : goal.returns-clause-untouched
+returns-clause-untouched g c = left_by _ _ _ _ _ c.run_job-ended.ensures.ran (λ reached ran. end_unrefused _ ran.how reached ran.reply.reached_is)

@@ -1,0 +1,114 @@
+-- Where a project is refused, its job wasn't run or looked at.
+use Rattle.std.proofs.Common.{◌≡◌, ℕ, List, Option, Result, Ok, Err, IfErr, MatchResult, sym, subst, inl, inr}
+use Rattle.std.specs.Prelude.{◌⊎◌}
+use Rattle.cf_base.specs.declared.reel.ReelEntry.{ReelEntry}
+use Rattle.scan_source.specs.World.{World}
+use Rattle.conform_job.specs.Job.{JobData}
+use Rattle.resume_ledger.specs.Look.{ViewState}
+use Rattle.resume_ledger.specs.declared.attach.OpenFault.{OpenFault}
+use Rattle.resume_ledger.specs.declared.attach.OpenFault.TheVariants as faults
+use Rattle.reel_qc.specs.declared.probe.ProbeKind.{ProbeKind}
+use Rattle.reel_writer.specs.declared.damage.CheckFault.{CheckFault}
+use Rattle.reel_writer.specs.declared.damage.CheckFault.TheVariants as damage
+use Rattle.single_run.specs.declared.run_end.RunEnd.{RunEnd}
+use Rattle.single_run.specs.declared.run_end.RunEnd.TheVariants as ends
+use Rattle.outcome_line.specs.declared.outcome.Outcome.{Outcome}
+use Rattle.outcome_line.specs.declared.outcome.Outcome.TheVariants as outcomes
+use Rattle.project_job.specs.Asked.{HasInspectedFor}
+use Rattle.project_run.specs.Look.{HasFound, IsBehindLook, outcome_of_fault}
+use Rattle.project_run.specs.Quality.{IsTabled}
+use Rattle.project_run.specs.Run.{DiskState, IsJobRun, IsLeftAlone, IsRefusal, outcome_of_end}
+use Rattle.project_run.specs.Sheet.{HasSheet}
+use Rattle.project_run.specs.Status.{IsStatus, outcome_of_peek}
+use Rattle.project_run.specs.Verify.{IsVerified, outcome_of_check}
+
+-- what was reached is one of two outcomes, and neither is a refusal
+neither : (reached a b : Outcome) → (IsRefusal a → ⊥) → (IsRefusal b → ⊥) → (reached ≡ a) ⊎ (reached ≡ b) → IsRefusal reached → ⊥
+neither reached a b first second (inl is) refused = first (subst IsRefusal is refused)
+neither reached a b first second (inr is) refused = second (subst IsRefusal is refused)
+
+no_end : (entries : List ReelEntry) (how : RunEnd) → IsRefusal (outcome_of_end entries how) → ⊥
+no_end entries ends.Done refused = refused
+no_end entries (ends.OtherJob kept wanted) refused = refused
+no_end entries (ends.BadLedger len) refused = refused
+no_end entries (ends.Changed key was now) refused = refused
+no_end entries ends.SourceFault refused = refused
+no_end entries ends.DiskFault refused = refused
+no_end entries ends.NoMemory refused = refused
+
+no_fault : (fault : OpenFault) → IsRefusal (outcome_of_fault fault) → ⊥
+no_fault (faults.OtherJob kept wanted) refused = refused
+no_fault (faults.BadLedger len) refused = refused
+no_fault faults.DiskFault refused = refused
+no_fault faults.NoMemory refused = refused
+
+no_peek : (answer : Result ℕ OpenFault) → IsRefusal (outcome_of_peek answer) → ⊥
+no_peek (Ok acked) refused = refused
+no_peek (Err fault) refused = no_fault fault refused
+
+no_check : (answer : Result ℕ CheckFault) → IsRefusal (outcome_of_check answer) → ⊥
+no_check (Ok records) refused = refused
+no_check (Err (damage.Damaged frame kept found)) refused = refused
+no_check (Err damage.DiskFault) refused = refused
+no_check (Err damage.NoMemory) refused = refused
+
+behind : (reached : Outcome) → IsBehindLook reached → IsRefusal reached → ⊥
+behind (outcomes.Refused refusal) kind refused = kind
+behind (outcomes.OldRefused refusal) kind refused = kind
+behind outcomes.Done kind refused = refused
+behind outcomes.Usage kind refused = refused
+behind (outcomes.OtherJob kept wanted) kind refused = refused
+behind (outcomes.BadLedger len) kind refused = refused
+behind (outcomes.OldOtherJob kept wanted) kind refused = refused
+behind (outcomes.OldBadLedger len) kind refused = refused
+behind (outcomes.Damaged frame kept found) kind refused = refused
+behind (outcomes.Changed reel key was now) kind refused = refused
+behind outcomes.SourceFault kind refused = refused
+behind outcomes.DiskFault kind refused = refused
+behind (outcomes.SinkFault instead) kind refused = refused
+behind outcomes.NoMemory kind refused = refused
+
+-- ---- a job was run, or its folder looked at
+
+pub end_unrefused : (entries : List ReelEntry) (how : RunEnd) (reached : Outcome) → (reached ≡ outcome_of_end entries how) ⊎ (reached ≡ outcomes.NoMemory) → IsRefusal reached → ⊥
+end_unrefused entries how reached is = neither reached (outcome_of_end entries how) outcomes.NoMemory (no_end entries how) (λ no. no) is
+
+pub run_unrefused : {share : ℕ} (job : JobData) (told : Option World) (disk disk_after : DiskState) (loads loads_after : ℕ) (reached : Outcome) (output : List ℕ)
+    → IsJobRun job told share disk disk_after loads loads_after reached output → IsRefusal reached → ⊥
+run_unrefused job told disk disk_after loads loads_after reached output ran = end_unrefused job.parts.reels ran.how reached ran.reply.reached_is
+
+pub status_unrefused : (job : JobData) (disk disk_after : DiskState) (reached : Outcome) (output : List ℕ) → IsStatus job disk disk_after reached output → IsRefusal reached → ⊥
+status_unrefused job disk disk_after reached output status =
+    neither reached (outcome_of_peek status.answer) outcomes.NoMemory (no_peek status.answer) (λ no. no) status.reached_is
+
+found_unrefused : (job : JobData) (disk disk_after : DiskState) (reached : Outcome) (Found : ViewState → Type 0) → ((view : ViewState) → Found view → IsRefusal reached → ⊥)
+    → HasFound job disk disk_after reached Found → IsRefusal reached → ⊥
+found_unrefused job disk disk_after reached Found each has = by has.ledger has.found
+  where
+    by : (ledger : Result ViewState OpenFault) → MatchResult ledger Found (λ fault. (reached ≡ outcome_of_fault fault) ⊎ (reached ≡ outcomes.NoMemory)) → IsRefusal reached → ⊥
+    by (Ok view) found = each view found
+    by (Err fault) is = neither reached (outcome_of_fault fault) outcomes.NoMemory (no_fault fault) (λ no. no) is
+
+pub check_unrefused : (job : JobData) (disk disk_after : DiskState) (reached : Outcome) (output : List ℕ) → IsVerified job disk disk_after reached output → IsRefusal reached → ⊥
+check_unrefused job disk disk_after reached output verified = found_unrefused job disk disk_after reached _
+    (λ view checked. neither reached (outcome_of_check checked.answer) outcomes.NoMemory (no_check checked.answer) (λ no. no) checked.reached_is) verified.seen
+
+pub table_unrefused : (kinds : List ProbeKind) (job : JobData) (disk disk_after : DiskState) (reached : Outcome) (output : List ℕ) → IsTabled kinds job disk disk_after reached output
+    → IsRefusal reached → ⊥
+table_unrefused kinds job disk disk_after reached output tabled = found_unrefused job disk disk_after reached _ (λ view counted. behind reached counted.kind) tabled.seen
+
+pub sheet_unrefused : (tone : List ℕ) (job : JobData) (disk disk_after : DiskState) (reached : Outcome) (output : List ℕ) → HasSheet tone job disk disk_after reached output
+    → IsRefusal reached → ⊥
+sheet_unrefused tone job disk disk_after reached output made = found_unrefused job disk disk_after reached _ (λ view sheeted. behind reached sheeted.kind) made.seen
+
+-- ---- so all that is said of a refusal holds
+
+pub left_by : {A D : Type 0} (r : Result A Outcome) (P : A → Type 0) (Q : Outcome → Type 0) (before after : D) → MatchResult r P Q → ((reached : Outcome) → Q reached → IsRefusal reached → ⊥)
+    → IfErr r (IsLeftAlone before after)
+left_by (Ok a) P Q before after is none = tt
+left_by (Err reached) P Q before after is none = λ refused. absurd (none reached is refused)
+
+pub asked_by : {A : Type 0} (r : Result A Outcome) (P : A → Type 0) (Q : Outcome → Type 0) (told : Option World) (path : List ℕ) (before after : ℕ) → MatchResult r P Q
+    → ((reached : Outcome) → Q reached → IsRefusal reached → ⊥) → IfErr r (HasInspectedFor told path before after)
+asked_by (Ok a) P Q told path before after is none = tt
+asked_by (Err reached) P Q told path before after is none = λ refusal same. absurd (none reached is (subst IsRefusal (sym same) tt))
