@@ -1,9 +1,10 @@
 //! From the paths of two projects to their jobs.
-ghost use Rattle.std.specs.Prelude.{◌≡◌, ◌≢◌, ◌≤◌, ◌⊎◌, Err, MatchResult};
+ghost use Rattle.std.specs.Prelude.{◌≡◌, ◌≢◌, ◌≤◌, ◌⊎◌, Err, IfErr, MatchResult};
 ghost use Rattle.cf_base.specs.Count.{HasRisen};
 ghost use Rattle.conform_job.specs.Answers.{AreInfosOf};
 ghost use Rattle.outcome_line.specs.Output.{line_of};
-ghost use Rattle.project_run.specs.Run.{disk_state};
+ghost use Rattle.project_job.specs.Asked.{HasInspectedFor};
+ghost use Rattle.project_run.specs.Run.{IsLeftAlone, disk_state};
 ghost use Rattle.project_adopt.specs.Adopt.{GoesOn, IsAdoptReply, IsJobOver, IsOfAdopt};
 
 use crate::reels::adopt_jobs;
@@ -42,6 +43,7 @@ pub fn adopt<S: Scans, D: Disk>(
     ensures steady { result ≢ Err Outcome.SourceFault → S.faults scan.new ≡ S.faults scan.old }
     ensures later { S.faults scan.old ≤ S.faults scan.new }
     ensures world { S.world scan.new ≡ S.world scan.old }
+    ensures refused_heads { IfErr result (HasInspectedFor (S.world scan.old) path.now (S.heads scan.old) (S.heads scan.new)) }
     ensures same { S.same scan.old scan.new }
 
     ensures disk_fault { result ≡ Err Outcome.DiskFault → HasRisen (D.faults old.old) (D.faults old.new) ⊎ HasRisen (D.faults disk.old) (D.faults disk.new) }
@@ -49,6 +51,9 @@ pub fn adopt<S: Scans, D: Disk>(
     ensures disk_later { D.faults disk.old ≤ D.faults disk.new }
     ensures old_steady { result ≢ Err Outcome.DiskFault → D.faults old.new ≡ D.faults old.old }
     ensures old_later { D.faults old.old ≤ D.faults old.new }
+    ensures old_same { D.same old.old old.new }
+    ensures untouched { IfErr result (IsLeftAlone disk.old disk.new) }
+    ensures old_untouched { IfErr result (IsLeftAlone old.old old.new) }
 {
     let job = match planned(alloc, path, scan) {
         Ok(job) => job,
@@ -87,6 +92,9 @@ fn adopt_onto<S: Scans, D: Disk>(
     ensures disk_later { D.faults disk.old ≤ D.faults disk.new }
     ensures old_steady { result ≢ Err Outcome.DiskFault → D.faults old.new ≡ D.faults old.old }
     ensures old_later { D.faults old.old ≤ D.faults old.new }
+    ensures old_same { D.same old.old old.new }
+    ensures untouched { IfErr result (IsLeftAlone disk.old disk.new) }
+    ensures old_untouched { IfErr result (IsLeftAlone old.old old.new) }
 {
     let old_job = match planned(alloc, old_path, scan) {
         Ok(job) => job,

@@ -59,6 +59,7 @@ pub(crate) fn adopt_jobs<S: Scans, D: Disk>(
     ensures disk_later { D.faults disk.old ≤ D.faults disk.new }
     ensures old_steady { result ≢ Err Outcome.DiskFault → D.faults old.new ≡ D.faults old.old }
     ensures old_later { D.faults old.old ≤ D.faults old.new }
+    ensures old_same { D.same old.old old.new }
 {
     adopt_and_run::<Brand, Brand, S, D>(alloc, job, old_job, scan, disk, old)
 }
@@ -97,6 +98,7 @@ fn adopt_and_run<N: Work, O: Work, S: Scans, D: Disk>(
     ensures disk_later { D.faults disk.old ≤ D.faults disk.new }
     ensures old_steady { result ≢ Err Outcome.DiskFault → D.faults old.new ≡ D.faults old.old }
     ensures old_later { D.faults old.old ≤ D.faults old.new }
+    ensures old_same { D.same old.old old.new }
 {
     match reconform::adopt::<N, O, D>(alloc, job, old_job, old, disk) {
         Ok(done) => run_rest(alloc, job, done, scan, disk),

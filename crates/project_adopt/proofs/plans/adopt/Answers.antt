@@ -2,6 +2,8 @@
 use Rattle.std.proofs.Common.{inr, refl}
 use Rattle.project_run.proofs.Runs.{match_each}
 use Rattle.project_adopt.proofs.Planning.{job_adopts, job_in}
+use Rattle.outcome_line.specs.Output.{line_of}
+use Rattle.project_adopt.proofs.Leaving.{asked_onward}
 use Rattle.project_adopt.proofs.plans.adopt.Goals as goal
 
 pub returns-clause-folders : goal.returns-clause-folders
@@ -14,9 +16,13 @@ pub returns-in-Err-clause-folders : goal.returns-in-Err-clause-folders
 returns-in-Err-clause-folders g c =
     let planned = c.in-Err.ensures in
     inr (record {
-      unplanned = record { why = planned.told; kind = planned.kind; untouched = refl; texts = planned.loads };
+      unplanned = record { why = planned.told; kind = planned.kind; untouched = refl; texts = planned.loads; refused = planned.refused };
       untouched = refl;
     })
 
 pub returns-in-Err-clause-kind : goal.returns-in-Err-clause-kind
 returns-in-Err-clause-kind g c = job_adopts _ c.in-Err.ensures.kind
+
+pub returns-clause-refused_heads : goal.returns-clause-refused_heads
+returns-clause-refused_heads g c =
+    asked_onward _ _ c.in-Ok.job (g.S.Scans.world c.args.scan.now) (g.S.Scans.world c.planned.new.scan) c.args.path.now c.args.old_path.now _ _ _ _ _ _ _ _ line_of c.adopt_onto-reply.ensures.folders

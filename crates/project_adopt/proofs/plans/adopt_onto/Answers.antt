@@ -3,6 +3,8 @@ use Rattle.std.proofs.Common.{inr, refl, sym, subst}
 use Rattle.project_run.proofs.Runs.{match_each}
 use Rattle.project_adopt.specs.Adopt.{IsJobOver, IsOfAdopt}
 use Rattle.project_adopt.proofs.Planning.{adopted_in, all_three, is_over, old_adopts}
+use Rattle.project_run.proofs.Leaving.{left_by}
+use Rattle.project_adopt.proofs.Leaving.{adoption_unrefused}
 use Rattle.project_adopt.proofs.plans.adopt_onto.Goals as goal
 
 pub adopt_jobs-reply-requires-clause-over : goal.adopt_jobs-reply-requires-clause-over
@@ -25,9 +27,15 @@ returns-in-Err-clause-folders g c =
     inr (record {
       found = c.in-Err.outcome;
       reached_is = c.of_old_project.ensures;
-      unplanned = record { why = planned.told; kind = planned.kind; untouched = refl; texts = planned.loads };
+      unplanned = record { why = planned.told; kind = planned.kind; untouched = refl; texts = planned.loads; refused = planned.refused };
       untouched = refl;
     })
 
 pub returns-in-Err-clause-kind : goal.returns-in-Err-clause-kind
 returns-in-Err-clause-kind g c = subst IsOfAdopt (sym c.of_old_project.ensures) (old_adopts c.in-Err.outcome c.in-Err.ensures.kind)
+
+pub returns-clause-untouched : goal.returns-clause-untouched
+returns-clause-untouched g c = left_by _ _ _ _ _ c.adopt_jobs-reply.ensures.went (λ reached went. adoption_unrefused _ _ _ _ _ _ _ _ _ _ _ went)
+
+pub returns-clause-old_untouched : goal.returns-clause-old_untouched
+returns-clause-old_untouched g c = left_by _ _ _ _ _ c.adopt_jobs-reply.ensures.went (λ reached went. adoption_unrefused _ _ _ _ _ _ _ _ _ _ _ went)
