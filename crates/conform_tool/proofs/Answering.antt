@@ -15,7 +15,7 @@ use Rattle.reconform.specs.declared.adopting.AdoptFault.TheVariants as fault
 use Rattle.project_run.specs.Look.{HasFound, HasSeen, IsLookReply, outcome_of_fault}
 use Rattle.project_run.specs.Sheet.{HasSheet}
 use Rattle.project_run.specs.Quality.{IsCounted}
-use Rattle.project_run.specs.Run.{DiskState, IsJobRun, IsRunReply, IsUnplanned}
+use Rattle.project_run.specs.Run.{DiskState, IsJobRun, IsRefusal, IsRunReply, IsUnplanned}
 use Rattle.project_run.specs.Status.{IsStatus}
 use Rattle.project_run.specs.Verify.{IsChecked}
 use Rattle.conform_job.specs.Job.{JobData}
@@ -29,7 +29,7 @@ use Rattle.command_words.specs.declared.command.Command.TheVariants as commands
 use Rattle.outcome_line.specs.declared.outcome.Outcome.{Outcome}
 use Rattle.outcome_line.specs.declared.outcome.Outcome.TheVariants as outcomes
 use Rattle.command_words.proofs.Commands.{one_spelled}
-use Rattle.conform_tool.proofs.Replies.{memory_right, told_any}
+use Rattle.conform_tool.proofs.Replies.{heads_instead, loads_instead, memory_right, told_any}
 
 -- what was found of the words
 pub none_found : (words : List (List ℕ)) (found : Option Command) → found ≡ None
@@ -87,7 +87,7 @@ made_apart outcome made = (λ same. subst IsMade same made, λ same. subst IsMad
 -- the folder of an outcome whose line found no memory
 none_instead : (told : Option World) (path : List ℕ) (disk disk_after : DiskState) (loads loads_after : ℕ) (reached : Outcome)
     → IsUnplanned told path disk disk_after loads loads_after reached → IsUnplanned told path disk disk_after loads loads_after outcomes.NoMemory
-none_instead told path disk disk_after loads loads_after reached none = record { why = told_any told (λ world. tt); kind = tt; untouched = none.untouched; texts = none.texts }
+none_instead told path disk disk_after loads loads_after reached none = record { why = told_any told (λ world. tt); kind = tt; untouched = none.untouched; texts = none.texts; refused = λ refusal same. absurd (cc) }
 
 ran_instead : {share : ℕ} (job : JobData) (told : Option World) (disk disk_after : DiskState) (loads loads_after : ℕ) (reached : Outcome) (output : List ℕ)
     → IsJobRun job told share disk disk_after loads loads_after reached output → IsJobRun job told share disk disk_after loads loads_after outcomes.NoMemory (line_of outcomes.NoMemory)
@@ -288,8 +288,8 @@ or_no_memory command before after folders folders_after outcome output made whol
     source_fault = λ same. absurd (cc);
     steady = λ _. whole.reply.steady (made_apart outcome made).0;
     later = whole.reply.later;
-    loads = whole.reply.loads;
-    heads = whole.reply.heads;
+    loads = loads_instead command before after outcome whole.reply.loads;
+    heads = heads_instead command before after outcome whole.reply.heads;
     world = whole.reply.world;
   };
   folder = folder_instead _ command before after folders folders_after outcome output whole.folder;
@@ -308,3 +308,14 @@ answered_line words command scan scan_after folders folders_after sink sink_afte
     answered_by words command scan scan_after folders folders_after sink sink_after result _ _ spelled whole put
 answered_line words command scan scan_after folders folders_after sink sink_after result reached spelled whole (inr put) =
     answered_by words command scan scan_after folders folders_after sink sink_after result _ _ spelled (or_no_memory command scan scan_after folders folders_after reached _ put.0 whole) put.1
+
+-- what is answered of a refusal is that refusal
+pub put_refused : (sink sink_after : SinkState) (outcome result : Outcome) → IsLinePut sink sink_after outcome result → IsRefusal result → IsRefusal outcome
+put_refused sink sink_after outcome result (inl (inl put)) refused = subst IsRefusal put.0 refused
+put_refused sink sink_after outcome result (inl (inr put)) refused = absurd (subst IsRefusal put.0 refused)
+put_refused sink sink_after outcome result (inr (_, inl put)) refused = absurd (subst IsRefusal put.0 refused)
+put_refused sink sink_after outcome result (inr (_, inr put)) refused = absurd (subst IsRefusal put.0 refused)
+
+pub done_unrefused : (sink sink_after : SinkState) (output : List ℕ) (result : Outcome) → IsPut sink sink_after outcomes.Done output result → IsRefusal result → ⊥
+done_unrefused sink sink_after output result (inl put) refused = subst IsRefusal put.0 refused
+done_unrefused sink sink_after output result (inr put) refused = subst IsRefusal put.0 refused

@@ -1,5 +1,5 @@
 -- From a crew, and from a reply on one thread, to the answer of the top call.
-use Rattle.std.proofs.Common.{◌≡◌, ℕ, ◌≤◌, List, Vec, Option, Some, None, Result, Ok, Err, MatchResult, refl, sym, ◌∙◌, ap, subst, inl, inr}
+use Rattle.std.proofs.Common.{◌≡◌, ℕ, ◌≤◌, List, Vec, Option, Some, None, Result, Ok, Err, IfErr, MatchResult, refl, sym, ◌∙◌, ap, subst, inl, inr}
 use Rattle.std.specs.declared.alloc.Global.{Global}
 use Rattle.std.proofs.lemmas.Option.{same_Some}
 use Rattle.cf_base.specs.Count.{HasRisen}
@@ -12,8 +12,9 @@ use Rattle.outcome_line.specs.Output.{line_of, IsMade}
 use Rattle.outcome_line.specs.declared.outcome.Outcome.{Outcome}
 use Rattle.outcome_line.specs.declared.outcome.Outcome.TheVariants as outcomes
 use Rattle.project_run.specs.Crew.{HasFailed, IsCrewReply, told_by}
-use Rattle.project_run.specs.Run.{DiskState, IsOfRun}
+use Rattle.project_run.specs.Run.{DiskState, IsLeftAlone, IsOfRun}
 use Rattle.conform_tool.specs.Answer.{SinkState, IsFoundIn, IsPut, IsLinePut}
+use Rattle.conform_tool.proofs.Answering.{done_unrefused, put_refused}
 use Rattle.conform_tool.proofs.Replies.{told_any}
 use Rattle.conform_tool.specs.Conform.{CrewAnswered, IsAlone, IsCrewed}
 
@@ -50,7 +51,11 @@ module _ {S : Type 0} (world : S → Option World) (faults loads : S → ℕ) (s
     untouched = uncrewed.untouched;
     size = uncrewed.size;
     texts = uncrewed.texts;
+    refused = λ scan refusal same. absurd (cc);
     steady = λ other. uncrewed.steady (λ is. subst IsMade is made);
+    later = uncrewed.later;
+    told = uncrewed.told;
+    lent = uncrewed.lent;
     others = uncrewed.others;
   })
 
@@ -122,6 +127,13 @@ module _ {S : Type 0} (world : S → Option World) (faults loads : S → ℕ) (s
     crewed = inr (record { reached_is = refl; line = refl; untouched_scans = untouched_scans; untouched_disk = untouched_disk });
   }
   crew_unread sink sink_after result untouched_scans untouched_disk (inr put) = absurd put.0
+
+-- what a refusal leaves alone, by the answer that was put
+pub put_left : {D : Type 0} (r : Result (Vec ℕ Global) Outcome) (sink sink_after : SinkState) (result : Outcome) (before after : D)
+    → MatchResult r (λ output. IsPut sink sink_after outcomes.Done output.items result) (λ outcome. IsLinePut sink sink_after outcome result)
+    → IfErr r (IsLeftAlone before after) → IsLeftAlone before after result
+put_left (Ok text) sink sink_after result before after put left = λ refused. absurd (done_unrefused sink sink_after text.items result put refused)
+put_left (Err outcome) sink sink_after result before after put left = λ refused. left (put_refused sink sink_after outcome result put refused)
 
 -- words spell what was found of them, and nothing else
 spelled_found : (words : List (List ℕ)) (found : Option Command) (command : Command) → IsFoundIn words found → Spells words command → found ≡ Some command

@@ -96,8 +96,8 @@ pub reply_of : (command : Command) (before after : ScanState) (reached : Outcome
     → (reached ≢ Done → output ≡ line_of reached)
     → (reached ≡ SourceFault → HasRisen before.faults after.faults)
     → (reached ≢ SourceFault → after.faults ≡ before.faults)
-    → before.faults ≤ after.faults → HasLoaded command before.loads after.loads
-    → LooksAtHeads command before.heads after.heads → after.world ≡ before.world
+    → before.faults ≤ after.faults → HasLoaded command before after reached
+    → LooksAtHeads command before after reached → after.world ≡ before.world
     → IsReply command before after reached output
 reply_of command before after reached output kind right line cause steady later loads heads world = record {
   right = right;
@@ -223,3 +223,30 @@ replied_verify path (outcomes.OldOtherJob kept wanted) kind = absurd kind
 replied_verify path (outcomes.OldBadLedger len) kind = absurd kind
 replied_verify path (outcomes.Changed reel key was now) kind = absurd kind
 replied_verify path other kind = tt
+
+-- an outcome whose line found no memory refuses nothing
+pub loads_instead : (command : Command) (before after : ScanState) (reached : Outcome) → HasLoaded command before after reached → HasLoaded command before after NoMemory
+loads_instead (commands.Frame path) before after reached loads = loads
+loads_instead (commands.List path rate) before after reached loads = loads
+loads_instead (commands.Plan path) before after reached loads = record { texts = loads.texts; refused = λ refusal same. absurd (cc) }
+loads_instead (commands.Run path workers share) before after reached loads = tt
+loads_instead (commands.Status path) before after reached loads = tt
+loads_instead (commands.Verify path) before after reached loads = tt
+loads_instead (commands.Qc path) before after reached loads = tt
+loads_instead (commands.Sheet path) before after reached loads = tt
+loads_instead (commands.Adopt path old_path) before after reached loads = tt
+loads_instead (commands.Pull path margin) before after reached loads = record { texts = loads.texts; refused = λ refusal same. absurd (cc) }
+loads_instead (commands.Demo count) before after reached loads = loads
+
+pub heads_instead : (command : Command) (before after : ScanState) (reached : Outcome) → LooksAtHeads command before after reached → LooksAtHeads command before after NoMemory
+heads_instead (commands.Frame path) before after reached heads = heads
+heads_instead (commands.List path rate) before after reached heads = heads
+heads_instead (commands.Plan path) before after reached heads = λ refusal same. absurd (cc)
+heads_instead (commands.Run path workers share) before after reached heads = λ refusal same. absurd (cc)
+heads_instead (commands.Status path) before after reached heads = λ refusal same. absurd (cc)
+heads_instead (commands.Verify path) before after reached heads = λ refusal same. absurd (cc)
+heads_instead (commands.Qc path) before after reached heads = λ refusal same. absurd (cc)
+heads_instead (commands.Sheet path) before after reached heads = λ refusal same. absurd (cc)
+heads_instead (commands.Adopt path old_path) before after reached heads = λ refusal same. absurd (cc)
+heads_instead (commands.Pull path margin) before after reached heads = λ refusal same. absurd (cc)
+heads_instead (commands.Demo count) before after reached heads = heads

@@ -1,6 +1,7 @@
 -- What the top call answers and puts.
 --     SinkState, sink_state      what a sink tells at a moment, and its count
 --     IsUnread      an outcome that was reached before anything was read
+--     IsUncalled Calls words      the words spell no command that makes such calls
 --     Answered      the answer to these words, over one scan and the two folders, in this house
 use Rattle.std.specs.Prelude.{◌≡◌, ◌⊎◌, ℕ, List, Option, MatchOption}
 use Rattle.std.specs.Io.KnownBytes.{Appends}
@@ -42,6 +43,10 @@ pub record IsUnread (outcome : Outcome) (scan scan_after : ScanState) (folders f
 -- what the reading of the words found
 abbrev pub IsFoundIn : List (List ℕ) → Option Command → Type 0
 IsFoundIn words found = MatchOption found (IsNoCommand words) (λ command. Spells words command)
+
+-- the words spell no command that makes calls of this kind
+abbrev pub IsUncalled : (Command → Type 0) → List (List ℕ) → Type 0
+IsUncalled Calls words = (command : Command) → Spells words command → Calls command → ⊥
 
 -- Some outcome was reached, with its output, and was put.
 pub record Answered (house : House) (words : List (List ℕ)) (scan scan_after : ScanState) (folders folders_after : Folders) (sink sink_after : SinkState) (result : Outcome) : Type 0 where

@@ -15,6 +15,7 @@ use Rattle.conform_job.specs.Asks.{asks_of}
 use Rattle.conform_job.specs.Infos.{HasEachOnce}
 use Rattle.conform_job.specs.Refusals.{Files}
 use Rattle.conform_job.specs.declared.parts.JobParts.{JobParts}
+use Rattle.project_job.specs.Asked.{HasInspectedFor, HasLoadedFor}
 use Rattle.project_job.specs.Jobs.{AreLoaded, ComesTo}
 use Rattle.printed_tables.specs.Plan.{plan_of}
 use Rattle.printed_tables.specs.Pull.{pull_of}
@@ -122,34 +123,43 @@ IsRight (commands.Adopt path old_path) reached output before after = Unit {0}
 IsRight (commands.Pull path margin) reached output before after = IfSome before.world (λ world. IsJobReply (IsPullForm margin) (file_at world) path reached output before after)
 IsRight (commands.Demo count) reached output before after = IsDemoReply count reached output
 
+-- the texts of a project, and of a refused one those up to the one that has the fault
+pub record IsJobLoaded (path : List ℕ) (before after : ScanState) (reached : Outcome) : Type 0 where
+  pub texts : AreLoaded 1 3 before.loads after.loads
+  pub refused : HasLoadedFor before.world path before.loads after.loads reached
+
 -- What a command loads: the one file, or a project, its list and its cube, or nothing. What the commands load that make calls on
 -- a folder is said with it.
-abbrev pub HasLoaded : Command → ℕ → ℕ → Type 0
-HasLoaded (commands.Frame path) before after = after ≡ one_more before
-HasLoaded (commands.List path rate) before after = after ≡ one_more before
-HasLoaded (commands.Plan path) before after = AreLoaded 1 3 before after
-HasLoaded (commands.Run path workers share) before after = Unit {0}
-HasLoaded (commands.Status path) before after = Unit {0}
-HasLoaded (commands.Verify path) before after = Unit {0}
-HasLoaded (commands.Qc path) before after = Unit {0}
-HasLoaded (commands.Sheet path) before after = Unit {0}
-HasLoaded (commands.Adopt path old_path) before after = Unit {0}
-HasLoaded (commands.Pull path margin) before after = AreLoaded 1 3 before after
-HasLoaded (commands.Demo count) before after = after ≡ before
+abbrev pub HasLoaded : Command → ScanState → ScanState → Outcome → Type 0
+HasLoaded (commands.Frame path) before after reached = after.loads ≡ one_more before.loads
+HasLoaded (commands.List path rate) before after reached = after.loads ≡ one_more before.loads
+HasLoaded (commands.Plan path) before after reached = IsJobLoaded path before after reached
+HasLoaded (commands.Run path workers share) before after reached = Unit {0}
+HasLoaded (commands.Status path) before after reached = Unit {0}
+HasLoaded (commands.Verify path) before after reached = Unit {0}
+HasLoaded (commands.Qc path) before after reached = Unit {0}
+HasLoaded (commands.Sheet path) before after reached = Unit {0}
+HasLoaded (commands.Adopt path old_path) before after reached = Unit {0}
+HasLoaded (commands.Pull path margin) before after reached = IsJobLoaded path before after reached
+HasLoaded (commands.Demo count) before after reached = after.loads ≡ before.loads
+
+-- of a refused project no head is asked for before the frames of its job are judged
+abbrev pub AreJobHeads : List ℕ → ScanState → ScanState → Outcome → Type 0
+AreJobHeads path before after reached = HasInspectedFor before.world path before.heads after.heads reached
 
 -- The one file's head isn't looked at by itself, and `demo` looks at none.
-abbrev pub LooksAtHeads : Command → ℕ → ℕ → Type 0
-LooksAtHeads (commands.Frame path) before after = after ≡ before
-LooksAtHeads (commands.List path rate) before after = after ≡ before
-LooksAtHeads (commands.Plan path) before after = Unit {0}
-LooksAtHeads (commands.Run path workers share) before after = Unit {0}
-LooksAtHeads (commands.Status path) before after = Unit {0}
-LooksAtHeads (commands.Verify path) before after = Unit {0}
-LooksAtHeads (commands.Qc path) before after = Unit {0}
-LooksAtHeads (commands.Sheet path) before after = Unit {0}
-LooksAtHeads (commands.Adopt path old_path) before after = Unit {0}
-LooksAtHeads (commands.Pull path margin) before after = Unit {0}
-LooksAtHeads (commands.Demo count) before after = after ≡ before
+abbrev pub LooksAtHeads : Command → ScanState → ScanState → Outcome → Type 0
+LooksAtHeads (commands.Frame path) before after reached = after.heads ≡ before.heads
+LooksAtHeads (commands.List path rate) before after reached = after.heads ≡ before.heads
+LooksAtHeads (commands.Plan path) before after reached = AreJobHeads path before after reached
+LooksAtHeads (commands.Run path workers share) before after reached = AreJobHeads path before after reached
+LooksAtHeads (commands.Status path) before after reached = AreJobHeads path before after reached
+LooksAtHeads (commands.Verify path) before after reached = AreJobHeads path before after reached
+LooksAtHeads (commands.Qc path) before after reached = AreJobHeads path before after reached
+LooksAtHeads (commands.Sheet path) before after reached = AreJobHeads path before after reached
+LooksAtHeads (commands.Adopt path old_path) before after reached = AreJobHeads path before after reached
+LooksAtHeads (commands.Pull path margin) before after reached = AreJobHeads path before after reached
+LooksAtHeads (commands.Demo count) before after reached = after.heads ≡ before.heads
 
 -- the command makes calls on the folder of the reel
 abbrev pub CallsDisk : Command → Type 0
@@ -202,8 +212,8 @@ pub record IsReply (command : Command) (before after : ScanState) (reached : Out
   -- the scan: it fails in no other case
   pub steady : reached ≢ SourceFault → after.faults ≡ before.faults
   pub later : before.faults ≤ after.faults
-  pub loads : HasLoaded command before.loads after.loads
-  pub heads : LooksAtHeads command before.heads after.heads
+  pub loads : HasLoaded command before after reached
+  pub heads : LooksAtHeads command before after reached
   pub world : after.world ≡ before.world
 
 -- A run did to the folder what it is to do, `adopt` took over frames and ran the rest, `status`, `verify` and `qc` looked at the

@@ -1,10 +1,10 @@
 //! The command `adopt`.
-ghost use Rattle.std.specs.Prelude.{◌≡◌, ◌≢◌, ◌⊎◌, ◌≤◌, Err, MatchResult};
+ghost use Rattle.std.specs.Prelude.{◌≡◌, ◌≢◌, ◌⊎◌, ◌≤◌, Err, IfErr, MatchResult};
 ghost use Rattle.cf_base.specs.Count.{HasRisen};
 ghost use Rattle.outcome_line.specs.Output.{line_of};
 ghost use Rattle.conform_tool.specs.Reply.{IsReply, scan_state};
 ghost use Rattle.project_adopt.specs.Adopt.{IsAdoptReply};
-ghost use Rattle.project_run.specs.Run.{disk_state};
+ghost use Rattle.project_run.specs.Run.{IsLeftAlone, disk_state};
 ghost use Rattle.command_words.specs.declared.command.Command.TheVariants as commands;
 
 use cf_base::PathText;
@@ -34,6 +34,9 @@ pub fn adopt<S: Scans, D: Disk>(
     ensures old_steady { result ≢ Err Outcome.DiskFault → D.faults old.new ≡ D.faults old.old }
     ensures disk_later { D.faults disk.old ≤ D.faults disk.new }
     ensures old_later { D.faults old.old ≤ D.faults old.new }
+    ensures untouched { IfErr result (IsLeftAlone disk.old disk.new) }
+    ensures old_untouched { IfErr result (IsLeftAlone old.old old.new) }
+    ensures old_same { D.same old.old old.new }
     ensures same { S.same scan.old scan.new }
 {
     match project_adopt::adopt(alloc, path, old_path, scan, disk, old) {

@@ -1,14 +1,15 @@
 //! A command on one thread, and what is put for it.
-ghost use Rattle.std.specs.Prelude.{◌≡◌, ◌≤◌, ℕ, List, length, map, Some, IfSome, MatchResult};
+ghost use Rattle.std.specs.Prelude.{◌≡◌, ◌≤◌, ℕ, List, length, map, Some, IfSome, MatchResult, IfErr};
 ghost use Rattle.conform_job.specs.Job.{JobData};
 ghost use Rattle.scan_source.specs.World.{World};
 ghost use Rattle.reel_disk.specs.Disk.{view_of};
-ghost use Rattle.conform_tool.specs.Answer.{Answered, IsFoundIn, IsPut, IsLinePut, sink_state};
+ghost use Rattle.conform_tool.specs.Answer.{Answered, IsFoundIn, IsLinePut, IsPut, IsUncalled, sink_state};
 ghost use Rattle.conform_tool.specs.Complete.{IsAccepted, HasNotRisen, IsComplete, IsUnfailed};
 ghost use Rattle.conform_tool.specs.Headline.{AdoptsJob, RunsJob, KeepsItsPromise, HasEnded};
 ghost use Rattle.outcome_line.specs.Output.{line_of};
-ghost use Rattle.conform_tool.specs.Reply.{IsWholeReply, folders_of, house_of, scan_state};
-ghost use Rattle.command_words.specs.Commands.{HasCounts, Spells};
+ghost use Rattle.conform_tool.specs.Reply.{CallsDisk, CallsOld, IsWholeReply, folders_of, house_of, scan_state};
+ghost use Rattle.command_words.specs.Commands.{HasCounts, IsNoCommand, Spells};
+ghost use Rattle.project_run.specs.Run.{IsLeftAlone};
 
 use crate::adoption::adopt;
 use crate::contact::sheet;
@@ -53,6 +54,14 @@ pub fn answer<S: Scans, D: Disk, K: Sink>(
     ensures later { K.faults out.old ≤ K.faults out.new }
     ensures same { S.same scan.old scan.new }
 
+    // What is left alone is the very disk, or the very scan.
+    ensures untouched { IsLeftAlone disk.old disk.new result }
+    ensures old_untouched { IsLeftAlone old.old old.new result }
+    ensures no_call { IsUncalled CallsDisk (map (λ w. w.now) words.now) → disk.new ≡ disk.old }
+    ensures no_old_call { IsUncalled CallsOld (map (λ w. w.now) words.now) → old.new ≡ old.old }
+    ensures unread { IsNoCommand (map (λ w. w.now) words.now) → scan.new ≡ scan.old }
+    ensures old_same { D.same old.old old.new }
+
     // The headline.
     ensures headline { (world : World) (job : JobData) → RunsJob (map (λ w. w.now) words.now) (S.world scan.old) D.tells world job
         → KeepsItsPromise job world (D.history disk.old) (D.history disk.new) (HasEnded result) }
@@ -95,6 +104,12 @@ pub(crate) fn answer_found<S: Scans, D: Disk, K: Sink, C: Counter>(
         (sink_state K.written K.faults out.old) (sink_state K.written K.faults out.new) result }
     ensures later { K.faults out.old ≤ K.faults out.new }
     ensures same { S.same scan.old scan.new }
+    ensures untouched { IsLeftAlone disk.old disk.new result }
+    ensures old_untouched { IsLeftAlone old.old old.new result }
+    ensures no_call { (words : List (List ℕ)) → IsFoundIn words found → IsUncalled CallsDisk words → disk.new ≡ disk.old }
+    ensures no_old_call { (words : List (List ℕ)) → IsFoundIn words found → IsUncalled CallsOld words → old.new ≡ old.old }
+    ensures unread { (words : List (List ℕ)) → IsFoundIn words found → IsNoCommand words → scan.new ≡ scan.old }
+    ensures old_same { D.same old.old old.new }
 {
     let Some(command) = found else {
         return put_line(alloc, &Outcome::Usage, out);
@@ -122,6 +137,11 @@ fn carried_out<S: Scans, D: Disk, C: Counter>(
         (λ output. IsWholeReply (house_of (map (λ p. p.kind) probes.now) tone.now.table) command.now (scan_state S.world S.faults S.loads S.heads scan.old) (scan_state S.world S.faults S.loads S.heads scan.new) (folders_of D.tells D.history D.faults disk.old old.old) (folders_of D.tells D.history D.faults disk.new old.new) Outcome.Done output.items)
         (λ outcome. IsWholeReply (house_of (map (λ p. p.kind) probes.now) tone.now.table) command.now (scan_state S.world S.faults S.loads S.heads scan.old) (scan_state S.world S.faults S.loads S.heads scan.new) (folders_of D.tells D.history D.faults disk.old old.old) (folders_of D.tells D.history D.faults disk.new old.new) outcome (line_of outcome)) }
     ensures same { S.same scan.old scan.new }
+    ensures untouched { IfErr result (IsLeftAlone disk.old disk.new) }
+    ensures old_untouched { IfErr result (IsLeftAlone old.old old.new) }
+    ensures no_call { (CallsDisk command.now → ⊥) → disk.new ≡ disk.old }
+    ensures no_old_call { (CallsOld command.now → ⊥) → old.new ≡ old.old }
+    ensures old_same { D.same old.old old.new }
 {
     match command {
         Command::Frame(path) => frame(alloc, path, scan),

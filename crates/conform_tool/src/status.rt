@@ -1,9 +1,9 @@
 //! The command `status`.
-ghost use Rattle.std.specs.Prelude.{◌≡◌, ◌≢◌, ◌≤◌, Err, MatchResult};
+ghost use Rattle.std.specs.Prelude.{◌≡◌, ◌≢◌, ◌≤◌, Err, IfErr, MatchResult};
 ghost use Rattle.cf_base.specs.Count.{HasRisen};
 ghost use Rattle.outcome_line.specs.Output.{line_of};
 ghost use Rattle.conform_tool.specs.Reply.{IsReply, scan_state};
-ghost use Rattle.project_run.specs.Run.{disk_state};
+ghost use Rattle.project_run.specs.Run.{IsLeftAlone, disk_state};
 ghost use Rattle.project_run.specs.Status.{IsStatusReply};
 ghost use Rattle.command_words.specs.declared.command.Command.TheVariants as commands;
 
@@ -30,6 +30,7 @@ pub fn status<S: Scans, D: Disk>(
     ensures disk_fault { result ≡ Err Outcome.DiskFault → HasRisen (D.faults disk.old) (D.faults disk.new) }
     ensures disk_steady { result ≢ Err Outcome.DiskFault → D.faults disk.new ≡ D.faults disk.old }
     ensures disk_later { D.faults disk.old ≤ D.faults disk.new }
+    ensures untouched { IfErr result (IsLeftAlone disk.old disk.new) }
     ensures same { S.same scan.old scan.new }
 {
     match project_run::status(alloc, path, scan, disk) {

@@ -4,14 +4,14 @@ ghost use Rattle.command_words.specs.Commands.{HasCounts, Spells};
 ghost use Rattle.command_words.specs.Lines.{HasCount};
 ghost use Rattle.command_words.specs.declared.command.Command.TheVariants as commands;
 ghost use Rattle.reel_disk.specs.Disk.{view_of};
-ghost use Rattle.conform_tool.specs.Answer.{Answered, IsFoundIn, sink_state};
+ghost use Rattle.conform_tool.specs.Answer.{Answered, IsFoundIn, IsUncalled, sink_state};
 ghost use Rattle.conform_tool.specs.Conform.{CrewAnswered, IsAlone};
 ghost use Rattle.conform_tool.specs.Complete.{IsAccepted, HasNotRisen, IsComplete, IsUnfailed};
 ghost use Rattle.conform_tool.specs.Headline.{AdoptsJob, RunsJob, KeepsItsPromise, HasEnded};
-ghost use Rattle.conform_tool.specs.Reply.{folders_of, house_of, scan_state};
+ghost use Rattle.conform_tool.specs.Reply.{CallsDisk, CallsOld, folders_of, house_of, scan_state};
 ghost use Rattle.conform_job.specs.Job.{JobData};
 ghost use Rattle.project_run.specs.Crew.{HasFailed, told_by};
-ghost use Rattle.project_run.specs.Run.{disk_state};
+ghost use Rattle.project_run.specs.Run.{IsLeftAlone, disk_state};
 ghost use Rattle.scan_source.specs.World.{World};
 
 use crate::one_thread::{answer_found, put_line, put_result};
@@ -76,6 +76,13 @@ pub fn conform<S: Scans + Send, D: Disk + Send, K: Sink, R: Threads + Wait + Syn
     ensures handed_back { vec_len result.scans ≡ vec_len scans }
     ensures later { K.faults out.old ≤ K.faults out.new }
     ensures old_folder { (path : List ℕ) (workers share : ℕ) → Spells (map (λ w. w.now) words.now) (commands.Run path workers share) → 2 ≤ workers → old.new ≡ old.old }
+
+    // What is left alone is the very disk.
+    ensures untouched { IsLeftAlone disk result.disk result.outcome }
+    ensures old_untouched { IsLeftAlone old.old old.new result.outcome }
+    ensures no_call { IsUncalled CallsDisk (map (λ w. w.now) words.now) → result.disk ≡ disk }
+    ensures no_old_call { IsUncalled CallsOld (map (λ w. w.now) words.now) → old.new ≡ old.old }
+    ensures old_same { D.same old.old old.new }
 
     // The headline, for any number of workers.
     ensures headline { (world : World) (job : JobData) → RunsJob (map (λ w. w.now) words.now) (told_by S.world scans.items) D.tells world job
@@ -174,6 +181,7 @@ fn by_crew<S: Scans + Send, D: Disk + Send, K: Sink, R: Threads + Wait + Sync>(
         (sink_state K.written K.faults out.old) (sink_state K.written K.faults out.new) result.outcome }
     ensures handed_back { vec_len result.scans ≡ vec_len scans }
     ensures later { K.faults out.old ≤ K.faults out.new }
+    ensures untouched { IsLeftAlone disk result.disk result.outcome }
 {
     let CrewEnded {
         result,
@@ -220,6 +228,11 @@ fn by_one<S: Scans, D: Disk, K: Sink, C: Counter>(
     ensures handed_back { vec_len result.scans ≡ vec_len scans }
     ensures same { (first last : S) → slice_get scans.items 0 ≡ Some first → slice_get result.scans.items 0 ≡ Some last → S.same first last }
     ensures later { K.faults out.old ≤ K.faults out.new }
+    ensures untouched { IsLeftAlone disk result.disk result.outcome }
+    ensures old_untouched { IsLeftAlone old.old old.new result.outcome }
+    ensures no_call { (words : List (List ℕ)) → IsFoundIn words found → IsUncalled CallsDisk words → result.disk ≡ disk }
+    ensures no_old_call { (words : List (List ℕ)) → IsFoundIn words found → IsUncalled CallsOld words → old.new ≡ old.old }
+    ensures old_same { D.same old.old old.new }
 {
     let outcome = answer_found(
         alloc,

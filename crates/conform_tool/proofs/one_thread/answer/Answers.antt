@@ -44,3 +44,12 @@ pub returns-in_default-clause-unfailed : goal.returns-in_default-clause-unfailed
 returns-in_default-clause-unfailed g c =
     answered_unfailed {house = house_of (map (λ p. p.kind) c.args.probes.now) c.args.tone.now.table} _ _ _ _ _ _ _ _
     (answered_unread _ (scan_state g.S.Scans.world g.S.Scans.faults g.S.Scans.loads g.S.Scans.heads c.args.scan.now) (folders_of g.D.Disk.tells g.D.Disk.history g.D.Disk.faults c.args.disk.now c.args.old.now) _ _ _ c.put_line.ensures.put)
+
+pub returns-clause-no_call : goal.returns-clause-no_call
+returns-clause-no_call g c = c.answer_found.ensures.no_call _ c.in-Ok.ensures.command
+
+pub returns-clause-no_old_call : goal.returns-clause-no_old_call
+returns-clause-no_old_call g c = c.answer_found.ensures.no_old_call _ c.in-Ok.ensures.command
+
+pub returns-clause-unread : goal.returns-clause-unread
+returns-clause-unread g c = c.answer_found.ensures.unread _ c.in-Ok.ensures.command

@@ -1,5 +1,6 @@
 -- A run with several workers is a crew's, and all else is not.
 use Rattle.std.proofs.Common.{◌≡◌, ◌∙◌, ◌≤◌, arith, length, refl, rules, subst, sym, vec_len}
+use Rattle.command_words.specs.declared.command.Command.TheVariants as commands
 use Rattle.project_run.specs.Run.{disk_state}
 use Rattle.conform_tool.specs.Reply.{folders_of}
 use Rattle.conform_tool.specs.Complete.{IsAccepted, IsComplete}
@@ -116,3 +117,14 @@ returns-in_default-clause-adopted g c world job adopts =
     crew_answered_promise c.job_laws.ensures.job g.S.Scans.world g.S.Scans.faults g.S.Scans.loads g.S.Scans.same adopts.path 2 c.args.scans.items c.args.scans.items disk disk _ _ _
     (crew_unread g.S.Scans.world g.S.Scans.faults g.S.Scans.loads g.S.Scans.same adopts.path 2 c.args.scans.items c.args.scans.items disk disk _ _ _ refl refl c.put_line-outcome.ensures.put)
     world job adopts.scans_tell adopts.disk_tells adopts.comes
+
+-- a run with several workers makes calls on the folder
+pub returns-in-Some-clause-no_call : goal.returns-in-Some-clause-no_call
+returns-in-Some-clause-no_call g c none =
+    absurd (none (commands.Run c.in-Some.crew.project c.in-Some.crew.workers c.in-Some.crew.share) (found_run _ _ _ _ _ c.in-Ok.ensures.command c.in-Some.ensures.0) tt)
+
+pub returns-in-None-clause-no_call : goal.returns-in-None-clause-no_call
+returns-in-None-clause-no_call g c = c.by_one.ensures.no_call _ c.in-Ok.ensures.command
+
+pub returns-in-None-clause-no_old_call : goal.returns-in-None-clause-no_old_call
+returns-in-None-clause-no_old_call g c = c.by_one.ensures.no_old_call _ c.in-Ok.ensures.command
