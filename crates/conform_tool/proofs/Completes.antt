@@ -1,5 +1,5 @@
 -- Completeness: where nothing stands in the way of a command and no count rose, all causes but want of memory are shut out.
-use Rattle.std.proofs.Common.{◌≡◌, ◌≢◌, ℕ, Bool, true, List, Option, Some, None, IfSome, MatchOption, MatchResult, Result, Ok, Err, refl, sym, ap, subst, ◌∙◌, inl, inr}
+use Rattle.std.proofs.Common.{◌≡◌, ◌≢◌, ℕ, Bool, true, min, List, length, Option, Some, None, IfSome, MatchOption, MatchResult, Result, Ok, Err, refl, sym, ap, subst, ◌∙◌, inl, inr}
 use Rattle.std.specs.Prelude.{◌⊎◌, IsOk, IsSomeAnd}
 use Rattle.std.proofs.lemmas.Option.{same_Some}
 use Rattle.cf_base.specs.declared.reel.ReelEntry.{ReelEntry}
@@ -263,12 +263,12 @@ module _ (laws : OneJob) (world : World) (path : List ℕ) (disk : DiskState) (p
   sheet_complete disk_after loads loads_after reached output (inr none) no_source no_disk = planned_complete laws told world path reached is (place.job, place.comes) none.why none.kind no_source
 
   -- the same of a crew's run
-  steps_complete : (log : List ShareStep) (job : JobData) (old new : History) (how : RunEnd) (report : Report) (tells : Bool) (steps : Option (List Step)) → tells ≡ true → IsFit job.parts.digest (frames_of job) (view_of old)
-      → MatchOption steps (IsUnstepped job tells old new how report log) (λ all. WasCrewed job told tells old new all how report log)
+  steps_complete : (log : List ShareStep) (count : ℕ) (job : JobData) (old new : History) (how : RunEnd) (report : Report) (tells : Bool) (steps : Option (List Step)) → tells ≡ true → IsFit job.parts.digest (frames_of job) (view_of old)
+      → MatchOption steps (IsUnstepped job tells old new how report log) (λ all. WasCrewed job told count tells old new all how report log)
       → how ≢ ends.SourceFault → how ≢ ends.DiskFault → (how ≡ ends.Done) ⊎ (how ≡ ends.NoMemory)
-  steps_complete log job old new how report tells None tell fit (inl refused) none_source none_disk = refused_complete job tells old new how tell fit refused.why none_disk
-  steps_complete log job old new how report tells None tell fit (inr unmade) none_source none_disk = inr unmade.no_memory
-  steps_complete log job old new how report tells (Some all) tell fit crewed none_source none_disk = opened_complete job told world how is crewed.is_end none_source none_disk
+  steps_complete log count job old new how report tells None tell fit (inl refused) none_source none_disk = refused_complete job tells old new how tell fit refused.why none_disk
+  steps_complete log count job old new how report tells None tell fit (inr unmade) none_source none_disk = inr unmade.no_memory
+  steps_complete log count job old new how report tells (Some all) tell fit crewed none_source none_disk = opened_complete job told world how is crewed.is_end none_source none_disk
 
 -- ---- an adoption
 
@@ -396,7 +396,7 @@ module _ (laws : OneJob) {S : Type 0} (world_of : S → Option World) (faults lo
     | inl reached_is ↦
         let reels = has.job.parts.reels in
         by_end reels has.ran.how reached reached_is
-        (steps_complete laws world path disk place (told_by world_of scans) is has.ran.log has.job disk.history disk_after.history has.ran.how has.ran.report disk.tells has.ran.steps place.tells
+        (steps_complete laws world path disk place (told_by world_of scans) is has.ran.log (min workers (length has.planned)) has.job disk.history disk_after.history has.ran.how has.ran.report disk.tells has.ran.steps place.tells
         (fit_for laws world path disk place (told_by world_of scans) is has.job has.comes) has.ran.ran
         (λ source. no_source (reached_is ∙ ap (outcome_of_end reels) source)) (λ failed. no_disk (reached_is ∙ ap (outcome_of_end reels) failed)))
     | inr memory ↦ inr memory

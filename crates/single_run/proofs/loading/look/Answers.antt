@@ -1,4 +1,4 @@
-use Rattle.std.proofs.Common.{◌≡◌, ℕ, List, refl, ◌∙◌, ap, subst}
+use Rattle.std.proofs.Common.{◌≡◌, ◌≤◌, ℕ, List, min, length, refl, ◌∙◌, ap, subst, arith}
 use Rattle.std.specs.Prelude.{None, IfSome}
 use Rattle.dpx_header.specs.Frame.{need_of}
 use Rattle.dpx_header.specs.Reading.{info_of}
@@ -19,6 +19,13 @@ returns-in-Got-clause-changed g c =
     c.seen_in.result (c.seen_in.ensures.seen ∙ ap (λ (l : List ℕ). seen_by (info_of (first_bytes 2048 l) c.in-Got.len)) c.deref.ensures.value)
     (told_here _ _ (λ world. IsLoaded (loaded.Got c.in-Got.len) (file_at world c.path_of-path.result) (need_of c.args.info) c.load.new.into.items) c.requires.files
     (subst (λ (n : ℕ). IfSome (g.S.Scans.world c.args.scan.now) (λ world. IsLoaded (loaded.Got c.in-Got.len) (file_at world c.path_of-path.result) n c.load.new.into.items)) c.need.ensures c.in-Got.ensures.told))
+
+pub returns-in-Got-clause-whole : goal.returns-in-Got-clause-whole
+returns-in-Got-clause-whole g c same =
+    let most = c.need.ensures in
+    let read = c.in-Got.ensures.fills in
+    let long = c.seen_in.ensures.whole c.args.info same in
+    omega (arith, most, read, long)
 
 pub returns-in-Got-clause-front : goal.returns-in-Got-clause-front
 returns-in-Got-clause-front g c same =
