@@ -1,8 +1,7 @@
 //! Source files that change between the plan of a run and their load.
-use crate::commands::{put, says, squared};
+use crate::commands::{outcome_of, put, says};
 use crate::desk::{LIST, desk_scans, files_of, lined_picture, put_file};
 use cf_base::{Key, MemorySink, Name};
-use conform_tool::answer;
 use dpx_header::FrameInfo;
 use outcome_line::Outcome;
 use reel_disk::MemoryDisk;
@@ -39,17 +38,7 @@ fn run_changed(alloc: Global, there: bool, disk: &mut MemoryDisk) -> Option<(Out
     let mut scan = TurningScans::new(first, later_files(alloc, there)?, 34);
     let mut out = MemorySink::new(alloc);
     let words = ["run", "desk.toml", "--workers", "1"];
-    let mut old = MemoryDisk::new(alloc).ok()?;
-    let outcome = answer(
-        alloc,
-        &words,
-        &mut scan,
-        disk,
-        &mut old,
-        &mut out,
-        &[],
-        &squared(),
-    );
+    let outcome = outcome_of(alloc, &words, &mut scan, disk, &mut out, &[])?;
     Some((outcome, out))
 }
 

@@ -1,5 +1,5 @@
 //! Commands over scans, disks and sinks in memory that fail at chosen calls, and over scans that wait for one another.
-ghost use Rattle.std.specs.Prelude.{◌≡◌, IfSome, vec_len};
+ghost use Rattle.std.specs.Prelude.{◌≡◌, ◌≤◌, IfSome, AllPairs, length, vec_len};
 
 use crate::desk::{TWO, desk_scans, is_whole, scans_of};
 use crate::together::CountedScans;
@@ -11,10 +11,56 @@ use reel_disk::{Disk, Length, MemoryDisk};
 use reel_qc::{Probe, ProbeKind, Tone, square, square_table, sum};
 use scan_source::{Head, Loaded, MemoryScans, Scans};
 use std::alloc::Global;
+use std::sync::Wait;
+use std::thread::Threads;
 
 /// The tone that the program hands in.
 pub fn squared() -> Tone {
     Tone::new(square_table(), square)
+}
+
+/// What the words come to, where no folder of an old reel is.
+pub fn outcome_of<S: Scans, K: Sink>(
+    alloc: Global,
+    words: &[&str],
+    scan: &mut S,
+    disk: &mut MemoryDisk,
+    out: &mut K,
+    probes: &[Probe],
+) -> Option<Outcome>
+    requires { length probes.now ≤ 16 }
+{
+    let mut old = MemoryDisk::new(alloc).ok()?;
+    Some(answer(alloc, words, scan, disk, &mut old, out, probes, &squared()))
+}
+
+/// The same by threads, over a disk that was never used.
+pub fn conformed<S: Scans + Send, R: Threads + Wait + Sync>(
+    rt: &R,
+    alloc: Global,
+    words: &[&str],
+    scans: Vec<S>,
+    out: &mut MemorySink,
+    probes: &[Probe],
+) -> Option<Ended<S, MemoryDisk>>
+    requires some { 1 ≤ vec_len scans }
+    requires few { vec_len scans ≤ 16 }
+    requires few_probes { length probes.now ≤ 16 }
+    requires one_world { AllPairs (λ a b. S.world a ≡ S.world b) scans.items }
+{
+    let mut old = MemoryDisk::new(alloc).ok()?;
+    let disk = MemoryDisk::new(alloc).ok()?;
+    Some(conform(
+        rt,
+        alloc,
+        words,
+        scans,
+        disk,
+        &mut old,
+        out,
+        probes,
+        &squared(),
+    ))
 }
 
 /// The status that the words of a line come to, which have one blank between them, and the one in whose place a fault of the
@@ -31,17 +77,7 @@ pub fn answered<S: Scans, K: Sink>(
         words.push(word).ok()?;
     }
     let probes = [Probe::new(ProbeKind::Sum, sum)];
-    let mut old = MemoryDisk::new(alloc).ok()?;
-    let outcome = answer(
-        alloc,
-        &words,
-        scan,
-        disk,
-        &mut old,
-        out,
-        &probes,
-        &squared(),
-    );
+    let outcome = outcome_of(alloc, &words, scan, disk, out, &probes)?;
     let instead = match outcome {
         Outcome::SinkFault { instead } => Some(instead),
         _ => None,
@@ -286,7 +322,7 @@ fn a_command_asks_for_as_many_bytes_as_its_largest_file_has(rt: HostRuntime) {
 fn held(alloc: Global) -> Option<Vec<CountedScans>>
     ensures { IfSome result (λ scans. vec_len scans ≡ 3) }
 {
-    CountedScans::of_desk(alloc, 3, 0, 3)
+    CountedScans::of_desk(alloc, 3, 0, 3, 1)
 }
 
 /// A run on one thread would wait in vain, and end as a source fault.
@@ -294,25 +330,13 @@ fn held(alloc: Global) -> Option<Vec<CountedScans>>
 fn three_workers_load_beside_one_another_and_leave_the_reel(rt: HostRuntime) {
     let alloc = rt.alloc();
     let mut out = MemorySink::new(alloc);
-    let disk = MemoryDisk::new(alloc).ok().expect(&rt, "a disk");
-    let mut old = MemoryDisk::new(alloc).ok().expect(&rt, "a disk");
     let words = ["run", "desk.toml", "--workers", "3"];
     let scans = held(alloc).expect(&rt, "scans");
     let Ended {
         outcome,
         scans,
         mut disk,
-    } = conform(
-        &rt,
-        alloc,
-        &words,
-        scans,
-        disk,
-        &mut old,
-        &mut out,
-        &[],
-        &squared(),
-    );
+    } = conformed(&rt, alloc, &words, scans, &mut out, &[]).expect(&rt, "an answer");
     assert!(rt; outcome == Outcome::Done);
     assert!(rt; says(&out, "frames 24\nkept 0\nrendered 24\n"));
     assert!(rt; scans.len() == 3);

@@ -1,8 +1,8 @@
 //! Counts in pieces, and tables of other probes than the program's.
-use crate::commands::squared;
+use crate::commands::{conformed, outcome_of};
 use crate::desk::{Desk, desk_scans};
 use cf_base::MemorySink;
-use conform_tool::{Ended, answer, conform};
+use conform_tool::Ended;
 use outcome_line::Outcome;
 use reel_disk::MemoryDisk;
 use reel_qc::{Probe, ProbeKind, count_forked, frame_words, high, low, sum};
@@ -73,22 +73,12 @@ fn a_file_has_as_many_words_as_are_whole(rt: HostRuntime) {
 fn a_table_has_a_column_for_each_probe(rt: HostRuntime) {
     let alloc = rt.alloc();
     let probes = [Probe::new(ProbeKind::Low, low); 16];
-    let tone = squared();
     let mut scan = desk_scans(alloc, &[]).expect(&rt, "files");
     let mut disk = MemoryDisk::new(alloc).ok().expect(&rt, "a disk");
-    let mut old = MemoryDisk::new(alloc).ok().expect(&rt, "a disk");
     let mut out = MemorySink::new(alloc);
-    let ran = answer(
-        alloc,
-        &["run", "desk.toml"],
-        &mut scan,
-        &mut disk,
-        &mut old,
-        &mut out,
-        &[],
-        &tone,
-    );
-    assert!(rt; ran == Outcome::Done);
+    let words = ["run", "desk.toml"];
+    let ran = outcome_of(alloc, &words, &mut scan, &mut disk, &mut out, &[]);
+    assert!(rt; ran == Some(Outcome::Done));
     for (count, front, back) in [
         (
             0,
@@ -108,17 +98,15 @@ fn a_table_has_a_column_for_each_probe(rt: HostRuntime) {
     ] {
         let mut out = MemorySink::new(alloc);
         let words = ["qc", "desk.toml"];
-        let counted = answer(
+        let counted = outcome_of(
             alloc,
             &words,
             &mut scan,
             &mut disk,
-            &mut old,
             &mut out,
             &probes[..count],
-            &tone,
         );
-        assert!(rt; counted == Outcome::Done);
+        assert!(rt; counted == Some(Outcome::Done));
         assert!(rt;
             out.bytes().starts_with(front) && out.bytes().ends_with(back),
             "{count}"
@@ -130,28 +118,16 @@ fn a_table_has_a_column_for_each_probe(rt: HostRuntime) {
 fn a_table_of_no_frame_is_made_by_threads(rt: HostRuntime) {
     let alloc = rt.alloc();
     let probes = [Probe::new(ProbeKind::High, high); 2];
-    let mut old = MemoryDisk::new(alloc).ok().expect(&rt, "a disk");
     let scan = desk_scans(alloc, &[]).expect(&rt, "files");
     let mut scans = Vec::new(alloc);
     assert!(rt; scans.push(scan).is_ok() && scans.len() == 1);
     let mut out = MemorySink::new(alloc);
-    let disk = MemoryDisk::new(alloc).ok().expect(&rt, "a disk");
     let words = ["qc", "desk.toml"];
     let Ended {
         outcome,
         scans: _,
         disk: _,
-    } = conform(
-        &rt,
-        alloc,
-        &words,
-        scans,
-        disk,
-        &mut old,
-        &mut out,
-        &probes,
-        &squared(),
-    );
+    } = conformed(&rt, alloc, &words, scans, &mut out, &probes).expect(&rt, "an answer");
     assert!(rt; outcome == Outcome::Done);
     assert!(rt; out.bytes() == b"qc high high\nframes 0\n".as_slice());
 }

@@ -1,32 +1,35 @@
 //! Crews over the desk job, and scans that see one another.
-ghost use Rattle.std.specs.Prelude.{◌≡◌, ◌≤◌, vec_len};
+ghost use Rattle.std.specs.Prelude.{◌≡◌, ◌≤◌, true, vec_len};
 
 use crate::desk::{Desk, has_reels, is_whole, report};
 use crate::together::CountedScans;
 use conform_job::Job;
 use reel_disk::{Disk, MemoryDisk};
+use scan_source::Scans;
 use station::{Crew, RunEnd, run_crew};
 use std::alloc::Global;
 use std::marker::Brand;
 use std::sync::Wait;
 use std::thread::Threads;
 
-/// A run of the job by so many workers over a disk that was never used; its name tells no files.
-pub(crate) fn crew_on<R: Threads + Wait + Sync>(
+/// A run of the job by so many workers that share so many source frames, over a disk that was never used; its name tells no files.
+pub(crate) fn crew_on<S: Scans + Send, D: Disk + Send, R: Threads + Wait + Sync>(
     rt: &R,
     alloc: Global,
     job: &Job,
-    scans: Vec<CountedScans>,
+    scans: Vec<S>,
     workers: u16,
-    disk: MemoryDisk,
-) -> Crew<CountedScans, MemoryDisk>
+    disk: D,
+    share_cap: u32,
+) -> Crew<S, D>
     requires scans { (1 ≤ vec_len scans) × (vec_len scans ≤ 16) }
     requires workers { (1 ≤ workers) × (workers ≤ 16) }
-    requires moment { (⟦<MemoryDisk as Disk>⟧.history disk).now ≡ 0 }
-    requires faults { ⟦<MemoryDisk as Disk>⟧.faults disk ≡ 0 }
+    requires share { (1 ≤ share_cap) × (share_cap ≤ 16) }
+    requires moment { D.tells ≡ true → (D.history disk).now ≡ 0 }
+    requires faults { D.faults disk ≡ 0 }
 {
     let _ = job.count();
-    run_crew::<Brand, CountedScans, MemoryDisk, R>(rt, alloc, job, scans, workers, disk, 8)
+    run_crew::<Brand, S, D, R>(rt, alloc, job, scans, workers, disk, share_cap)
 }
 
 /// The same over a fresh disk, by as many workers as there are scans, which are those of `CountedScans::of_desk`. None where
@@ -38,21 +41,30 @@ fn crew<R: Threads + Wait + Sync>(
     workers: u16,
     failing: u64,
     together: u64,
+    rounds: u64,
 ) -> Option<Crew<CountedScans, MemoryDisk>> {
     if workers < 1 || workers > 16 {
         return None;
     }
-    let scans = CountedScans::of_desk(alloc, workers, failing, together)?;
+    let scans = CountedScans::of_desk(alloc, workers, failing, together, rounds)?;
     let disk = MemoryDisk::new(alloc).ok()?;
-    Some(crew_on(rt, alloc, job, scans, workers, disk))
+    Some(crew_on(rt, alloc, job, scans, workers, disk, 8))
 }
 
-/// With several workers the first loads of two scans wait for one another, so that a run on one thread would wait in vain.
+/// With several workers the first loads of two scans wait for one another, so that a run on one thread would wait in vain. In the
+/// last row so do their second loads: a crew of two whose workers leave after a frame would wait in vain for the second pair.
 #[test]
 fn workers_load_beside_one_another_and_leave_the_reel(rt: HostRuntime) {
     let alloc = rt.alloc();
     let desk = Desk::new(alloc, &[]).expect(&rt, "a job");
-    for (workers, together) in [(1, 0), (2, 2), (3, 2), (8, 2), (16, 2)] {
+    for (workers, together, rounds) in [
+        (1, 0, 0),
+        (2, 2, 1),
+        (3, 2, 1),
+        (8, 2, 1),
+        (16, 2, 1),
+        (2, 2, 2),
+    ] {
         let Crew {
             end,
             report: done,
@@ -60,7 +72,7 @@ fn workers_load_beside_one_another_and_leave_the_reel(rt: HostRuntime) {
             log: _,
             scans,
             mut disk,
-        } = crew(&rt, alloc, &desk.job, workers, 0, together).expect(&rt, "a crew");
+        } = crew(&rt, alloc, &desk.job, workers, 0, together, rounds).expect(&rt, "a crew");
         assert!(rt;
             end == RunEnd::Done && done == report(0, 24, 26),
             "{workers} workers"
@@ -87,7 +99,7 @@ fn a_crew_acknowledges_as_it_goes(rt: HostRuntime) {
         log: _,
         scans: _,
         mut disk,
-    } = crew(&rt, alloc, &desk.job, 3, 10, 0).expect(&rt, "a crew");
+    } = crew(&rt, alloc, &desk.job, 3, 10, 0, 0).expect(&rt, "a crew");
     assert!(rt; end == RunEnd::SourceFault);
     assert!(rt; done.rendered >= 6);
     let (_, rest) = desk.run_without_files(&mut disk);
@@ -124,7 +136,7 @@ fn a_crew_that_was_stopped_at_a_call_loses_no_frame(rt: HostRuntime) {
         let disk = MemoryDisk::stopped_at(alloc, stop)
             .ok()
             .expect(&rt, "a disk");
-        let scans = CountedScans::of_desk(alloc, 3, 0, 0).expect(&rt, "scans");
+        let scans = CountedScans::of_desk(alloc, 3, 0, 0, 0).expect(&rt, "scans");
         let Crew {
             end,
             report: _,
@@ -132,7 +144,7 @@ fn a_crew_that_was_stopped_at_a_call_loses_no_frame(rt: HostRuntime) {
             log: _,
             scans: _,
             disk,
-        } = crew_on(&rt, alloc, &desk.job, scans, 3, disk);
+        } = crew_on(&rt, alloc, &desk.job, scans, 3, disk, 8);
         assert!(rt; (end == RunEnd::Done) == (stop == 153), "stop at {stop}");
         for (pick, kept) in (0..3).zip(found) {
             let mut crashed = disk.crash(pick).ok().expect(&rt, "a disk");
@@ -163,7 +175,7 @@ fn a_crew_that_was_stopped_loses_no_frame_of_two_reels(rt: HostRuntime) {
         let disk = MemoryDisk::stopped_at(alloc, stop)
             .ok()
             .expect(&rt, "a disk");
-        let scans = CountedScans::of_desk(alloc, 3, 0, 0).expect(&rt, "scans");
+        let scans = CountedScans::of_desk(alloc, 3, 0, 0, 0).expect(&rt, "scans");
         let Crew {
             end,
             report: _,
@@ -171,7 +183,7 @@ fn a_crew_that_was_stopped_loses_no_frame_of_two_reels(rt: HostRuntime) {
             log: _,
             scans: _,
             disk,
-        } = crew_on(&rt, alloc, &desk.job, scans, 3, disk);
+        } = crew_on(&rt, alloc, &desk.job, scans, 3, disk, 8);
         assert!(rt; (end == RunEnd::Done) == (stop == 153), "stop at {stop}");
         for (pick, kept) in (0..3).zip(found) {
             let mut crashed = disk.crash(pick).ok().expect(&rt, "a disk");

@@ -20,6 +20,8 @@ mod desk;
 #[cfg(test)]
 mod disks;
 #[cfg(test)]
+mod edges;
+#[cfg(test)]
 mod folders;
 #[cfg(test)]
 mod kernels;

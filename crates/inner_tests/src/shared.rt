@@ -2,14 +2,14 @@
 //! put nothing there, comes to an end by itself.
 ghost use Rattle.std.specs.Prelude.{◌≡◌, ◌≤◌, vec_len, IfSome};
 
+use crate::crews::crew_on;
 use crate::desk::{Desk, TWO, scans_of};
 use cf_base::{FileId, PathText};
 use conform_job::Job;
 use reel_disk::{Did, Disk, Got, Length, MemoryDisk};
 use scan_source::{Head, Loaded, MemoryScans, Scans};
-use station::{Crew, RunEnd, run_crew};
+use station::{Crew, RunEnd};
 use std::alloc::Global;
-use std::marker::Brand;
 use std::sync::atomic::{AtomicU64, Ordering};
 use std::sync::{Arc, Wait};
 use std::thread::{self, Threads};
@@ -214,23 +214,8 @@ impl<D: Disk + Drop> Disk for WatchedDisk<D> {
     }
 }
 
-/// A run of the job by two workers that share two source frames, over a disk that was never used; its name tells no files.
-fn crew_on<R: Threads + Wait + Sync>(
-    rt: &R,
-    alloc: Global,
-    job: &Job,
-    scans: Vec<HeldScans>,
-    disk: WatchedDisk<MemoryDisk>,
-) -> Crew<HeldScans, WatchedDisk<MemoryDisk>>
-    requires scans { vec_len scans ≡ 2 }
-    requires moment { (⟦<MemoryDisk as Disk>⟧.history disk.disk).now ≡ 0 }
-    requires faults { ⟦<MemoryDisk as Disk>⟧.faults disk.disk ≡ 0 }
-{
-    let _ = job.count();
-    run_crew::<Brand, HeldScans, WatchedDisk<MemoryDisk>, R>(rt, alloc, job, scans, 2, disk, 2)
-}
-
-/// The same over scans and a disk that see one another. None where no memory is left.
+/// A run of the job by two workers that share two source frames, over scans and a disk that see one another. None where no memory
+/// is left.
 fn crew_of_two<R: Threads + Wait + Sync>(
     rt: &R,
     alloc: Global,
@@ -239,7 +224,8 @@ fn crew_of_two<R: Threads + Wait + Sync>(
     let seen = Arc::new(alloc, Seen::of()).ok()?;
     let scans = HeldScans::two(alloc, &seen)?;
     let disk = MemoryDisk::new(alloc).ok()?;
-    Some(crew_on(rt, alloc, job, scans, WatchedDisk { disk, seen }))
+    let disk = WatchedDisk { disk, seen };
+    Some(crew_on(rt, alloc, job, scans, 2, disk, 2))
 }
 
 /// A frame of each reel, and a dissolve of both. With a share for each worker it would take four loads; with puts that are

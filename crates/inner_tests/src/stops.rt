@@ -29,7 +29,7 @@ fn kept_by_four<R: Threads + Wait + Sync>(
     pick: u8,
     second: u32,
 ) -> Option<u32> {
-    let scans = CountedScans::of_desk(alloc, 4, 0, 0)?;
+    let scans = CountedScans::of_desk(alloc, 4, 0, 0, 0)?;
     let crashed = disk.crash(pick).ok()?;
     let Crew {
         end,
@@ -38,7 +38,7 @@ fn kept_by_four<R: Threads + Wait + Sync>(
         log: _,
         scans: _,
         disk: mut left,
-    } = crew_on(rt, alloc, &desk.job, scans, 4, crashed);
+    } = crew_on(rt, alloc, &desk.job, scans, 4, crashed, 8);
     let all = report.kept.wrapping_add(report.rendered);
     (end == RunEnd::Done && all == 24 && has_reels(&mut left, second)).then_some(report.kept)
 }
@@ -174,7 +174,7 @@ fn a_crew_whose_call_fails_once_has_that_frame_or_not(rt: HostRuntime) {
     let mut desk = Desk::new(alloc, &[]).expect(&rt, "a job");
     let fails = Vec::from_slice(alloc, &[50]).ok().expect(&rt, "a list");
     let disk = MemoryDisk::failing(alloc, fails).ok().expect(&rt, "a disk");
-    let scans = CountedScans::of_desk(alloc, 3, 0, 0).expect(&rt, "scans");
+    let scans = CountedScans::of_desk(alloc, 3, 0, 0, 0).expect(&rt, "scans");
     let Crew {
         end,
         report: _,
@@ -182,7 +182,7 @@ fn a_crew_whose_call_fails_once_has_that_frame_or_not(rt: HostRuntime) {
         log: _,
         scans: _,
         disk,
-    } = crew_on(&rt, alloc, &desk.job, scans, 3, disk);
+    } = crew_on(&rt, alloc, &desk.job, scans, 3, disk, 8);
     assert!(rt; end == RunEnd::DiskFault);
     for pick in 0..3 {
         let kept = kept_alone(&mut desk, &disk, pick, END);

@@ -7,9 +7,10 @@ use scan_source::{Head, Loaded, MemoryScans, Scans};
 use std::alloc::Global;
 use std::sync::Arc;
 use std::sync::atomic::{AtomicU64, Ordering};
+use std::thread;
 
-/// How often a load looks whether the others have come.
-const TURNS: u64 = 400_000_000;
+/// How many turns a load waits for the others.
+const TURNS: u64 = 1_000_000;
 
 /// A scan over the desk's files that counts its loads of DPX files together with other scans. It doesn't tell its files.
 #[derive(Drop)]
@@ -19,8 +20,10 @@ pub struct CountedScans {
     all: Arc<AtomicU64, Global>,
     /// The load among all that fails; 0 for none.
     failing: u64,
-    /// How many loads have to be asked for before the first one of this scan answers.
+    /// How many scans wait for one another,
     together: u64,
+    /// and with how many of their loads, from the first on.
+    rounds: u64,
     /// How many DPX files this scan was asked for.
     frames: u64,
     loads: u64,
@@ -29,13 +32,14 @@ pub struct CountedScans {
 }
 
 impl CountedScans {
-    /// So many scans over the desk's files. The load of this number among all fails, 0 for none; the first load of each answers
-    /// once so many were asked for.
+    /// So many scans over the desk's files. The load of this number among all fails, 0 for none. Of so many first loads of each
+    /// scan, the k-th answers once k for each of `together` scans were asked for, of all.
     pub fn of_desk(
         alloc: Global,
         count: u16,
         failing: u64,
         together: u64,
+        rounds: u64,
     ) -> Option<Vec<CountedScans>>
         ensures { IfSome result (λ scans. vec_len scans ≡ count) }
     {
@@ -47,6 +51,7 @@ impl CountedScans {
                 all: Arc::try_clone(&all).ok()?,
                 failing,
                 together,
+                rounds,
                 frames: 0,
                 loads: 0,
                 heads: 0,
@@ -59,10 +64,12 @@ impl CountedScans {
 
     /// Whether so many loads were asked for, in time.
     fn have_come(&self) -> bool {
+        let wanted = self.together.saturating_mul(self.frames);
         for _ in 0..TURNS {
-            if self.all.load(Ordering::SeqCst) >= self.together {
+            if self.all.load(Ordering::SeqCst) >= wanted {
                 return true;
             }
+            thread::yield_now();
         }
         false
     }
@@ -76,7 +83,7 @@ impl CountedScans {
         }
         self.frames = self.frames.saturating_add(1);
         let number = self.all.fetch_add(1, Ordering::SeqCst).wrapping_add(1);
-        number == self.failing || (self.frames == 1 && !self.have_come())
+        number == self.failing || (self.frames <= self.rounds && !self.have_come())
     }
 }
 

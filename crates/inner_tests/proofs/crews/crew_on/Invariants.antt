@@ -1,5 +1,4 @@
-use Rattle.std.specs.Prelude.{true, None}
-use Rattle.reel_disk.specs.MemoryDisk.{history_in}
+use Rattle.std.specs.Prelude.{None}
 use Rattle.shared_station.specs.Station.{start_of}
 use Rattle.inner_tests.proofs.crews.crew_on.Given as goal
 
@@ -8,4 +7,4 @@ abbrev pub ghosts-run_crew-N-Work : goal.ghosts-run_crew-N-Work
 ghosts-run_crew-N-Work g a = record { job = a.job.now; files = None }
 
 abbrev pub ghosts-run_crew-N-Start : goal.ghosts-run_crew-N-Start
-ghosts-run_crew-N-Start g a = record { start = start_of true (history_in a.disk) }
+ghosts-run_crew-N-Start g a = record { start = start_of g.D.Disk.tells (g.D.Disk.history a.disk) }
