@@ -1,5 +1,6 @@
 mod Asking
 mod Cutting
+mod Ending
 mod Growing
 pub mod Heads
 mod Judging

@@ -8,6 +8,7 @@ ghost use Rattle.source_reels.specs.Reels.{path_of_key};
 ghost use Rattle.conform_job.specs.Answers.{IsStep, Grows, HeadsGrow};
 ghost use Rattle.conform_job.specs.Asks.{asks_of, shot_of_frame};
 ghost use Rattle.conform_job.specs.Cuts.{record_reel, reel_count, reel_span, HasFramesOf, IsWithin};
+ghost use Rattle.conform_job.specs.Ended.{HasAsked};
 ghost use Rattle.conform_job.specs.Infos.{HasEachOnce};
 ghost use Rattle.conform_job.specs.Job.{ArePlanned, IsByLines, IsNeeded, file_of};
 ghost use Rattle.conform_job.specs.Lines.{places_of, IsPlacedUnless};
@@ -76,6 +77,7 @@ impl Job {
         ensures job { IfOk result (λ job. (job.parts ≡ parts) × Grows parts (S.world scans.old) (asks_of parts.timeline) [] job.infos) }
         ensures once { IfOk result (λ job. HasEachOnce job.infos) }
         ensures heads { IfOk result (λ job. HeadsGrow (S.heads scans.old) (S.heads scans.new) 0 (length job.infos)) }
+        ensures asked { IfErr result (HasAsked parts (S.world scans.old) (S.heads scans.old) (S.heads scans.new)) }
 
         ensures failed { result ≡ Err JobFault.SourceFault → HasRisen (S.faults scans.old) (S.faults scans.new) }
         ensures steady { result ≢ Err JobFault.SourceFault → S.faults scans.new ≡ S.faults scans.old }

@@ -1,6 +1,7 @@
 use Rattle.std.proofs.Common.{◌∙◌, arith, refl, rules}
 use Rattle.conform_job.proofs.Heads.{heads_start, heads_both}
 use Rattle.conform_job.proofs.Turns.{grown_start, rest_start, grown_whole, refused_here, rest_next, grown_next}
+use Rattle.conform_job.proofs.Ending.{ended_whole}
 use Rattle.conform_job.proofs.frames.infos_of.Goals as goal
 
 pub loop-i-init : goal.loop-i-init
@@ -39,3 +40,8 @@ loop-i-preserved g c = record {
 
 pub returns-clause-grows : goal.returns-clause-grows
 returns-clause-grows g c = grown_whole c.args.parts.now (g.S.Scans.world c.args.scans.now) c.loop-i.i _ _ (omega (arith, c.loop-i-test.false, c.count-i-end.ensures.count, c.loop-i.invariant.within)) c.loop-i.invariant.grows
+
+pub returns-in-Err-clause-ended : goal.returns-in-Err-clause-ended
+returns-in-Err-clause-ended g c =
+    ended_whole c.args.parts.now (g.S.Scans.world c.args.scans.now) (g.S.Scans.world c.loop-i.scans) c.loop-i.invariant.world c.loop-i.i c.shot_of-shot.result
+    (omega (arith, c.loop-i-test.true, c.count-i-end.ensures.count)) c.shot_of-shot.ensures.shot _ _ _ _ c.in-Err.fault c.loop-i.invariant.grows c.loop-i.invariant.heads c.in-Err.ensures.ended

@@ -25,3 +25,6 @@ returns-clause-info g c = judged_info c.args.parts.now (g.S.Scans.world c.args.s
 
 pub returns-clause-failed : goal.returns-clause-failed
 returns-clause-failed g c = judged_failed c.args.named.now _ _ c.inspect-seen.result c.judged.result _ _ c.judged.ensures c.inspect-seen.ensures.failed
+
+pub returns-clause-asked : goal.returns-clause-asked
+returns-clause-asked g c = rw (path_is g c) c.inspect-seen.ensures.heads

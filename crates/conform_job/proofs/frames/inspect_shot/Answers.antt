@@ -2,6 +2,7 @@
 use Rattle.conform_job.proofs.Asking.{on_ok, told_then, told_refused, one_side, two_sides}
 use Rattle.conform_job.proofs.Growing.{grown_none, grown_both}
 use Rattle.conform_job.proofs.Heads.{heads_both}
+use Rattle.conform_job.proofs.Ending.{ended_first, ended_then, second_ended}
 use Rattle.conform_job.proofs.frames.inspect_shot.Goals as goal
 
 pub inspect_side-requires-in-Ok-clause-each : goal.inspect_side-requires-in-Ok-clause-each
@@ -38,3 +39,15 @@ returns-in-Err-clause-failed g c = c.in-Err.ensures.failed
 
 pub returns-in-Err-clause-steady : goal.returns-in-Err-clause-steady
 returns-in-Err-clause-steady g c = c.in-Err.ensures.steady
+
+pub returns-in-One-clause-ended : goal.returns-in-One-clause-ended
+returns-in-One-clause-ended g c = rw (c.in-One.is, one_side) c.inspect_side.ensures.ended
+
+pub returns-in-Ok-clause-ended : goal.returns-in-Ok-clause-ended
+returns-in-Ok-clause-ended g c = rw (c.in-Two.is, two_sides)
+    (second_ended c.inspect_side-in-Ok.result _ _
+    (λ why e. ended_then c.args.parts.now (g.S.Scans.world c.args.scans.now) _ _ _ _ _ _ _ why c.in-Ok.ensures.grows c.in-Ok.ensures.heads e)
+    (rw c.inspect_side-in-Two.ensures.world at c.inspect_side-in-Ok.ensures.ended))
+
+pub returns-in-Err-clause-ended : goal.returns-in-Err-clause-ended
+returns-in-Err-clause-ended g c = rw (c.in-Two.is, two_sides) (ended_first c.args.parts.now (g.S.Scans.world c.args.scans.now) _ _ _ _ _ _ c.in-Err.ensures.ended)
