@@ -14,7 +14,7 @@ use Rattle.conform_job.specs.declared.parts.JobFault.TheVariants as fault
 use Rattle.conform_job.specs.Answers.{AreInfosOf, Grows, HeadsGrow, IsOfFrames, IsRefusal, count_after}
 use Rattle.conform_job.specs.Asks.{asks_at, asks_from, asks_of, asks_of_shot, shot_of_frame}
 use Rattle.conform_job.specs.Cuts.{bad_cut}
-use Rattle.conform_job.specs.Ended.{EndedAt, HasAsked, head_count, path_count}
+use Rattle.conform_job.specs.Ended.{EndAt, HasAsked, head_count, path_count}
 use Rattle.conform_job.specs.Keys.{key_of_ask}
 use Rattle.conform_job.specs.Lines.{IsCutUnless, IsPlacedUnless}
 use Rattle.conform_job.specs.Refusals.{asks_refusal}
@@ -28,7 +28,7 @@ no_memory (Some world) first = tt
 
 module _ (p : JobParts) (told : Option World) where
   pub ended_one : (ask : Ask) (infos : List (Key × FrameInfo)) (before after : ℕ) (why : JobFault) → AreInfosOf p told infos → after ≡ count_after (head_count p ask) before
-      → IfSome told (λ world. IsRefusal why (asks_refusal p (file_at world) (ask ∷ []))) → EndedAt p told (ask ∷ []) infos before after why
+      → IfSome told (λ world. IsRefusal why (asks_refusal p (file_at world) (ask ∷ []))) → EndAt p told (ask ∷ []) infos before after why
   ended_one ask infos before after why each own refused = record {
     passed = [];
     ask = ask;
@@ -42,7 +42,7 @@ module _ (p : JobParts) (told : Option World) where
     own = own;
   }
 
-  pub ended_first : (xs ys : List Ask) (infos : List (Key × FrameInfo)) (before after : ℕ) (why : JobFault) → EndedAt p told xs infos before after why → EndedAt p told (xs ++ ys) infos before after why
+  pub ended_first : (xs ys : List Ask) (infos : List (Key × FrameInfo)) (before after : ℕ) (why : JobFault) → EndAt p told xs infos before after why → EndAt p told (xs ++ ys) infos before after why
   ended_first xs ys infos before after why e = record {
     passed = e.passed;
     ask = e.ask;
@@ -57,7 +57,7 @@ module _ (p : JobParts) (told : Option World) where
   }
 
   pub ended_then : (xs ys : List Ask) (infos mid : List (Key × FrameInfo)) (before between after : ℕ) (why : JobFault) → Grows p told xs infos mid → HeadsGrow before between (length infos) (length mid)
-      → EndedAt p told ys mid between after why → EndedAt p told (xs ++ ys) infos before after why
+      → EndAt p told ys mid between after why → EndAt p told (xs ++ ys) infos before after why
   ended_then xs ys infos mid before between after why grows heads e = record {
     passed = xs ++ e.passed;
     ask = e.ask;
@@ -72,8 +72,8 @@ module _ (p : JobParts) (told : Option World) where
   }
 
   pub ended_memory : (ask : Ask) (infos : List (Key × FrameInfo)) (before after : ℕ) (why : JobFault) → AreInfosOf p told infos → after ≡ count_after (head_count p ask) before
-      → why ≡ fault.NoMemory → EndedAt p told (ask ∷ []) infos before after why
-  ended_memory ask infos before after why each own is = subst (EndedAt p told (ask ∷ []) infos before after) (sym is)
+      → why ≡ fault.NoMemory → EndAt p told (ask ∷ []) infos before after why
+  ended_memory ask infos before after why each own is = subst (EndAt p told (ask ∷ []) infos before after) (sym is)
       (ended_one ask infos before after fault.NoMemory each own (no_memory told (λ world. asks_refusal p (file_at world) (ask ∷ []))))
 
   pub ended_none : (ask : Ask) (n : ℕ) → None ≡ key_of_ask p.reels p.timeline.events ask → n ≡ count_after (head_count p ask) n
@@ -84,7 +84,7 @@ module _ (p : JobParts) (told : Option World) where
   ended_key ask key before after is asked = rw (← is) asked
 
   -- each fault of the frames is an end at an ask
-  pub ended_asked : (before after : ℕ) (why : JobFault) → IsOfFrames why → EndedAt p told (asks_of p.timeline) [] before after why → HasAsked p told before after why
+  pub ended_asked : (before after : ℕ) (why : JobFault) → IsOfFrames why → EndAt p told (asks_of p.timeline) [] before after why → HasAsked p told before after why
   ended_asked before after fault.SourceFault kind e = e
   ended_asked before after fault.NoMemory kind e = tt
   ended_asked before after (fault.BadCut cut) kind e = absurd kind
@@ -133,12 +133,12 @@ module _ (t : RecordReel) where
 -- a frame's end is the plan's
 pub ended_whole : (p : JobParts) (told other : Option World) → other ≡ told → (i : ℕ) (shot : Shot) → i < frame_count p.timeline.events → shot ≡ shot_of_frame p.timeline i
     → (infos : List (Key × FrameInfo)) (before between after : ℕ) (why : JobFault) → Grows p told (asks_from p.timeline 0 i) [] infos → HeadsGrow before between 0 (length infos)
-    → EndedAt p other (asks_of_shot shot) infos between after why → EndedAt p told (asks_of p.timeline) [] before after why
+    → EndAt p other (asks_of_shot shot) infos between after why → EndAt p told (asks_of p.timeline) [] before after why
 ended_whole p told other same i shot lt shot_is infos before between after why grows heads e =
-    let here : EndedAt p told (asks_at p.timeline i) infos between after why
-    = subst (λ s. EndedAt p told (asks_of_shot s) infos between after why) shot_is (subst (λ t. EndedAt p t (asks_of_shot shot) infos between after why) same e) in
+    let here : EndAt p told (asks_at p.timeline i) infos between after why
+    = subst (λ s. EndAt p told (asks_of_shot s) infos between after why) shot_is (subst (λ t. EndAt p t (asks_of_shot shot) infos between after why) same e) in
     let rest = asks_from p.timeline (i + 1) (frame_count p.timeline.events - (i + 1)) in
-    subst (λ asks. EndedAt p told asks [] before after why) (sym (all_asks p.timeline i lt))
+    subst (λ asks. EndAt p told asks [] before after why) (sym (all_asks p.timeline i lt))
     (ended_then p told (asks_from p.timeline 0 i) (asks_at p.timeline i ++ rest) [] infos before between after why grows heads
     (ended_first p told (asks_at p.timeline i) rest infos between after why here))
 

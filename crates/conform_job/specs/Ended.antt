@@ -1,6 +1,6 @@
 -- The heads that a plan asked for before a fault ended it.
 --     head_count p ask      how many heads a source frame costs
---     EndedAt      the fault came at one of these asks
+--     EndAt p told asks infos before after why      the fault came at one of these asks
 --     HasAsked p told before after why      the heads of a plan that ended so
 use Rattle.std.specs.Prelude.{◌≡◌, ℕ, List, [], ◌∷◌, ◌++◌, length, Option, Some, None, IfSome, option_and_then}
 use Rattle.cf_base.specs.declared.key.Key.{Key}
@@ -26,7 +26,7 @@ head_count p ask = path_count (option_and_then (path_of_key p.reels) (key_of_ask
 
 -- The fault came at one of these asks. Those before it have their infos, with one head for each info, and then its own head
 -- was asked for, if it has a path.
-pub record EndedAt (p : JobParts) (told : Option World) (asks : List Ask) (infos : List (Key × FrameInfo)) (before after : ℕ) (why : JobFault) : Type 0 where
+pub record EndAt (p : JobParts) (told : Option World) (asks : List Ask) (infos : List (Key × FrameInfo)) (before after : ℕ) (why : JobFault) : Type 0 where
   pub passed : List Ask
   pub ask : Ask
   pub others : List Ask
@@ -38,9 +38,13 @@ pub record EndedAt (p : JobParts) (told : Option World) (asks : List Ask) (infos
   pub heads : HeadsGrow before middle (length infos) (length kept)
   pub own : after ≡ count_after (head_count p ask) middle
 
+-- it came at one of the frames that the timeline asks for
+abbrev pub EndInTurn : JobParts → Option World → (before after : ℕ) → JobFault → Type 0
+EndInTurn p told before after why = EndAt p told (asks_of p.timeline) [] before after why
+
 -- none before the cuts and the lines are judged; want of memory may come there or later
 abbrev pub HasAsked : JobParts → Option World → (before after : ℕ) → JobFault → Type 0
 HasAsked p told before after (fault.BadCut cut) = after ≡ before
 HasAsked p told before after (fault.UnknownReel line) = after ≡ before
 HasAsked p told before after fault.NoMemory = Unit {0}
-HasAsked p told before after why = EndedAt p told (asks_of p.timeline) [] before after why
+HasAsked p told before after why = EndInTurn p told before after why

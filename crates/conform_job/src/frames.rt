@@ -7,7 +7,7 @@ ghost use Rattle.record_timeline.specs.Accepted.{first_frame, frame_count};
 ghost use Rattle.record_timeline.specs.Shots.{IsSideIn, IsShotIn};
 ghost use Rattle.source_reels.specs.Reels.{path_of_key};
 ghost use Rattle.source_reels.specs.Seen.{IsSeenFrame};
-ghost use Rattle.conform_job.specs.Ended.{EndedAt, path_count};
+ghost use Rattle.conform_job.specs.Ended.{EndAt, EndInTurn, path_count};
 ghost use Rattle.conform_job.specs.Answers.{IsStep, IsOfFrames, IsInfoOf, AreInfosOf, Grows, HeadsGrow, IsJudged, count_after};
 ghost use Rattle.conform_job.specs.Asks.{asks_of, asks_of_side, asks_of_shot, shot_of_frame};
 ghost use Rattle.conform_job.specs.Infos.{IsSetTo, HasEachOnce};
@@ -191,7 +191,7 @@ fn inspect_frame<S: Scans>(
     ensures later { S.faults scans.old ≤ S.faults scans.new }
 
     ensures heads { OnOk result (HeadsGrow (S.heads scans.old) (S.heads scans.new) (length infos.old) (length infos.new)) }
-    ensures ended { IfErr result (EndedAt parts.now (S.world scans.old) (ask ∷ []) infos.old (S.heads scans.old) (S.heads scans.new)) }
+    ensures end { IfErr result (EndAt parts.now (S.world scans.old) (ask ∷ []) infos.old (S.heads scans.old) (S.heads scans.new)) }
     ensures loads { S.loads scans.new ≡ S.loads scans.old }
     ensures world { S.world scans.new ≡ S.world scans.old }
     ensures same { S.same scans.old scans.new }
@@ -229,7 +229,7 @@ fn inspect_side<S: Scans>(
     ensures later { S.faults scans.old ≤ S.faults scans.new }
 
     ensures heads { OnOk result (HeadsGrow (S.heads scans.old) (S.heads scans.new) (length infos.old) (length infos.new)) }
-    ensures ended { IfErr result (EndedAt parts.now (S.world scans.old) (asks_of_side side) infos.old (S.heads scans.old) (S.heads scans.new)) }
+    ensures end { IfErr result (EndAt parts.now (S.world scans.old) (asks_of_side side) infos.old (S.heads scans.old) (S.heads scans.new)) }
     ensures loads { S.loads scans.new ≡ S.loads scans.old }
     ensures world { S.world scans.new ≡ S.world scans.old }
     ensures same { S.same scans.old scans.new }
@@ -266,7 +266,7 @@ fn inspect_shot<S: Scans>(
     ensures later { S.faults scans.old ≤ S.faults scans.new }
 
     ensures heads { OnOk result (HeadsGrow (S.heads scans.old) (S.heads scans.new) (length infos.old) (length infos.new)) }
-    ensures ended { IfErr result (EndedAt parts.now (S.world scans.old) (asks_of_shot shot) infos.old (S.heads scans.old) (S.heads scans.new)) }
+    ensures end { IfErr result (EndAt parts.now (S.world scans.old) (asks_of_shot shot) infos.old (S.heads scans.old) (S.heads scans.new)) }
     ensures loads { S.loads scans.new ≡ S.loads scans.old }
     ensures world { S.world scans.new ≡ S.world scans.old }
     ensures same { S.same scans.old scans.new }
@@ -298,7 +298,7 @@ pub fn infos_of<S: Scans>(
     ensures later { S.faults scans.old ≤ S.faults scans.new }
 
     ensures heads { IfOk result (λ infos. HeadsGrow (S.heads scans.old) (S.heads scans.new) 0 (length infos)) }
-    ensures ended { IfErr result (EndedAt parts.now (S.world scans.old) (asks_of parts.now.timeline) [] (S.heads scans.old) (S.heads scans.new)) }
+    ensures end { IfErr result (EndInTurn parts.now (S.world scans.old) (S.heads scans.old) (S.heads scans.new)) }
     ensures loads { S.loads scans.new ≡ S.loads scans.old }
     ensures world { S.world scans.new ≡ S.world scans.old }
     ensures same { S.same scans.old scans.new }

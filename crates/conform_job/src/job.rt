@@ -77,6 +77,9 @@ impl Job {
         ensures job { IfOk result (λ job. (job.parts ≡ parts) × Grows parts (S.world scans.old) (asks_of parts.timeline) [] job.infos) }
         ensures once { IfOk result (λ job. HasEachOnce job.infos) }
         ensures heads { IfOk result (λ job. HeadsGrow (S.heads scans.old) (S.heads scans.new) 0 (length job.infos)) }
+
+        // Where it is refused: no head for 15.5 and 15.1, and else one for each frame before the refused one, and its own, if it
+        // has a path.
         ensures asked { IfErr result (HasAsked parts (S.world scans.old) (S.heads scans.old) (S.heads scans.new)) }
 
         ensures failed { result ≡ Err JobFault.SourceFault → HasRisen (S.faults scans.old) (S.faults scans.new) }

@@ -41,7 +41,7 @@ loop-i-preserved g c = record {
 pub returns-clause-grows : goal.returns-clause-grows
 returns-clause-grows g c = grown_whole c.args.parts.now (g.S.Scans.world c.args.scans.now) c.loop-i.i _ _ (omega (arith, c.loop-i-test.false, c.count-i-end.ensures.count, c.loop-i.invariant.within)) c.loop-i.invariant.grows
 
-pub returns-in-Err-clause-ended : goal.returns-in-Err-clause-ended
-returns-in-Err-clause-ended g c =
+pub returns-in-Err-clause-end : goal.returns-in-Err-clause-end
+returns-in-Err-clause-end g c =
     ended_whole c.args.parts.now (g.S.Scans.world c.args.scans.now) (g.S.Scans.world c.loop-i.scans) c.loop-i.invariant.world c.loop-i.i c.shot_of-shot.result
-    (omega (arith, c.loop-i-test.true, c.count-i-end.ensures.count)) c.shot_of-shot.ensures.shot _ _ _ _ c.in-Err.fault c.loop-i.invariant.grows c.loop-i.invariant.heads c.in-Err.ensures.ended
+    (omega (arith, c.loop-i-test.true, c.count-i-end.ensures.count)) c.shot_of-shot.ensures.shot _ _ _ _ c.in-Err.fault c.loop-i.invariant.grows c.loop-i.invariant.heads c.in-Err.ensures.end

@@ -27,18 +27,18 @@ returns-in-Ok-clause-heads g c = on_both c.keep.result _ _ _
     (λ len set. heads_one (length c.args.infos.now) (length c.keep.new.infos) (g.S.Scans.heads c.args.scans.now) (g.S.Scans.heads c.inspect_key.new.scans) (len (new g c)) c.in-Ok.ensures.heads)
     c.keep.ensures.len c.keep.ensures.set
 
-pub returns-in_default-clause-ended : goal.returns-in_default-clause-ended
-returns-in_default-clause-ended g c =
+pub returns-in_default-clause-end : goal.returns-in_default-clause-end
+returns-in_default-clause-end g c =
     ended_one c.args.parts.now (g.S.Scans.world c.args.scans.now) c.args.ask c.args.infos.now (g.S.Scans.heads c.args.scans.now) _ _ c.requires.each
     (ended_none c.args.parts.now (g.S.Scans.world c.args.scans.now) c.args.ask (g.S.Scans.heads c.args.scans.now) (sym c.in_default.is ∙ c.key_of.ensures.key)) (search rules)
 
-pub returns-in-Err-clause-ended : goal.returns-in-Err-clause-ended
-returns-in-Err-clause-ended g c =
+pub returns-in-Err-clause-end : goal.returns-in-Err-clause-end
+returns-in-Err-clause-end g c =
     ended_one c.args.parts.now (g.S.Scans.world c.args.scans.now) c.args.ask c.args.infos.now (g.S.Scans.heads c.args.scans.now) _ _ c.requires.each
     (ended_key c.args.parts.now (g.S.Scans.world c.args.scans.now) c.args.ask c.in-Some.key _ _ (sym c.in-Some.is ∙ c.key_of.ensures.key) c.inspect_key.ensures.asked) (search rules)
 
-pub returns-in-Ok-clause-ended : goal.returns-in-Ok-clause-ended
-returns-in-Ok-clause-ended g c =
+pub returns-in-Ok-clause-end : goal.returns-in-Ok-clause-end
+returns-in-Ok-clause-end g c =
     second_ended c.keep.result _ _
     (λ why is. ended_memory c.args.parts.now (g.S.Scans.world c.args.scans.now) c.args.ask c.args.infos.now (g.S.Scans.heads c.args.scans.now) _ why c.requires.each
     (ended_key c.args.parts.now (g.S.Scans.world c.args.scans.now) c.args.ask c.in-Some.key _ _ (sym c.in-Some.is ∙ c.key_of.ensures.key) c.inspect_key.ensures.asked) is)

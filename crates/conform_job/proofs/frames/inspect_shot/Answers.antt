@@ -40,14 +40,14 @@ returns-in-Err-clause-failed g c = c.in-Err.ensures.failed
 pub returns-in-Err-clause-steady : goal.returns-in-Err-clause-steady
 returns-in-Err-clause-steady g c = c.in-Err.ensures.steady
 
-pub returns-in-One-clause-ended : goal.returns-in-One-clause-ended
-returns-in-One-clause-ended g c = rw (c.in-One.is, one_side) c.inspect_side.ensures.ended
+pub returns-in-One-clause-end : goal.returns-in-One-clause-end
+returns-in-One-clause-end g c = rw (c.in-One.is, one_side) c.inspect_side.ensures.end
 
-pub returns-in-Ok-clause-ended : goal.returns-in-Ok-clause-ended
-returns-in-Ok-clause-ended g c = rw (c.in-Two.is, two_sides)
+pub returns-in-Ok-clause-end : goal.returns-in-Ok-clause-end
+returns-in-Ok-clause-end g c = rw (c.in-Two.is, two_sides)
     (second_ended c.inspect_side-in-Ok.result _ _
     (λ why e. ended_then c.args.parts.now (g.S.Scans.world c.args.scans.now) _ _ _ _ _ _ _ why c.in-Ok.ensures.grows c.in-Ok.ensures.heads e)
-    (rw c.inspect_side-in-Two.ensures.world at c.inspect_side-in-Ok.ensures.ended))
+    (rw c.inspect_side-in-Two.ensures.world at c.inspect_side-in-Ok.ensures.end))
 
-pub returns-in-Err-clause-ended : goal.returns-in-Err-clause-ended
-returns-in-Err-clause-ended g c = rw (c.in-Two.is, two_sides) (ended_first c.args.parts.now (g.S.Scans.world c.args.scans.now) _ _ _ _ _ _ c.in-Err.ensures.ended)
+pub returns-in-Err-clause-end : goal.returns-in-Err-clause-end
+returns-in-Err-clause-end g c = rw (c.in-Two.is, two_sides) (ended_first c.args.parts.now (g.S.Scans.world c.args.scans.now) _ _ _ _ _ _ c.in-Err.ensures.end)
