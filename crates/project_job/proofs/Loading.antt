@@ -1,8 +1,11 @@
 -- Of which step a refusal is, and how many files were loaded by then.
-use Rattle.std.proofs.Common.{◌≡◌, ◌∙◌, ℕ, ◌+◌, List, Option, Some, None, Ok, Err, IfSome, refl, sym, ap, subst}
+use Rattle.std.proofs.Common.{◌≡◌, ◌∙◌, ℕ, ◌+◌, List, Option, Some, None, Ok, Err, IfSome, refl, sym, ap, subst, [], arith}
 use Rattle.scan_source.specs.World.{World, file_at}
 use Rattle.conform_job.proofs.Heads.{count_sum}
 use Rattle.conform_job.specs.Answers.{count_after}
+use Rattle.conform_job.specs.Ended.{HasAsked}
+use Rattle.conform_job.specs.Refusals.{Files}
+use Rattle.conform_job.specs.declared.parts.JobParts.{JobParts}
 use Rattle.conform_job.specs.declared.parts.JobFault.{JobFault}
 use Rattle.conform_job.specs.declared.parts.JobFault.TheVariants as faults
 use Rattle.outcome_line.specs.declared.outcome.Outcome.{Outcome}
@@ -10,11 +13,11 @@ use Rattle.outcome_line.specs.declared.outcome.Outcome.TheVariants as outcomes
 use Rattle.outcome_line.specs.declared.outcome.Refused.{Refused}
 use Rattle.outcome_line.specs.declared.outcome.Refused.TheVariants as refused
 use Rattle.outcome_line.specs.declared.outcome.Which.{Which}
-use Rattle.project_job.specs.Asked.{loads_of, ComesBehind, FileNames, HasInspectedFor, HasLoadedBehind, HasLoadedFor, WereInspected}
-use Rattle.project_job.specs.Jobs.{MeansFile, cube_count, outcome_of_fault}
+use Rattle.project_job.specs.Asked.{loads_of, ComesBehind, FileHasParts, FileNames, HasInspectedFor, HasLoadedBehind, HasLoadedFor, IsOfTexts, WereInspected, WereJudged}
+use Rattle.project_job.specs.Jobs.{MeansFile, cube_count, outcome_of_fault, parts_of}
 use Rattle.project_job.specs.Load.{IsOfLoad}
 use Rattle.project_job.specs.declared.project.ProjectText.{ProjectText}
-use Rattle.project_job.proofs.Projects.{told_one}
+use Rattle.project_job.proofs.Projects.{told_one, told_two}
 
 one_refusal : (a b : Refused) → outcomes.Refused a ≡ outcomes.Refused b → a ≡ b
 one_refusal a b is = cc
@@ -110,28 +113,47 @@ module _ (told : Option World) (path : List ℕ) where
 
 -- ---- the heads
 
-pub unasked : (told : Option World) (path : List ℕ) (reached : Outcome) (before after : ℕ) → after ≡ before → HasInspectedFor told path before after reached
-unasked told path reached before after none refusal is = each refusal
+pub unasked : (told : Option World) (path : List ℕ) (reached : Outcome) (before after : ℕ) → IsOfTexts reached → after ≡ before → HasInspectedFor told path before after reached
+unasked told path reached before after texts none refusal is = each refusal is
   where
-    each : (refusal : Refused) → WereInspected told path before after refusal
-    each (refused.Job fault) = tt
-    each (refused.NoFile absent) = none
-    each (refused.Project fault) = none
-    each (refused.Reels fault) = none
-    each (refused.List fault) = none
-    each (refused.Timeline fault) = none
-    each (refused.Cube fault) = none
-    each (refused.Frame fault) = none
+    each : (refusal : Refused) → reached ≡ outcomes.Refused refusal → WereInspected told path before after refusal
+    each (refused.Job fault) is = absurd (texts fault is)
+    each (refused.NoFile absent) is = none
+    each (refused.Project fault) is = none
+    each (refused.Reels fault) is = none
+    each (refused.List fault) is = none
+    each (refused.Timeline fault) is = none
+    each (refused.Cube fault) is = none
+    each (refused.Frame fault) is = none
+
+-- a job's refusal comes behind the cube, or behind none
+pub stage_texts : (count : ℕ) (reached : Outcome) → ComesBehind count reached → IsOfTexts reached
+stage_texts count reached stage fault is =
+    let without : 2 ≡ count = stage (refused.Job fault) is None in
+    let with_one : 3 ≡ count = stage (refused.Job fault) is (Some []) in
+    absurd (omega (arith, without, with_one))
+
+has_parts : (files : Files) (file : Option (List ℕ)) (read : ProjectText) (parts : JobParts) → MeansFile file (Ok read) → parts_of files read.text.items read.project ≡ Ok parts → FileHasParts files file parts
+has_parts files file read parts means is = subst (λ f. FileHasParts files f parts) (sym means.0) (read.project, means.1, is)
+
+pub judged : (told here : Option World) (path : List ℕ) (read : ProjectText) (parts : JobParts) (fault : JobFault) (before between after : ℕ) → here ≡ told → between ≡ before
+    → IfSome told (λ world. MeansFile (file_at world path) (Ok read)) → IfSome told (λ world. parts_of (file_at world) read.text.items read.project ≡ Ok parts)
+    → HasAsked parts here between after fault → WereJudged told path before after fault
+judged told here path read parts fault before between after same heads means is asked = record {
+  parts = parts;
+  comes = told_two told _ _ _ (λ world had made. has_parts (file_at world) (file_at world path) read parts had made) means is;
+  heads = subst (λ t. HasAsked parts t before after fault) same (subst (λ n. HasAsked parts here n after fault) heads asked);
+}
 
 pub job_asked : (told : Option World) (path : List ℕ) (fault : JobFault) (reached : Outcome) (before after : ℕ) → reached ≡ outcome_of_fault fault
-    → HasInspectedFor told path before after reached
-job_asked told path fault reached before after of_fault refusal is = each fault (sym of_fault ∙ is)
+    → WereJudged told path before after fault → HasInspectedFor told path before after reached
+job_asked told path fault reached before after of_fault asked refusal is = each fault asked (sym of_fault ∙ is)
   where
-    each : (fault : JobFault) → outcome_of_fault fault ≡ outcomes.Refused refusal → WereInspected told path before after refusal
-    each faults.SourceFault is = cc
-    each faults.NoMemory is = cc
-    each (faults.BadCut cut) is = subst (WereInspected told path before after) (one_refusal _ refusal is) tt
-    each (faults.UnknownReel line) is = subst (WereInspected told path before after) (one_refusal _ refusal is) tt
-    each (faults.MissingFrame line reel source) is = subst (WereInspected told path before after) (one_refusal _ refusal is) tt
-    each (faults.BadFrame line reel source bad) is = subst (WereInspected told path before after) (one_refusal _ refusal is) tt
-    each (faults.Geometry line reel source) is = subst (WereInspected told path before after) (one_refusal _ refusal is) tt
+    each : (fault : JobFault) → WereJudged told path before after fault → outcome_of_fault fault ≡ outcomes.Refused refusal → WereInspected told path before after refusal
+    each faults.SourceFault asked is = cc
+    each faults.NoMemory asked is = cc
+    each (faults.BadCut cut) asked is = subst (WereInspected told path before after) (one_refusal _ refusal is) asked
+    each (faults.UnknownReel line) asked is = subst (WereInspected told path before after) (one_refusal _ refusal is) asked
+    each (faults.MissingFrame line reel source) asked is = subst (WereInspected told path before after) (one_refusal _ refusal is) asked
+    each (faults.BadFrame line reel source bad) asked is = subst (WereInspected told path before after) (one_refusal _ refusal is) asked
+    each (faults.Geometry line reel source) asked is = subst (WereInspected told path before after) (one_refusal _ refusal is) asked

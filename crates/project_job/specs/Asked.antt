@@ -1,10 +1,14 @@
 -- What was asked of the scan where a project is refused: the files up to the one that has the fault, and no more.
 --     loads_of refusal cube      how many files are loaded before the refusal, of a project that names this cube
 --     HasLoadedFor told path before after reached      so many were loaded, where a refusal was reached
---     HasInspectedFor told path before after reached      and no head was asked for, but where frames are judged
-use Rattle.std.specs.Prelude.{◌≡◌, ℕ, ◌+◌, List, Option, Some, None, IfSome, IfOk, Result}
+--     HasInspectedFor told path before after reached      and no head was asked for, but those of a job's frames up to the refused one
+use Rattle.std.specs.Prelude.{◌≡◌, ℕ, ◌+◌, List, Option, Some, None, IfSome, IfOk, Result, Ok}
 use Rattle.scan_source.specs.World.{World, file_at}
 use Rattle.conform_job.specs.Answers.{count_after}
+use Rattle.conform_job.specs.Ended.{HasAsked}
+use Rattle.conform_job.specs.Refusals.{Files}
+use Rattle.conform_job.specs.declared.parts.JobFault.{JobFault}
+use Rattle.conform_job.specs.declared.parts.JobParts.{JobParts}
 use Rattle.project_file.specs.Projects.{Means}
 use Rattle.project_file.specs.declared.Project.{Project}
 use Rattle.project_file.specs.declared.fault.ProjectFault.{ProjectFault}
@@ -13,7 +17,7 @@ use Rattle.outcome_line.specs.declared.outcome.Outcome.TheVariants as outcome
 use Rattle.outcome_line.specs.declared.outcome.Refused.{Refused}
 use Rattle.outcome_line.specs.declared.outcome.Refused.TheVariants as refused
 use Rattle.outcome_line.specs.declared.outcome.Which.TheVariants as which
-use Rattle.project_job.specs.Jobs.{cube_count}
+use Rattle.project_job.specs.Jobs.{cube_count, parts_of}
 
 -- The project is loaded first, then the list, then the cube if one is named; a job is judged behind them all. A file that stands
 -- alone is no project's.
@@ -57,10 +61,25 @@ abbrev pub HasLoadedBehind : Option (List ℕ) → (before after : ℕ) → Outc
 HasLoadedBehind cube before after reached =
     IfRefused reached (λ refusal. (first : ℕ) → before ≡ count_after 1 first → after ≡ count_after (loads_of refusal cube) first)
 
--- no head is asked for before the frames of a job are judged
+-- the project at the path has these parts
+abbrev pub FileHasParts : Files → Option (List ℕ) → JobParts → Type 0
+FileHasParts files None parts = ⊥
+FileHasParts files (Some text) parts = (project : Project) × Means text (Ok project) × (parts_of files text project ≡ Ok parts)
+
+-- the frames of a job were judged until this fault ended it
+pub record WereJudged (told : Option World) (path : List ℕ) (before after : ℕ) (fault : JobFault) : Type 0 where
+  pub parts : JobParts
+  pub comes : IfSome told (λ world. FileHasParts (file_at world) (file_at world path) parts)
+  pub heads : HasAsked parts told before after fault
+
+-- no head is asked for before the frames of a job are judged, and then those up to the refused one
 abbrev pub WereInspected : Option World → List ℕ → (before after : ℕ) → Refused → Type 0
-WereInspected told path before after (refused.Job fault) = Unit {0}
+WereInspected told path before after (refused.Job fault) = WereJudged told path before after fault
 WereInspected told path before after other = after ≡ before
+
+-- it is no refusal of a job's frames: those are judged behind the texts
+abbrev pub IsOfTexts : Outcome → Type 0
+IsOfTexts reached = (fault : JobFault) → reached ≡ outcome.Refused (refused.Job fault) → ⊥
 
 abbrev pub HasInspectedFor : Option World → List ℕ → (before after : ℕ) → Outcome → Type 0
 HasInspectedFor told path before after reached = IfRefused reached (WereInspected told path before after)

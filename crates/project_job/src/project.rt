@@ -11,7 +11,7 @@ ghost use Rattle.conform_job.specs.Answers.{count_after, Grows, HeadsGrow};
 ghost use Rattle.conform_job.specs.Asks.{asks_of};
 ghost use Rattle.conform_job.specs.Infos.{HasEachOnce};
 ghost use Rattle.conform_job.specs.Job.{ArePlanned, JobData};
-ghost use Rattle.project_job.specs.Asked.{ComesBehind, HasInspectedFor, HasLoadedBehind, HasLoadedFor};
+ghost use Rattle.project_job.specs.Asked.{ComesBehind, HasInspectedFor, HasLoadedBehind, HasLoadedFor, IsOfTexts};
 ghost use Rattle.project_job.specs.Jobs.{list_in, cube_in, look_in, look_of_text, parts_of, itself, list_and_text, look_and_text, outcome_of_fault, Reaches, HasPlanned, MeansFile, unless_refused, IsOfJob, cube_count, AreCounted, AreLoaded};
 ghost use Rattle.outcome_line.specs.declared.outcome.Refused.TheVariants as refused;
 
@@ -154,6 +154,7 @@ fn parts_of<S: Scans>(
     ensures later { S.faults scan.old ≤ S.faults scan.new }
     ensures loads { AreLoaded 0 2 (S.loads scan.old) (S.loads scan.new) }
     ensures refused { IfErr result (HasLoadedBehind project.cube (S.loads scan.old) (S.loads scan.new)) }
+    ensures texts { IfErr result IsOfTexts }
     ensures loaded { IfOk result (λ parts. S.loads scan.new ≡ count_after (1 + cube_count parts.project.cube) (S.loads scan.old)) }
     ensures heads { S.heads scan.new ≡ S.heads scan.old }
     ensures world { S.world scan.new ≡ S.world scan.old }

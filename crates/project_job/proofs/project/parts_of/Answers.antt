@@ -1,7 +1,7 @@
 -- The steps to the parts of a job, one after another; the list and the cube are loaded.
 use Rattle.std.proofs.Common.{◌∙◌, refl}
 use Rattle.project_job.proofs.Projects.{loaded_both, err_as, no_err, no_reels, no_list, no_timeline, no_look, all_parts}
-use Rattle.project_job.proofs.Loading.{loaded_behind, look_behind}
+use Rattle.project_job.proofs.Loading.{loaded_behind, look_behind, stage_texts}
 use Rattle.project_job.proofs.project.parts_of.Goals as goal
 
 pub returns-in-Err-clause-told : goal.returns-in-Err-clause-told
@@ -75,3 +75,15 @@ returns-in-Err-timeline_of-clause-refused g c =
 pub returns-in-Err-look_in-clause-refused : goal.returns-in-Err-look_in-clause-refused
 returns-in-Err-look_in-clause-refused g c =
     look_behind c.args.project.cube c.in-Err-look_in.outcome (g.S.Scans.loads c.args.scan.now) _ _ c.in-Err-look_in.ensures.stage c.in-Err-look_in.ensures.named c.in-Ok-list_in.ensures.loads c.in-Err-look_in.ensures.loads
+
+pub returns-in-Err-clause-texts : goal.returns-in-Err-clause-texts
+returns-in-Err-clause-texts g c = stage_texts _ c.in-Err.outcome c.in-Err.ensures.stage
+
+pub returns-in-Err-list_in-clause-texts : goal.returns-in-Err-list_in-clause-texts
+returns-in-Err-list_in-clause-texts g c = stage_texts _ c.in-Err-list_in.outcome c.in-Err-list_in.ensures.stage
+
+pub returns-in-Err-timeline_of-clause-texts : goal.returns-in-Err-timeline_of-clause-texts
+returns-in-Err-timeline_of-clause-texts g c = stage_texts _ c.in-Err-timeline_of.outcome c.in-Err-timeline_of.ensures.stage
+
+pub returns-in-Err-look_in-clause-texts : goal.returns-in-Err-look_in-clause-texts
+returns-in-Err-look_in-clause-texts g c = stage_texts _ c.in-Err-look_in.outcome c.in-Err-look_in.ensures.stage

@@ -6,7 +6,7 @@ use Rattle.project_file.specs.declared.Project.{Project}
 use Rattle.project_job.specs.Jobs.{cube_count}
 use Rattle.project_job.proofs.Counted.{counted_job}
 use Rattle.project_job.proofs.Projects.{no_project, no_parts, no_job, a_job, loaded_first, loaded_all, err_as, no_err, scan_of_job, job_of_scan}
-use Rattle.project_job.proofs.Loading.{project_loaded, parts_loaded, job_loaded, unasked, job_asked}
+use Rattle.project_job.proofs.Loading.{project_loaded, parts_loaded, job_loaded, unasked, job_asked, judged, stage_texts}
 use Rattle.project_job.proofs.project.planned.Goals as goal
 
 pub returns-in-Err-clause-told : goal.returns-in-Err-clause-told
@@ -90,10 +90,16 @@ returns-clause-refused g c =
     (c.in-Err-plan.ensures.loads ∙ c.in-Ok-parts_of.ensures.loaded ∙ ap (λ (project : Project). count_after (1 + cube_count project.cube) (g.S.Scans.loads c.project_in.new.scan)) c.in-Ok-parts_of.ensures.project))
 
 pub returns-in-Err-clause-refused_heads : goal.returns-in-Err-clause-refused_heads
-returns-in-Err-clause-refused_heads g c = unasked (g.S.Scans.world c.args.scan.now) c.args.path.now c.in-Err.outcome _ _ c.in-Err.ensures.heads
+returns-in-Err-clause-refused_heads g c =
+    unasked (g.S.Scans.world c.args.scan.now) c.args.path.now c.in-Err.outcome _ _ (stage_texts _ c.in-Err.outcome c.in-Err.ensures.stage) c.in-Err.ensures.heads
 
 pub returns-in-Err-parts_of-clause-refused_heads : goal.returns-in-Err-parts_of-clause-refused_heads
-returns-in-Err-parts_of-clause-refused_heads g c = unasked (g.S.Scans.world c.args.scan.now) c.args.path.now c.in-Err-parts_of.outcome _ _ (c.in-Err-parts_of.ensures.heads ∙ c.in-Ok.ensures.heads)
+returns-in-Err-parts_of-clause-refused_heads g c =
+    unasked (g.S.Scans.world c.args.scan.now) c.args.path.now c.in-Err-parts_of.outcome _ _ c.in-Err-parts_of.ensures.texts (c.in-Err-parts_of.ensures.heads ∙ c.in-Ok.ensures.heads)
 
 pub returns-clause-refused_heads : goal.returns-clause-refused_heads
-returns-clause-refused_heads g c = job_asked (g.S.Scans.world c.args.scan.now) c.args.path.now c.in-Err-plan.fault c.refused_job.result _ _ c.refused_job.ensures
+returns-clause-refused_heads g c =
+    job_asked (g.S.Scans.world c.args.scan.now) c.args.path.now c.in-Err-plan.fault c.refused_job.result _ _ c.refused_job.ensures
+    (judged (g.S.Scans.world c.args.scan.now) (g.S.Scans.world c.parts_of.new.scan) c.args.path.now c.in-Ok.read c.in-Ok-parts_of.parts c.in-Err-plan.fault
+    (g.S.Scans.heads c.args.scan.now) (g.S.Scans.heads c.parts_of.new.scan) _ (c.in-Ok-parts_of.ensures.world ∙ c.in-Ok.ensures.world) (c.in-Ok-parts_of.ensures.heads ∙ c.in-Ok.ensures.heads)
+    c.in-Ok.ensures.told (rw (c.in-Ok.ensures.world, c.deref.ensures.value) at c.in-Ok-parts_of.ensures.told) c.in-Err-plan.ensures.asked)
