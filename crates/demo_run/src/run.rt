@@ -11,7 +11,7 @@ use cf_base::{Fail, Never};
 use conform_job::Job;
 use reel_disk::MemoryDisk;
 use scan_source::Scans;
-use station::{RunEnd, run_alone};
+use single_run::{RunEnd, run_alone};
 use std::alloc::Global;
 use std::marker::Brand;
 

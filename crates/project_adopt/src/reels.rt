@@ -15,7 +15,7 @@ use outcome_line::Outcome;
 use reconform::Adopted;
 use reel_disk::Disk;
 use scan_source::Scans;
-use station::run_alone;
+use single_run::run_alone;
 use std::alloc::Global;
 use std::marker::Brand;
 

@@ -8,7 +8,7 @@ use conform_job::Job;
 use outcome_line::Outcome;
 use project_run::{outcome_of_end, put_count};
 use reconform::{AdoptFault, Adopted};
-use station::{Report, RunEnd};
+use single_run::{Report, RunEnd};
 use std::alloc::{AllocError, Global};
 
 /// The outcome of an old project that came to no job.

@@ -4,3 +4,4 @@ pub mod Memory
 pub mod MemoryDisk
 pub mod Names
 pub mod Runs
+pub mod Start

@@ -6,6 +6,7 @@ use Rattle.conform_job.specs.Job.{JobData, file_of}
 use Rattle.frame_render.specs.Frame.{frame_size}
 use Rattle.reel_disk.specs.Disk.{Moment, History, moment_of, view_of}
 use Rattle.reel_disk.specs.Runs.{LeavesOnly, Spares, Surely}
+use Rattle.reel_disk.specs.Start.{start_of, at_start}
 use Rattle.reel_disk.proofs.Sparing.{spares_wider}
 use Rattle.reel_disk.proofs.Images.{view_is_image}
 use Rattle.resume_ledger.specs.Attach.{IsOpened, IsOpenFor}
@@ -17,7 +18,7 @@ use Rattle.reel_writer.specs.Changes.{HasKept}
 use Rattle.reel_writer.specs.Reel.{frames_of, HasAcked, HasFrameFiles, IsReelRun, IsSoundReel}
 use Rattle.reel_writer.specs.View.{IsOpening, ReelView}
 use Rattle.reel_writer.proofs.Writing.{writes_wider}
-use Rattle.shared_station.specs.Station.{IsCrewFile, MayCrewWrite, at_start, start_of}
+use Rattle.shared_station.specs.Station.{IsCrewFile, MayCrewWrite}
 use Rattle.shared_station.specs.StationSteps.{IsBeginning}
 use Rattle.shared_station.proofs.StationKeeps.{began_along, run_from, spares_from, writes_from}
 

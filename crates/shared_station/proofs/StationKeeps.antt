@@ -10,6 +10,7 @@ use Rattle.scan_source.specs.World.{World}
 use Rattle.conform_job.specs.Job.{JobData, file_of}
 use Rattle.reel_disk.specs.Disk.{Files, Moment, History, IsFirm, IsLoose, moment_of, view_of}
 use Rattle.reel_disk.specs.Runs.{Extends, LeavesOnly, NeverForgets, Spares, Surely}
+use Rattle.reel_disk.specs.Start.{start_of, at_start}
 use Rattle.reel_disk.proofs.Sparing.{spares_along, spares_wider}
 use Rattle.reel_disk.proofs.Images.{view_is_image}
 use Rattle.resume_ledger.specs.Sound.{AddsAtMost, WritesOnly}
@@ -31,7 +32,7 @@ use Rattle.reel_writer.specs.Reel.{frames_of, HasAcked, HasFrameFiles, IsReelRun
 use Rattle.reel_writer.specs.View.{ReelView, after_finish, after_fault}
 use Rattle.reel_writer.proofs.ReelLaws.{reel_run_along}
 use Rattle.reel_writer.proofs.Writing.{run_file}
-use Rattle.shared_station.specs.Station.{StationView, Totals, IsStation, IsCounted, IsCrewFile, MayCrewWrite, HasChanges, ShowsDone, start_of, at_start}
+use Rattle.shared_station.specs.Station.{StationView, Totals, IsStation, IsCounted, IsCrewFile, MayCrewWrite, HasChanges, ShowsDone}
 use Rattle.shared_station.specs.StationSteps.{IsBeginning, MayStop, counted_by, after_claimed, after_finished, after_failed, after_stopped}
 
 -- the totals after one more step

@@ -11,6 +11,7 @@ use Rattle.source_reels.specs.declared.seen.Seen.{Seen}
 use Rattle.conform_job.specs.Job.{JobData}
 use Rattle.reel_disk.specs.Disk.{Files, Moment, History, moment_of, view_of}
 use Rattle.reel_disk.specs.Runs.{Surely, Spares}
+use Rattle.reel_disk.specs.Start.{start_of, at_start}
 use Rattle.resume_ledger.specs.Ledger.{IsLedgerFile, IsWrittenLedgerFile}
 use Rattle.resume_ledger.specs.Sound.{WritesOnly}
 use Rattle.render_board.specs.Board.{Log, IsLegal, is_done}
@@ -34,15 +35,6 @@ pub record StationView (D : Type 0) : Type 0 where
   pub reel : ReelView D
   pub log : Log
   pub totals : Totals
-
--- what a disk tells of its first moment
-abbrev pub start_of : Bool → History → Option Moment
-start_of true h = Some (h.past 0)
-start_of false h = None
-
--- the history as it was at its first moment
-abbrev pub at_start : History → History
-at_start h = record { now = 0; past = h.past }
 
 -- what a crew may change: the ledger's files, and those of frames that were not done at the start
 abbrev pub IsCrewFile : JobData → List Bool → FileId → Type 0

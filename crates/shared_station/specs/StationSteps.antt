@@ -4,6 +4,7 @@ use Rattle.scan_source.specs.World.{World}
 use Rattle.conform_job.specs.Job.{JobData}
 use Rattle.reel_disk.specs.Disk.{Moment, History, view_of}
 use Rattle.reel_disk.specs.Runs.{Spares}
+use Rattle.reel_disk.specs.Start.{start_of, at_start}
 use Rattle.resume_ledger.specs.Sound.{WritesOnly}
 use Rattle.render_board.specs.Board.{Log, with_step, after_claim}
 use Rattle.render_board.specs.declared.board.Claim.{Claim}
@@ -16,7 +17,7 @@ use Rattle.reel_writer.specs.View.{ReelView, after_finish, after_fault}
 use Rattle.single_run.specs.Ends.{IsChanged}
 use Rattle.single_run.specs.declared.run_end.RunEnd.{RunEnd}
 use Rattle.single_run.specs.declared.run_end.RunEnd.TheVariants.{Done, OtherJob, BadLedger, Changed as IsNow, SourceFault, DiskFault, NoMemory}
-use Rattle.shared_station.specs.Station.{StationView, Totals, IsCrewFile, MayCrewWrite, start_of, at_start}
+use Rattle.shared_station.specs.Station.{StationView, Totals, IsCrewFile, MayCrewWrite}
 
 -- one more stop of this why
 abbrev pub counted_by : Why → Totals → Totals

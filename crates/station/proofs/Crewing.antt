@@ -10,6 +10,7 @@ use Rattle.conform_job.specs.Job.{JobData, file_of}
 use Rattle.frame_render.specs.Frame.{frame_size}
 use Rattle.reel_disk.specs.Disk.{Moment, History, IsFirm, IsLoose, moment_of, view_of}
 use Rattle.reel_disk.specs.Runs.{Spares}
+use Rattle.reel_disk.specs.Start.{start_of, at_start}
 use Rattle.reel_disk.proofs.Sparing.{spares_wider}
 use Rattle.resume_ledger.specs.Attach.{IsOpened, IsOpenFor}
 use Rattle.resume_ledger.specs.Ledger.{IsFit, LedgerState}
@@ -29,7 +30,7 @@ use Rattle.single_run.specs.declared.run_end.RunEnd.TheVariants.{Done, NoMemory}
 use Rattle.station.specs.Crews.{AreShared, IsCrewRun, WasCrewed, WasUnmade, end_by}
 use Rattle.single_run.specs.Ends.{IsEnd}
 use Rattle.single_run.specs.Run.{AreAllAcked}
-use Rattle.shared_station.specs.Station.{IsStation, StationView, HasChanges, IsCrewFile, MayCrewWrite, ShowsDone, at_start, start_of}
+use Rattle.shared_station.specs.Station.{IsStation, StationView, HasChanges, IsCrewFile, MayCrewWrite, ShowsDone}
 use Rattle.reel_writer.specs.View.{IsReelOf}
 use Rattle.reel_writer.proofs.Writing.{own_file, own_written, writes_wider}
 use Rattle.single_run.proofs.Closing.{images_acked}

@@ -5,6 +5,7 @@ ghost use Rattle.conform_job.specs.Answers.{AreInfosOf};
 ghost use Rattle.conform_job.specs.Names.{Tells};
 ghost use Rattle.reel_disk.specs.Disk.{Files, moment_of, view_of};
 ghost use Rattle.reel_disk.specs.Runs.{Spares};
+ghost use Rattle.reel_disk.specs.Start.{start_of};
 ghost use Rattle.render_board.specs.Board.{has_stop, is_done};
 ghost use Rattle.render_board.specs.History.{first_why};
 ghost use Rattle.reel_writer.specs.Changes.{IsOwnFile, MayWrite};
@@ -17,7 +18,6 @@ ghost use Rattle.station.specs.Crews.{AreShared, AreWorked, HasDiskFailed, IsCre
 ghost use Rattle.single_run.specs.Ends.{IsChange};
 ghost use Rattle.shared_station.specs.Marks.{IsBlankOf};
 ghost use Rattle.single_run.specs.Run.{AreAllAcked, HasWhole};
-ghost use Rattle.shared_station.specs.Station.{start_of};
 ghost use Rattle.shared_station.specs.StationSteps.{IsBeginning};
 
 use crate::seat::Seat;

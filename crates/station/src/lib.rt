@@ -1,5 +1,5 @@
 //! A run by several workers: the reel of a job rendered into its folder, frame after frame. `run_alone` and the shared value
-//! are passed on, so that those above a run know this crate alone.
+//! are passed on, so that those above a crew know this crate alone.
 #![tactic(auto)]
 
 mod crew;

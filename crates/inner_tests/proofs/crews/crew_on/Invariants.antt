@@ -1,5 +1,5 @@
 use Rattle.std.specs.Prelude.{None}
-use Rattle.shared_station.specs.Station.{start_of}
+use Rattle.reel_disk.specs.Start.{start_of}
 use Rattle.inner_tests.proofs.crews.crew_on.Given as goal
 
 -- the name is that of the job, whose files aren't told, and of what the disk held

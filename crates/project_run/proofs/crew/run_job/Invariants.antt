@@ -1,4 +1,4 @@
-use Rattle.shared_station.specs.Station.{start_of}
+use Rattle.reel_disk.specs.Start.{start_of}
 use Rattle.project_run.specs.Crew.{told_by}
 use Rattle.project_run.proofs.crew.run_job.Given as goal
 
