@@ -7,8 +7,10 @@
 use Rattle.std.specs.Prelude.{◌≡◌, ◌↔◌, ◌⊎◌, ℕ, ◌+◌, ◌<◌, ◌≤◌, Bool, true, false, List, [], length, sum_by, count_by, slice_index_or, Option, Some, None, MatchOption}
 use Rattle.scan_source.specs.World.{World}
 use Rattle.conform_job.specs.Job.{JobData}
+use Rattle.conform_job.specs.Names.{Tells}
 use Rattle.frame_share.specs.declared.step.ShareStep.{ShareStep}
 use Rattle.frame_share.specs.Share.{IsLegal as IsShareLegal, misses_of}
+use Rattle.frame_share.specs.Units.{Tally}
 use Rattle.reel_disk.specs.Disk.{Moment, History, view_of}
 use Rattle.render_board.specs.Board.{Log, IsLegal, has_stop, is_done}
 use Rattle.render_board.specs.History.{finished_of, first_why, is_disk, stops_of}
@@ -26,7 +28,7 @@ use Rattle.shared_station.specs.Marks.{Tallies}
 use Rattle.single_run.specs.Run.{WasRefused}
 use Rattle.single_run.specs.Scanned.{IsScanned}
 use Rattle.shared_station.specs.Station.{StationView, IsStation, ShowsDone}
-use Rattle.station.specs.Worked.{HasCauses}
+use Rattle.station.specs.Worked.{HasCauses, HasCounted}
 
 -- how a run ends whose first stop has this why
 abbrev pub end_by : Option Why → RunEnd
@@ -109,6 +111,20 @@ pub record AreWorked {S : Type 0} (world : S → Option World) (faults loads : S
 pub record IsWorked {S : Type 0} (told : Option World) (world : S → Option World) (faults loads : S → ℕ) (scan now : S) (more : ℕ) (failed : Bool) (before after : Tallies) : Type 0 where
   pub scanned : IsScanned world faults loads more (failed ≡ true) scan now
   pub causes : HasCauses told more failed before after
+
+-- a worker may begin: its scan tells the job's files, and nothing was loaded or asked for
+pub record IsReady {S : Type 0} (told : Option World) (world : S → Option World) (scan : S) (loaded : ℕ) (failed : Bool) (units : Tally) : Type 0 where
+  pub tells : Tells told (world scan)
+  pub none : loaded ≡ 0
+  pub unfailed : failed ≡ false
+  pub closed : units.pending ≡ 0
+
+-- its whole part of a run, with each miss counted
+pub record HasWorked {S : Type 0} (told : Option World) (world : S → Option World) (faults loads : S → ℕ) (same : S → S → Type 0) (scan now : S) (more : ℕ) (failed : Bool) (before after : Tallies) (asked counted : Tally) : Type 0 where
+  pub each : IsWorked told world faults loads scan now more failed before after
+  pub units : HasCounted asked more counted
+  pub few : more ≤ 524288
+  pub lent : same scan now
 
 -- what the station keeps holds to the end
 pub record IsCrewRun {D : Type 0} (job : JobData) (told : Option World) (workers : ℕ) (start : Option Moment) (tells : Bool) (history : D → History) (faults : D → ℕ) (steps : List Step) (end : RunEnd) (report : Report) (disk : D) : Type 0 where

@@ -3,6 +3,7 @@
 #![tactic(auto)]
 
 mod crew;
+mod each;
 mod rest;
 mod rounds;
 mod seat;
