@@ -1,6 +1,9 @@
 -- What the definitions come to for small jobs, by computation.
-use Rattle.std.proofs.Common.{◌≡◌, ◌++◌, codes, refl}
+use Rattle.std.proofs.Common.{◌≡◌, ℕ, ◌<◌, ◌/◌, ◌%◌, ◌++◌, codes, refl, sym, ap, lit≤}
 use Rattle.std.specs.Fmt.{digits}
+use Rattle.cf_base.specs.declared.timing.Mode.TheVariants.{NonDrop}
+use Rattle.cf_timecode.specs.Spelling.{spelled}
+use Rattle.cf_timecode.proofs.Laws.{plain, plain_24}
 use Rattle.dpx_pack.specs.Pixels.{pixel_word}
 use Rattle.demo_job.specs.Counts.{source_count, record_count}
 use Rattle.demo_job.specs.Files.{source_path}
@@ -27,30 +30,35 @@ project_5 : project_text 5
 unfolding head_text reel_text digits
 project_5 = refl
 
--- the lines of five events, of which each computes its labels by counting
+-- A label by its second and its frame, which counting comes to: no row counts up to it.
+label : (n : ℕ) → n < 2073600 → label_text n ≡ spelled NonDrop (plain (n / 24) (n % 24))
+unfolding label_text
+label n small = ap (spelled NonDrop) (sym (plain_24 NonDrop n tt small))
+
+-- the lines of five events
 line_1 : event_line 0 0 ≡ codes "000001 R0 V C 01:00:00:00 01:00:00:06 01:00:00:00 01:00:00:06\n"
-unfolding event_line label_text
-line_1 = refl
+unfolding event_line
+line_1 = rw (label 86400 (lit≤ tt), label 86406 (lit≤ tt)) refl
 
 line_2 : event_line 0 1 ≡ codes "000002 R1 V D 004 01:00:00:00 01:00:00:06 01:00:00:06 01:00:00:12\n"
-unfolding event_line label_text
-line_2 = refl
+unfolding event_line
+line_2 = rw (label 86400 (lit≤ tt), label 86406 (lit≤ tt), label 86412 (lit≤ tt)) refl
 
 line_3 : event_line 0 2 ≡ codes "000003 R2 V W102 006 01:00:00:00 01:00:00:06 01:00:00:12 01:00:00:18\n"
-unfolding event_line label_text
-line_3 = refl
+unfolding event_line
+line_3 = rw (label 86400 (lit≤ tt), label 86406 (lit≤ tt), label 86412 (lit≤ tt), label 86418 (lit≤ tt)) refl
 
 line_4 : event_line 0 3 ≡ codes "000004 R3 V C 01:00:00:00 01:00:00:06 01:00:00:18 01:00:01:00\n"
-unfolding event_line label_text
-line_4 = refl
+unfolding event_line
+line_4 = rw (label 86400 (lit≤ tt), label 86406 (lit≤ tt), label 86418 (lit≤ tt), label 86424 (lit≤ tt)) refl
 
 line_5 : event_line 1 0 ≡ codes "000005 R0 V C 01:00:00:06 01:00:00:12 01:00:01:02 01:00:01:08\n"
-unfolding event_line label_text
-line_5 = refl
+unfolding event_line
+line_5 = rw (label 86406 (lit≤ tt), label 86412 (lit≤ tt), label 86426 (lit≤ tt), label 86432 (lit≤ tt)) refl
 
 motion_4 : motion_line 0 ≡ codes "M2 R3 012.0 01:00:00:00\n"
-unfolding motion_line label_text
-motion_4 = refl
+unfolding motion_line
+motion_4 = rw (label 86400 (lit≤ tt)) refl
 
 list_1 : list_text 1 ≡ codes "TITLE: DEMO\n000001 R0 V C 01:00:00:00 01:00:00:06 01:00:00:00 01:00:00:06\n"
 list_1 = rw line_1 refl
