@@ -1,5 +1,5 @@
 -- Refusals of asks, one after another.
-use Rattle.std.proofs.Common.{◌≡◌, ℕ, zero, suc, ◌+◌, ◌-◌, ◌<◌, List, [], ◌∷◌, ◌++◌, filter_map, slice_get, refl, sym, ap, ◌∙◌, arith, append-nil, append_assoc, Option, Result, is_some, true, false}
+use Rattle.std.proofs.Common.{◌≡◌, ℕ, zero, suc, ◌+◌, ◌-◌, ◌<◌, List, [], ◌∷◌, ◌++◌, filter_map, slice_get, refl, sym, ap, subst, ◌∙◌, arith, append-nil, append_assoc, Option, Result, is_some, true, false}
 use Rattle.std.specs.Prelude.{Some, None, IfSome, Ok, Err, OnOk}
 use Rattle.std.proofs.lemmas.Bool.{true≢false}
 use Rattle.std.proofs.lemmas.List.Elements.{filter_map-append}
@@ -18,7 +18,7 @@ use Rattle.record_timeline.specs.declared.Side.{Side}
 use Rattle.cf_base.specs.declared.event.Transition.{Transition}
 use Rattle.conform_job.specs.Asks.{asks_at, asks_from, asks_of_side, asks_of_shot}
 use Rattle.conform_job.specs.Keys.{info_at, key_of_ask}
-use Rattle.conform_job.specs.Refusals.{Files, asks_refusal, ask_refusal, name_of_ask}
+use Rattle.conform_job.specs.Refusals.{Files, asks_refusal, ask_refusal, key_refusal, name_of_ask}
 use Rattle.conform_job.specs.Answers.{IsRefusal, IsStep, AreInfosOf}
 use Rattle.conform_job.proofs.Growing.{one_refusal, kept_passes, seen_is}
 
@@ -53,12 +53,20 @@ pub none_by : {A : Type 0} (r : Option A) → is_some r ≡ false → r ≡ None
 none_by None h = refl
 none_by (Some a) h = absurd (true≢false h)
 
+-- the first of some asks, and then of others: over any test of an ask, so that no header is read here
+module _ {A B : Type 0} (f : A → Option B) (xs ys : List A) where
+  first_behind : slice_get (filter_map f xs) 0 ≡ None → slice_get (filter_map f (xs ++ ys)) 0 ≡ slice_get (filter_map f ys) 0
+  first_behind none = ap (λ all. slice_get all 0) (filter_map-append f xs ys) ∙ head_rest (filter_map f xs) (filter_map f ys) none
+
+  first_before : (b : B) → slice_get (filter_map f xs) 0 ≡ Some b → slice_get (filter_map f (xs ++ ys)) 0 ≡ Some b
+  first_before b some = ap (λ all. slice_get all 0) (filter_map-append f xs ys) ∙ head_first (filter_map f xs) (filter_map f ys) b some
+
 module _ (p : JobParts) (world : Files) where
   pub none_then : (xs ys : List Ask) → asks_refusal p world xs ≡ None → asks_refusal p world (xs ++ ys) ≡ asks_refusal p world ys
-  none_then xs ys e = rw filter_map-append (head_rest (filter_map (ask_refusal p world) xs) (filter_map (ask_refusal p world) ys) e)
+  none_then xs ys e = first_behind (ask_refusal p world) xs ys e
 
   some_first : (xs ys : List Ask) (why : JobFault) → asks_refusal p world xs ≡ Some why → asks_refusal p world (xs ++ ys) ≡ Some why
-  some_first xs ys why e = rw filter_map-append (head_first (filter_map (ask_refusal p world) xs) (filter_map (ask_refusal p world) ys) why e)
+  some_first xs ys why e = first_before (ask_refusal p world) xs ys why e
 
   pub refused_first : (xs ys : List Ask) (why : JobFault) → IsRefusal why (asks_refusal p world xs) → IsRefusal why (asks_refusal p world (xs ++ ys))
   refused_first xs ys fault.SourceFault h = tt
@@ -71,7 +79,7 @@ module _ (p : JobParts) (world : Files) where
 
   -- a step that answers after others that refused nothing
   pub step_then : {A : Type 0} (xs ys : List Ask) (r : Result A JobFault) → asks_refusal p world xs ≡ None → IsStep r (asks_refusal p world ys) → IsStep r (asks_refusal p world (xs ++ ys))
-  step_then xs ys r e h = rw (none_then xs ys e) h
+  step_then xs ys r e h = subst (IsStep r) (sym (none_then xs ys e)) h
 
 -- a key that was seen before refuses nothing
 module _ (p : JobParts) (told : Option World) where
@@ -82,7 +90,8 @@ module _ (p : JobParts) (told : Option World) where
       no : is_some {T = FrameInfo} None ≡ true → ⊥
       no h = cc
   seen_by ask n key infos (Some info) at some named is each =
-      told_more told _ _ (λ world h. one_refusal p told (file_at world) ask n (Some key) named is ∙ h) (kept_passes p told n key info (seen_is p told infos key info each at))
+      told_more told (λ world. key_refusal p (file_at world) n (Some key) ≡ None) (λ world. asks_refusal p (file_at world) (ask ∷ []) ≡ None)
+      (λ world h. one_refusal p told (file_at world) ask n (Some key) named is ∙ h) (kept_passes p told n key info (seen_is p told infos key info each at))
 
   pub seen_told : (ask : Ask) (n : Named) (key : Key) (infos : List (Key × FrameInfo)) → is_some (info_at infos key) ≡ true → name_of_ask p.timeline.events ask ≡ Some n
       → Some key ≡ key_of_ask p.reels p.timeline.events ask → AreInfosOf p told infos → IfSome told (λ world. asks_refusal p (file_at world) (ask ∷ []) ≡ None)
@@ -111,10 +120,12 @@ module _ (t : RecordReel) where
 module _ (p : JobParts) (told : Option World) where
   pub told_then : {A : Type 0} (xs ys : List Ask) (r : Result A JobFault) → IfSome told (λ world. asks_refusal p (file_at world) xs ≡ None)
       → IfSome told (λ world. IsStep r (asks_refusal p (file_at world) ys)) → IfSome told (λ world. IsStep r (asks_refusal p (file_at world) (xs ++ ys)))
-  told_then xs ys r e h = told_both told _ _ _ (λ world none step. step_then p (file_at world) xs ys r none step) e h
+  told_then xs ys r e h = told_both told (λ world. asks_refusal p (file_at world) xs ≡ None) (λ world. IsStep r (asks_refusal p (file_at world) ys))
+      (λ world. IsStep r (asks_refusal p (file_at world) (xs ++ ys))) (λ world. step_then p (file_at world) xs ys r) e h
 
   pub told_refused : (xs ys : List Ask) (why : JobFault) → IfSome told (λ world. IsRefusal why (asks_refusal p (file_at world) xs)) → IfSome told (λ world. IsRefusal why (asks_refusal p (file_at world) (xs ++ ys)))
-  told_refused xs ys why h = told_more told _ _ (λ world refused. refused_first p (file_at world) xs ys why refused) h
+  told_refused xs ys why = told_more told (λ world. IsRefusal why (asks_refusal p (file_at world) xs)) (λ world. IsRefusal why (asks_refusal p (file_at world) (xs ++ ys)))
+      (λ world. refused_first p (file_at world) xs ys why)
 
 -- what a shot asks for, by its sides
 pub one_side : (side : Side) → asks_of_shot (One side) ≡ asks_of_side side

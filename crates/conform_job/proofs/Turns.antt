@@ -53,13 +53,20 @@ module _ (p : JobParts) (told : Option World) where
 
     pub refused_here : (why : JobFault) → IfSome told (λ world. asks_refusal p (file_at world) (asks_of p.timeline) ≡ asks_refusal p (file_at world) (asks_from p.timeline i (frame_count p.timeline.events - i)))
         → IfSome other (λ world. IsRefusal why (asks_refusal p (file_at world) (asks_of_shot shot))) → IfSome told (λ world. IsRefusal why (asks_refusal p (file_at world) (asks_of p.timeline)))
-    refused_here why = told_two told other _ _ _ same (λ world rest here.
-        subst (IsRefusal why) (sym (rest ∙ ap (asks_refusal p (file_at world)) left)) (refused_first p (file_at world) (asks_of_shot shot) (asks_from p.timeline (i + 1) (frame_count p.timeline.events - (i + 1))) why here))
+    refused_here why = told_two told other
+        (λ world. asks_refusal p (file_at world) (asks_of p.timeline) ≡ asks_refusal p (file_at world) (asks_from p.timeline i (frame_count p.timeline.events - i)))
+        (λ world. IsRefusal why (asks_refusal p (file_at world) (asks_of_shot shot))) (λ world. IsRefusal why (asks_refusal p (file_at world) (asks_of p.timeline))) same
+        (λ world rest here. subst (IsRefusal why) (sym (rest ∙ ap (asks_refusal p (file_at world)) left))
+        (refused_first p (file_at world) (asks_of_shot shot) (asks_from p.timeline (i + 1) (frame_count p.timeline.events - (i + 1))) why here))
 
     pub rest_next : IfSome told (λ world. asks_refusal p (file_at world) (asks_of p.timeline) ≡ asks_refusal p (file_at world) (asks_from p.timeline i (frame_count p.timeline.events - i)))
         → IfSome other (λ world. asks_refusal p (file_at world) (asks_of_shot shot) ≡ None)
         → IfSome told (λ world. asks_refusal p (file_at world) (asks_of p.timeline) ≡ asks_refusal p (file_at world) (asks_from p.timeline (i + 1) (frame_count p.timeline.events - (i + 1))))
-    rest_next = told_two told other _ _ _ same (λ world rest here. rest ∙ ap (asks_refusal p (file_at world)) left ∙ none_then p (file_at world) (asks_of_shot shot) (asks_from p.timeline (i + 1) (frame_count p.timeline.events - (i + 1))) here)
+    rest_next = told_two told other
+        (λ world. asks_refusal p (file_at world) (asks_of p.timeline) ≡ asks_refusal p (file_at world) (asks_from p.timeline i (frame_count p.timeline.events - i)))
+        (λ world. asks_refusal p (file_at world) (asks_of_shot shot) ≡ None)
+        (λ world. asks_refusal p (file_at world) (asks_of p.timeline) ≡ asks_refusal p (file_at world) (asks_from p.timeline (i + 1) (frame_count p.timeline.events - (i + 1)))) same
+        (λ world rest here. rest ∙ ap (asks_refusal p (file_at world)) left ∙ none_then p (file_at world) (asks_of_shot shot) (asks_from p.timeline (i + 1) (frame_count p.timeline.events - (i + 1))) here)
 
     pub grown_next : (a b c : List (Key × FrameInfo)) → Grows p told (asks_from p.timeline 0 i) a b → Grows p other (asks_of_shot shot) b c → Grows p told (asks_from p.timeline 0 (i + 1)) a c
     grown_next a b c first second =

@@ -9,6 +9,7 @@ ghost use Rattle.conform_job.specs.Answers.{IsStep, Grows, HeadsGrow};
 ghost use Rattle.conform_job.specs.Asks.{asks_of, shot_of_frame};
 ghost use Rattle.conform_job.specs.Cuts.{record_reel, reel_count, reel_span, HasFramesOf, IsWithin};
 ghost use Rattle.conform_job.specs.Ended.{HasAsked};
+ghost use Rattle.conform_job.specs.Found.{IsFound};
 ghost use Rattle.conform_job.specs.Infos.{HasEachOnce};
 ghost use Rattle.conform_job.specs.Job.{ArePlanned, IsByLines, IsNeeded, file_of};
 ghost use Rattle.conform_job.specs.Lines.{places_of, IsPlacedUnless};
@@ -90,20 +91,12 @@ impl Job {
         ensures world { S.world scans.new ≡ S.world scans.old }
         ensures same { S.same scans.old scans.new }
     {
-        let cuts = match cut_numbers(alloc, &parts) {
-            Ok(cuts) => cuts,
-            Err(fault) => return Err(fault),
-        };
-        let places = match places_in(alloc, &parts) {
-            Ok(places) => places,
-            Err(fault) => return Err(fault),
-        };
-        match infos_of(alloc, &parts, &places, scans) {
-            Ok(infos) => Ok(Job {
+        match found_of(alloc, &parts, scans) {
+            Ok(found) => Ok(Job {
                 parts,
-                cuts,
-                places,
-                infos,
+                cuts: found.cuts,
+                places: found.places,
+                infos: found.infos,
             }),
             Err(fault) => Err(fault),
         }
@@ -238,6 +231,49 @@ impl Job {
         ensures met { AreMet (shot_of_frame self.now.parts.timeline i) result }
     {
         need_of_shot(&self.parts, &self.places, &self.infos, self.shot(i))
+    }
+}
+
+/// What a plan finds of its parts: the numbers of the cuts, the places of the events' reels, and the files' infos.
+#[derive(Drop)]
+struct Found {
+    cuts: Vec<u32>,
+    places: Vec<Option<u16>>,
+    infos: Infos,
+}
+
+/// What a job has beside its parts, or the first refusal: the cuts first, then the lines, then the frames.
+fn found_of<S: Scans>(alloc: Global, parts: &JobParts, scans: &mut S) -> Result<Found, JobFault>
+    requires { ArePlanned parts.now }
+    ensures told { IfSome (S.world scans.old) (λ world. IsStep result (first_refusal parts.now (file_at world))) }
+    ensures lines { MatchResult result (λ _. told_refusal parts.now ≡ None) (λ why. IsByLines why (told_refusal parts.now)) }
+    ensures found { IfOk result (IsFound parts.now (S.world scans.old)) }
+    ensures heads { IfOk result (λ found. HeadsGrow (S.heads scans.old) (S.heads scans.new) 0 (length found.infos)) }
+    ensures asked { IfErr result (HasAsked parts.now (S.world scans.old) (S.heads scans.old) (S.heads scans.new)) }
+
+    ensures failed { result ≡ Err JobFault.SourceFault → HasRisen (S.faults scans.old) (S.faults scans.new) }
+    ensures steady { result ≢ Err JobFault.SourceFault → S.faults scans.new ≡ S.faults scans.old }
+    ensures later { S.faults scans.old ≤ S.faults scans.new }
+
+    ensures loads { S.loads scans.new ≡ S.loads scans.old }
+    ensures world { S.world scans.new ≡ S.world scans.old }
+    ensures same { S.same scans.old scans.new }
+{
+    let cuts = match cut_numbers(alloc, parts) {
+        Ok(cuts) => cuts,
+        Err(fault) => return Err(fault),
+    };
+    let places = match places_in(alloc, parts) {
+        Ok(places) => places,
+        Err(fault) => return Err(fault),
+    };
+    match infos_of(alloc, parts, &places, scans) {
+        Ok(infos) => Ok(Found {
+            cuts,
+            places,
+            infos,
+        }),
+        Err(fault) => Err(fault),
     }
 }
 

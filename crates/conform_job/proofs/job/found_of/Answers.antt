@@ -1,0 +1,70 @@
+-- The cuts first, then the lines, then the frames.
+use Rattle.conform_job.proofs.Planning.{err_as, no_err, cut_told, cut_lines, cut_steady, placed_told, placed_lines, placed_steady, none_told, frames_none, frames_told, frames_lines}
+use Rattle.conform_job.proofs.Ending.{cut_asked, ended_asked, placed_asked}
+use Rattle.conform_job.proofs.job.found_of.Goals as goal
+
+pub returns-in-Err-clause-told : goal.returns-in-Err-clause-told
+returns-in-Err-clause-told g c = cut_told c.args.parts.now (g.S.Scans.world c.args.scans.now) c.in-Err.fault c.in-Err.ensures.refused
+
+pub returns-in-Err-clause-lines : goal.returns-in-Err-clause-lines
+returns-in-Err-clause-lines g c = cut_lines c.args.parts.now c.in-Err.fault c.in-Err.ensures.refused
+
+pub returns-in-Err-clause-failed : goal.returns-in-Err-clause-failed
+returns-in-Err-clause-failed g c e = absurd (cut_steady c.args.parts.now c.in-Err.fault c.in-Err.ensures.refused e)
+
+pub returns-in-Err-places_in-clause-told : goal.returns-in-Err-places_in-clause-told
+returns-in-Err-places_in-clause-told g c =
+    placed_told c.args.parts.now (g.S.Scans.world c.args.scans.now) c.in-Err-places_in.fault c.in-Ok.ensures.none.0 c.in-Err-places_in.ensures.refused
+
+pub returns-in-Err-places_in-clause-lines : goal.returns-in-Err-places_in-clause-lines
+returns-in-Err-places_in-clause-lines g c = placed_lines c.args.parts.now c.in-Err-places_in.fault c.in-Ok.ensures.none.0 c.in-Err-places_in.ensures.refused
+
+pub returns-in-Err-places_in-clause-failed : goal.returns-in-Err-places_in-clause-failed
+returns-in-Err-places_in-clause-failed g c e = absurd (placed_steady c.args.parts.now c.in-Err-places_in.fault c.in-Err-places_in.ensures.refused e)
+
+pub returns-in-Ok-infos_of-clause-told : goal.returns-in-Ok-infos_of-clause-told
+returns-in-Ok-infos_of-clause-told g c =
+    frames_none c.args.parts.now (g.S.Scans.world c.args.scans.now) c.in-Ok.ensures.none.0 c.in-Ok-places_in.ensures.none.0 c.in-Ok-infos_of.ensures.told
+
+pub returns-in-Ok-infos_of-clause-lines : goal.returns-in-Ok-infos_of-clause-lines
+returns-in-Ok-infos_of-clause-lines g c = none_told c.args.parts.now c.in-Ok.ensures.none.0 c.in-Ok-places_in.ensures.none.0
+
+pub returns-in-Ok-infos_of-clause-found : goal.returns-in-Ok-infos_of-clause-found
+returns-in-Ok-infos_of-clause-found g c = record {
+  cut = c.in-Ok.ensures.none.0;
+  known = c.in-Ok-places_in.ensures.none.0;
+  cuts = c.in-Ok.ensures.none.1;
+  places = c.in-Ok-places_in.ensures.none.1;
+  grows = c.in-Ok-infos_of.ensures.grows;
+}
+
+pub returns-in-Ok-infos_of-clause-failed : goal.returns-in-Ok-infos_of-clause-failed
+returns-in-Ok-infos_of-clause-failed g c e = absurd (no_err _ _ e)
+
+pub returns-in-Ok-infos_of-clause-steady : goal.returns-in-Ok-infos_of-clause-steady
+returns-in-Ok-infos_of-clause-steady g c other = c.in-Ok-infos_of.ensures.steady (no_err _ _)
+
+pub returns-in-Err-infos_of-clause-told : goal.returns-in-Err-infos_of-clause-told
+returns-in-Err-infos_of-clause-told g c =
+    frames_told c.args.parts.now (g.S.Scans.world c.args.scans.now) c.in-Ok.ensures.none.0 c.in-Ok-places_in.ensures.none.0 c.in-Err-infos_of.fault c.in-Err-infos_of.ensures.told
+
+pub returns-in-Err-infos_of-clause-lines : goal.returns-in-Err-infos_of-clause-lines
+returns-in-Err-infos_of-clause-lines g c =
+    frames_lines c.args.parts.now (g.S.Scans.world c.args.scans.now) c.in-Ok.ensures.none.0 c.in-Ok-places_in.ensures.none.0 c.in-Err-infos_of.fault c.in-Err-infos_of.ensures.of_frames
+
+pub returns-in-Err-infos_of-clause-failed : goal.returns-in-Err-infos_of-clause-failed
+returns-in-Err-infos_of-clause-failed g c e = c.in-Err-infos_of.ensures.failed (err_as _ _ e)
+
+pub returns-in-Err-infos_of-clause-steady : goal.returns-in-Err-infos_of-clause-steady
+returns-in-Err-infos_of-clause-steady g c other = c.in-Err-infos_of.ensures.steady (λ e. other (err_as _ _ e))
+
+pub returns-in-Err-clause-asked : goal.returns-in-Err-clause-asked
+returns-in-Err-clause-asked g c = cut_asked c.args.parts.now (g.S.Scans.world c.args.scans.now) (g.S.Scans.heads c.args.scans.now) c.in-Err.fault c.in-Err.ensures.refused
+
+pub returns-in-Err-places_in-clause-asked : goal.returns-in-Err-places_in-clause-asked
+returns-in-Err-places_in-clause-asked g c =
+    placed_asked c.args.parts.now (g.S.Scans.world c.args.scans.now) (g.S.Scans.heads c.args.scans.now) c.in-Err-places_in.fault c.in-Err-places_in.ensures.refused
+
+pub returns-in-Err-infos_of-clause-asked : goal.returns-in-Err-infos_of-clause-asked
+returns-in-Err-infos_of-clause-asked g c =
+    ended_asked c.args.parts.now (g.S.Scans.world c.args.scans.now) _ _ c.in-Err-infos_of.fault c.in-Err-infos_of.ensures.of_frames c.in-Err-infos_of.ensures.end
