@@ -273,6 +273,10 @@ pub loaded_both : (named : Option (List ℕ)) (before between after : ℕ) → b
 loaded_both None before between after list cube = (1, omega arith, omega arith, cube ∙ list)
 loaded_both (Some path) before between after list cube = (2, omega arith, omega arith, cube ∙ ap (count_after 1) list)
 
+pub loaded_list : (named : Option (List ℕ)) (before between after : ℕ) → between ≡ count_after 1 before → after ≡ count_after (cube_count named) between → after ≡ count_after (1 + cube_count named) before
+loaded_list None before between after list cube = cube ∙ list
+loaded_list (Some path) before between after list cube = cube ∙ ap (count_after 1) list
+
 pub loaded_first : (before between after : ℕ) → between ≡ count_after 1 before → AreLoaded 0 2 between after → AreLoaded 1 3 before after
 loaded_first before between after project (count, few, many, is) = (count + 1, omega arith, omega (arith, many), is ∙ ap (count_after count) project ∙ count_sum count 1 before)
 

@@ -1,6 +1,6 @@
 -- The steps to the parts of a job, one after another; the list and the cube are loaded.
-use Rattle.std.proofs.Common.{◌∙◌, refl}
-use Rattle.project_job.proofs.Projects.{loaded_both, err_as, no_err, no_reels, no_list, no_timeline, no_look, all_parts}
+use Rattle.std.proofs.Common.{◌∙◌, refl, arith}
+use Rattle.project_job.proofs.Projects.{loaded_both, loaded_list, err_as, no_err, no_reels, no_list, no_timeline, no_look, all_parts}
 use Rattle.project_job.proofs.Loading.{loaded_behind, look_behind, stage_texts}
 use Rattle.project_job.proofs.project.parts_of.Goals as goal
 
@@ -87,3 +87,54 @@ returns-in-Err-timeline_of-clause-texts g c = stage_texts _ c.in-Err-timeline_of
 
 pub returns-in-Err-look_in-clause-texts : goal.returns-in-Err-look_in-clause-texts
 returns-in-Err-look_in-clause-texts g c = stage_texts _ c.in-Err-look_in.outcome c.in-Err-look_in.ensures.stage
+
+-- How many files were loaded: none, the list, and the list and the cube.
+pub returns-in-Err-clause-loads : goal.returns-in-Err-clause-loads
+returns-in-Err-clause-loads g c = (0, omega arith, omega arith, refl)
+
+pub returns-in-Err-list_in-clause-loads : goal.returns-in-Err-list_in-clause-loads
+returns-in-Err-list_in-clause-loads g c = (1, omega arith, omega arith, c.in-Err-list_in.ensures.loads)
+
+pub returns-in-Err-timeline_of-clause-loads : goal.returns-in-Err-timeline_of-clause-loads
+returns-in-Err-timeline_of-clause-loads g c = (1, omega arith, omega arith, c.in-Ok-list_in.ensures.loads)
+
+pub returns-clause-loaded : goal.returns-clause-loaded
+returns-clause-loaded g c = loaded_list c.args.project.cube (g.S.Scans.loads c.args.scan.now) _ _ c.in-Ok-list_in.ensures.loads c.in-Ok-look_in.ensures.loads
+
+-- The rest holds from call to call.
+pub returns-clause-planned : goal.returns-clause-planned
+returns-clause-planned g c = record {
+  reels = c.in-Ok.ensures.entries;
+  rate = c.in-Ok-timeline_of.ensures.rate;
+  some_width = c.requires.width.0;
+  most_width = c.requires.width.1;
+  some_height = c.requires.height.0;
+  most_height = c.requires.height.1;
+  some_bands = c.requires.bands.0;
+  most_bands = c.requires.bands.1;
+  cuts = c.requires.cuts;
+}
+
+pub returns-in-Err-look_in-clause-later : goal.returns-in-Err-look_in-clause-later
+returns-in-Err-look_in-clause-later g c = omega (arith, c.in-Ok-list_in.ensures.later, c.in-Err-look_in.ensures.later)
+
+pub returns-in-Err-look_in-clause-heads : goal.returns-in-Err-look_in-clause-heads
+returns-in-Err-look_in-clause-heads g c = c.in-Err-look_in.ensures.heads ∙ c.in-Ok-list_in.ensures.heads
+
+pub returns-in-Err-look_in-clause-world : goal.returns-in-Err-look_in-clause-world
+returns-in-Err-look_in-clause-world g c = c.in-Err-look_in.ensures.world ∙ c.in-Ok-list_in.ensures.world
+
+pub returns-in-Err-look_in-clause-same : goal.returns-in-Err-look_in-clause-same
+returns-in-Err-look_in-clause-same g c = g.met.S.Scans.same_trans _ _ _ c.in-Ok-list_in.ensures.same c.in-Err-look_in.ensures.same
+
+pub returns-clause-later : goal.returns-clause-later
+returns-clause-later g c = omega (arith, c.in-Ok-list_in.ensures.later, c.in-Ok-look_in.ensures.later)
+
+pub returns-clause-heads : goal.returns-clause-heads
+returns-clause-heads g c = c.in-Ok-look_in.ensures.heads ∙ c.in-Ok-list_in.ensures.heads
+
+pub returns-clause-world : goal.returns-clause-world
+returns-clause-world g c = c.in-Ok-look_in.ensures.world ∙ c.in-Ok-list_in.ensures.world
+
+pub returns-clause-same : goal.returns-clause-same
+returns-clause-same g c = g.met.S.Scans.same_trans _ _ _ c.in-Ok-list_in.ensures.same c.in-Ok-look_in.ensures.same

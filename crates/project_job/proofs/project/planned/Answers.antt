@@ -1,5 +1,5 @@
 -- The project, its list, its cube and its frames come to the job.
-use Rattle.std.proofs.Common.{◌+◌, sym, ap, ◌∙◌}
+use Rattle.std.proofs.Common.{◌+◌, sym, ap, ◌∙◌, arith}
 use Rattle.conform_job.specs.Answers.{count_after}
 use Rattle.conform_job.specs.declared.parts.JobParts.{JobParts}
 use Rattle.project_file.specs.declared.Project.{Project}
@@ -103,3 +103,40 @@ returns-clause-refused_heads g c =
     (judged (g.S.Scans.world c.args.scan.now) (g.S.Scans.world c.parts_of.new.scan) c.args.path.now c.in-Ok.read c.in-Ok-parts_of.parts c.in-Err-plan.fault
     (g.S.Scans.heads c.args.scan.now) (g.S.Scans.heads c.parts_of.new.scan) _ (c.in-Ok-parts_of.ensures.world ∙ c.in-Ok.ensures.world) (c.in-Ok-parts_of.ensures.heads ∙ c.in-Ok.ensures.heads)
     c.in-Ok.ensures.told (rw (c.in-Ok.ensures.world, c.deref.ensures.value) at c.in-Ok-parts_of.ensures.told) c.in-Err-plan.ensures.asked)
+
+-- A project that isn't had costs its own load.
+pub returns-in-Err-clause-loads : goal.returns-in-Err-clause-loads
+returns-in-Err-clause-loads g c = (1, omega arith, omega arith, c.in-Err.ensures.loads)
+
+-- The rest holds from call to call.
+pub returns-in-Err-parts_of-clause-later : goal.returns-in-Err-parts_of-clause-later
+returns-in-Err-parts_of-clause-later g c = omega (arith, c.in-Ok.ensures.later, c.in-Err-parts_of.ensures.later)
+
+pub returns-in-Err-parts_of-clause-world : goal.returns-in-Err-parts_of-clause-world
+returns-in-Err-parts_of-clause-world g c = c.in-Err-parts_of.ensures.world ∙ c.in-Ok.ensures.world
+
+pub returns-in-Err-parts_of-clause-same : goal.returns-in-Err-parts_of-clause-same
+returns-in-Err-parts_of-clause-same g c = g.met.S.Scans.same_trans _ _ _ c.in-Ok.ensures.same c.in-Err-parts_of.ensures.same
+
+pub returns-in-Ok-plan-clause-heads : goal.returns-in-Ok-plan-clause-heads
+returns-in-Ok-plan-clause-heads g c = rw (c.in-Ok-parts_of.ensures.heads, c.in-Ok.ensures.heads) at c.in-Ok-plan.ensures.heads
+
+pub returns-in-Ok-plan-clause-later : goal.returns-in-Ok-plan-clause-later
+returns-in-Ok-plan-clause-later g c = omega (arith, c.in-Ok.ensures.later, c.in-Ok-parts_of.ensures.later, c.in-Ok-plan.ensures.later)
+
+pub returns-in-Ok-plan-clause-world : goal.returns-in-Ok-plan-clause-world
+returns-in-Ok-plan-clause-world g c = c.in-Ok-plan.ensures.world ∙ c.in-Ok-parts_of.ensures.world ∙ c.in-Ok.ensures.world
+
+pub returns-in-Ok-plan-clause-same : goal.returns-in-Ok-plan-clause-same
+returns-in-Ok-plan-clause-same g c =
+    g.met.S.Scans.same_trans _ _ _ (g.met.S.Scans.same_trans _ _ _ c.in-Ok.ensures.same c.in-Ok-parts_of.ensures.same) c.in-Ok-plan.ensures.same
+
+pub returns-clause-later : goal.returns-clause-later
+returns-clause-later g c = omega (arith, c.in-Ok.ensures.later, c.in-Ok-parts_of.ensures.later, c.in-Err-plan.ensures.later)
+
+pub returns-clause-world : goal.returns-clause-world
+returns-clause-world g c = c.in-Err-plan.ensures.world ∙ c.in-Ok-parts_of.ensures.world ∙ c.in-Ok.ensures.world
+
+pub returns-clause-same : goal.returns-clause-same
+returns-clause-same g c =
+    g.met.S.Scans.same_trans _ _ _ (g.met.S.Scans.same_trans _ _ _ c.in-Ok.ensures.same c.in-Ok-parts_of.ensures.same) c.in-Err-plan.ensures.same
