@@ -3,7 +3,7 @@ use Rattle.std.proofs.Common.{◌≡◌, ℕ, ◌+◌, ◌-◌, ◌*◌, ◌<◌
 use Rattle.std.proofs.lemmas.List.{length-take-le, length-drop}
 use borrow.Rule.Slice.PartMut.{put_mid}
 use Rattle.tetra_look.specs.Words.{cube_word}
-use Rattle.tetra_look.proofs.Mapped.{IsMapped, mapped_more, mapped_part}
+use Rattle.tetra_look.proofs.Mapped.{IsMapped, mapped_none, mapped_more, mapped_part}
 use Rattle.tetra_look.proofs.grid.Grid.shade.Goals as goal
 
 pub loop-n-preserved : goal.loop-n-preserved
@@ -30,3 +30,9 @@ loop-i-preserved c =
     let m = c.loop-i.invariant in
     let within : i < length c.loop-i.words = omega (arith, c.loop-i.auto.words, c.loop-i-test.true) in
     mapped_more (cube_word c.args.self.now) i _ c.args.words.now c.loop-i.words m within (c.shade_one.ensures ∙ ap (cube_word c.args.self.now) (m.left i (omega arith)))
+
+pub loop-n-init : goal.loop-n-init
+loop-n-init c = mapped_none (cube_word c.args.self.now) c.args.words.now
+
+pub returns : goal.returns
+returns c = λ i lt. c.loop-i.invariant.done i (omega (arith, lt, c.loop-i-test.false, c.loop-i.auto.words))

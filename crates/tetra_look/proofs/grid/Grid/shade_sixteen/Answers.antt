@@ -7,7 +7,7 @@ use Rattle.tetra_look.specs.Grid.{green_step, blue_step}
 use Rattle.tetra_look.specs.Ways.{IsWay}
 use Rattle.tetra_look.specs.Lanes.{start_of}
 use Rattle.tetra_look.specs.Words.{cube_word}
-use Rattle.tetra_look.proofs.Mapped.{mapped_more}
+use Rattle.tetra_look.proofs.Mapped.{mapped_none, mapped_more}
 use Rattle.tetra_look.proofs.FoundWays.{colour_is, first_within, second_within, third_within}
 use Rattle.tetra_look.proofs.grid.Grid.shade_sixteen.Goals as goal
 
@@ -46,3 +46,9 @@ loop-k-preserved c =
     let codes : codes_of c.way_colour.result ≡ map (cube_code l colour) channels = c.way_colour.ensures ∙ colour_is l colour c.requires.three _ _ gs_is bs_is _ s _ w in
     let within : k < length c.loop-k.words = omega (arith, c.loop-k.auto.words, c.requires.count, c.loop-k-test.true) in
     mapped_more (cube_word l) k c.word_of.result c.args.words.now c.loop-k.words c.loop-k.invariant within (c.word_of.ensures.word ∙ ap colour_word codes)
+
+pub loop-k-init : goal.loop-k-init
+loop-k-init c = mapped_none (cube_word c.args.self.now) c.args.words.now
+
+pub returns : goal.returns
+returns c = λ i lt. c.loop-k.invariant.done i (omega (arith, lt, c.loop-k-test.false, c.loop-k.auto.words, c.requires.count))
