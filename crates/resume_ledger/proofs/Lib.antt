@@ -1,6 +1,7 @@
 pub mod Attaching
 pub mod Beginning
 pub mod Bodies
+pub mod Judging
 pub mod LawProofs
 pub mod Looking
 pub mod Noting
@@ -12,4 +13,5 @@ pub mod Records
 mod Rows
 pub mod Taking
 pub mod Versions
+pub mod Wholes
 pub mod Writing

@@ -1,8 +1,9 @@
 -- What a look answers.
-use Rattle.std.proofs.Common.{◌≡◌, ℕ, Bool, true, false, List, get_or, refl, subst}
+use Rattle.std.proofs.Common.{◌≡◌, ◌∙◌, inl, inr, ℕ, Bool, true, false, List, length, get_or, replicate, refl, sym, ap, subst, arith}
 use Rattle.std.specs.Prelude.{◌↔◌, Some, None, Result, Ok, Err, if◌then◌else◌}
 use Rattle.std.specs.Option.{option_map}
-use Rattle.std.proofs.lemmas.Bool.{false≢true}
+use Rattle.std.proofs.lemmas.Bool.{false≢true, cases_lt}
+use Rattle.std.proofs.lemmas.List.{get_or-replicate, get_or_past, length-replicate}
 use Rattle.reel_disk.specs.Disk.{Files, History, IsStill}
 use Rattle.reel_disk.proofs.Calls.{still_narrows}
 use Rattle.resume_ledger.specs.declared.attach.OpenFault.{OpenFault}
@@ -40,3 +41,24 @@ module _ (digest : List ℕ) (count : ℕ) (files : Files) where
 pub looked_along : (digest : List ℕ) (count : ℕ) (old mid new : History) → IsStill old mid → (result : Result ViewState OpenFault) → HasLooked digest count mid new result → HasLooked digest count old new result
 looked_along digest count old mid new still (Ok view) looked = subst (λ (v : Files). IsViewOf digest count v view) (still_view old mid still) looked
 looked_along digest count old mid new still (Err fault) refusal = refused_along digest count old mid new (still_narrows old mid still) (still_view old mid still) fault refusal
+
+-- nothing is acknowledged where no version counts
+pub viewed_none : (digest : List ℕ) (count : ℕ) (files : Files) → ((version : Version) → IsInForce version files → ⊥) → (gates : List Bool) → gates ≡ replicate count false → IsViewOf digest count files (record { gates = gates; body = None })
+viewed_none digest count files unsealed gates shut = record {
+  fit = λ version in_force. absurd (unsealed version in_force);
+  acks = record {
+    size = ap length shut ∙ length-replicate count false;
+    flags_are = λ i. (λ open_gate. absurd (false≢true (sym (each i) ∙ open_gate)), λ acks. absurd (unsealed acks.version acks.in_force));
+  };
+  hashes = λ i lt. no_record i (get_or gates i false);
+}
+  where
+    each : (i : ℕ) → get_or gates i false ≡ false
+    each i = elim (cases_lt i count) [
+      | inl lt ↦ ap (λ (l : List Bool). get_or l i false) shut ∙ get_or-replicate count i false false lt
+      | inr le ↦ get_or_past gates i false (omega (arith, le, ap length shut ∙ length-replicate count false))
+    ]
+
+    no_record : (i : ℕ) (flag : Bool) → IsRecordIn digest count i files (if flag then option_map (λ b. record_of b i) None else None)
+    no_record i true = λ _ second. unsealed Two second
+    no_record i false = λ _ second. unsealed Two second

@@ -2,6 +2,7 @@ use Rattle.std.proofs.Common.{rules, ◌≡◌, ◌+◌, arith, ap, ◌∙◌, s
 use Rattle.std.specs.Prelude.{Some}
 use Rattle.sha2.specs.Hashers.{Holds256}
 use Rattle.std.proofs.Common.{take}
+use Rattle.std.proofs.lemmas.List.{take_all}
 use Rattle.reel_disk.specs.Disk.{view_of}
 use Rattle.resume_ledger.proofs.Pieces.{piece_more}
 use Rattle.resume_ledger.proofs.Reading.{still_along}
@@ -22,3 +23,18 @@ loop-at-preserved g c = record {
   same = search rules;
   faults = search rules;
 }
+
+-- the file was read to its end
+pub returns-clause-hash : goal.returns-clause-hash
+returns-clause-hash g c told =
+    let there = c.requires.there told in
+    let before = c.loop-at.invariant.hashed told there.0 there.1 there.2 in
+    let all : take c.loop-at.at there.0 ≡ there.0 = take_all c.loop-at.at there.0 (omega (arith, there.2, c.loop-at-test.false)) in
+    (there.0, there.1, there.2, c.finalize.ensures there.0 (subst (Holds256 c.loop-at.hasher) all before.1))
+
+-- the reads before, and one more
+pub returns-in-Failed-clause-same : goal.returns-in-Failed-clause-same
+returns-in-Failed-clause-same g c = g.met.D.Disk.same_along _ _ _ c.loop-at.invariant.same c.read.ensures.same
+
+pub returns-in_default-clause-same : goal.returns-in_default-clause-same
+returns-in_default-clause-same g c = g.met.D.Disk.same_along _ _ _ c.loop-at.invariant.same c.read.ensures.same

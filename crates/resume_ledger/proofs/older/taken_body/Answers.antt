@@ -49,3 +49,9 @@ returns-clause-cause g c =
       later = omega (arith, c.acked_before.ensures.cause.later, c.record_all.ensures.cause.later);
       failed = λ bad. subst (λ n. HasRisen n (g.D.Disk.faults c.record_all.new.disk)) before (c.in-Err-record_all.ensures.cause.failed refl);
     }
+
+pub returns-in-Ok-record_all-clause-known : goal.returns-in-Ok-record_all-clause-known
+returns-in-Ok-record_all-clause-known g c =
+    let size : length c.record_all.new.body ≡ length c.args.body.items = c.record_all.ensures.size ∙ ap length c.deref_mut-2.ensures.value in
+    let full : length c.record_all.new.body ≡ c.args.body.len = size ∙ search rules in
+    ap length (take_at c.record_all.new.body (drop (length c.record_all.new.body) c.args.body.items) c.args.body.len full) ∙ size ∙ c.requires.size

@@ -1,5 +1,36 @@
-use Rattle.std.proofs.Common.{arith}
+use Rattle.std.proofs.Common.{◌≡◌, length, drop, ◌++◌, ◌∙◌, ap, sym, subst, arith}
+use Rattle.std.specs.Prelude.{Option, List, ℕ}
+use Rattle.std.proofs.lemmas.List.{length-take}
+use Rattle.reel_disk.specs.declared.disk.Length.TheVariants.{There}
+use Rattle.reel_disk.specs.declared.disk.Got.TheVariants.{Bytes}
+use Rattle.reel_disk.specs.Disk.{view_of, HasLength, HasRead}
+use Rattle.resume_ledger.specs.Body.{layout_of}
+use Rattle.resume_ledger.proofs.Wholes.{whole_front}
 use Rattle.resume_ledger.proofs.sealed.load_body.Goals as goal
 
 pub returns-in_default-read-clause-cause : goal.returns-in_default-read-clause-cause
 returns-in_default-read-clause-cause g c = record { later = omega (arith, c.length.ensures.cause.later, c.read.ensures.cause.later); failed = λ bad. cc }
+
+-- the whole file was read
+pub returns-in-Bytes-clause-body : goal.returns-in-Bytes-clause-body
+returns-in-Bytes-clause-body g c told =
+    let content = view_of (g.D.Disk.history c.args.disk.now) (layout_of c.args.version).body in
+    let len : c.in-There.len ≡ c.in-Ok.body.len = sym c.in-Ok.ensures.len in
+    let there : HasLength content (There c.in-Ok.body.len) = subst (λ n. HasLength content (There n)) len (subst (λ id. HasLength (view_of (g.D.Disk.history c.args.disk.now) id) (There c.in-There.len)) c.body.ensures (c.in-There.ensures.answer told)) in
+    let same = ap (λ m. m.view) (c.in-There.ensures.time told).same in
+    let read : HasRead content 0 c.read.new.into (Bytes c.in-Bytes.n) = subst (λ (found : Option (List ℕ)). HasRead found 0 c.read.new.into (Bytes c.in-Bytes.n)) (ap (λ view. view c.body-2.result) same ∙ ap (view_of (g.D.Disk.history c.args.disk.now)) c.body-2.ensures) (c.in-Bytes.ensures.answer told) in
+    whole_front content c.in-Ok.body.len c.in-Bytes.n c.read.new.into _ there read (c.if-n-len.true ∙ c.len.ensures) (c.read.auto.into ∙ c.deref_mut.ensures.len)
+
+pub returns-in-Bytes-clause-known : goal.returns-in-Bytes-clause-known
+returns-in-Bytes-clause-known g c =
+    omega (arith, length-take c.in-Ok.body.len (c.read.new.into ++ drop (length c.read.new.into) c.in-Ok.body.items), c.if-len-most.false, c.most.ensures, c.in-Ok.ensures.len)
+
+-- two calls on one disk
+pub returns-in-Bytes-clause-same : goal.returns-in-Bytes-clause-same
+returns-in-Bytes-clause-same g c = g.met.D.Disk.same_along _ _ _ c.length.ensures.same c.read.ensures.same
+
+pub returns-in-Failed-read-clause-same : goal.returns-in-Failed-read-clause-same
+returns-in-Failed-read-clause-same g c = g.met.D.Disk.same_along _ _ _ c.length.ensures.same c.read.ensures.same
+
+pub returns-in_default-read-clause-same : goal.returns-in_default-read-clause-same
+returns-in_default-read-clause-same g c = g.met.D.Disk.same_along _ _ _ c.length.ensures.same c.read.ensures.same

@@ -4,7 +4,7 @@ use Rattle.resume_ledger.specs.declared.layout.Version.TheVariants.{Two}
 use Rattle.resume_ledger.specs.Body.{layout_of}
 use Rattle.resume_ledger.specs.Ledger.{AreGatesOf}
 use Rattle.resume_ledger.specs.Attach.{IsOpenFor}
-use Rattle.resume_ledger.proofs.Attaching.{found}
+use Rattle.resume_ledger.proofs.Attaching.{found, refused}
 use Rattle.resume_ledger.proofs.sealed.open_sealed.Goals as goal
 
 pub returns-in-Ok-judge-clause-answer : goal.returns-in-Ok-judge-clause-answer
@@ -14,3 +14,8 @@ returns-in-Ok-judge-clause-answer g c told name size =
     let gates : AreGatesOf (layout_of Two) c.deref.result.now c.args.count c.of.result.gates = search rules in
     found c.args.digest c.args.count name size (g.D.Disk.history c.args.disk.now) (g.D.Disk.history c.read_body.new.disk) (c.requires.sealed told) (c.requires.firm told)
     (c.in-Ok.ensures.read (λ same. cc) told) c.deref.result.now (c.in-Ok.ensures.body told ∙ ap Some (sym c.deref.ensures.value)) judged.0 c.of.result is gates
+
+pub returns-clause-answer : goal.returns-clause-answer
+returns-clause-answer g c told name size =
+    refused _ _ Two _ _ (c.requires.sealed told) c.deref.result.now c.in-Err-judge.fault (record { narrows = (c.read_body.ensures.reading told).narrows; view = (c.in-Ok.ensures.read (λ same. cc) told).view })
+    (c.in-Ok.ensures.body told ∙ ap Some (sym c.deref.ensures.value)) c.in-Err-judge.ensures
