@@ -33,11 +33,15 @@ bare_command = on_top (λ s. record s {
   disable_version_flag = true;
 }) (new_app (codes "conform"))
 
-unfoldable pub simple_command : App
-simple_command = with_rule (with_rule (with_rule (with_rule (with_rule bare_command
+-- the command without its options
+abbrev pub positional_command : App
+positional_command = with_rule (with_rule (with_rule bare_command
     (required_rule (codes "command")))
     (required_rule (codes "subject")))
-    (new_rule (codes "extra")))
+    (new_rule (codes "extra"))
+
+unfoldable pub simple_command : App
+simple_command = with_rule (with_rule positional_command
     (number_rule (codes "workers") (codes "4")))
     (number_rule (codes "share") (codes "8"))
 

@@ -1,7 +1,7 @@
 //! What stands on a command line, whatever the command.
 ghost use Rattle.std.specs.Prelude.{◌≡◌, ℕ, IfOk, IsSomeAnd, MatchOption, false, map, option_map};
 ghost use Rattle.clap.specs.Words.{app_of, first_of, found_of, one_of, rows_of, rule_of};
-ghost use Rattle.command_words.specs.Lines.{HasNoLine, IsLine, IsNumber, LineText, MakesLine, ReadsNumeral, from_words, number_rule, simple_command, stands, text_of_line};
+ghost use Rattle.command_words.specs.Lines.{HasNoLine, IsLine, IsNumber, LineText, MakesLine, ReadsNumeral, from_words, number_rule, positional_command, simple_command, stands, text_of_line};
 
 use cf_base::{Fail, Never};
 use clap::error::ErrorKind;
@@ -45,24 +45,26 @@ pub fn line_of<'a>(alloc: Global, words: &'a [&'a str]) -> Result<Option<Line<'a
     }
 }
 
-/// The one command that `clap` reads.
+/// The one command that `clap` reads: three words in their places, and two options.
 fn simple_command<'a>(alloc: Global) -> Result<clap::Command<'a>, AllocError>
     ensures app { IfOk result (λ c. app_of c ≡ simple_command) }
 {
-    let command = Arg::new(alloc, "command").required(true);
-    let subject = Arg::new(alloc, "subject").required(true);
-    let extra = Arg::new(alloc, "extra");
-    let workers = number_option(alloc, "workers", "4");
-    let share = number_option(alloc, "share", "8");
+    positional_command(alloc)?
+        .arg(number_option(alloc, "workers", "4"))?
+        .arg(number_option(alloc, "share", "8"))
+}
+
+/// The command without its options: two words that have to be there, and a third.
+fn positional_command<'a>(alloc: Global) -> Result<clap::Command<'a>, AllocError>
+    ensures app { IfOk result (λ c. app_of c ≡ positional_command) }
+{
     clap::Command::new(alloc, "conform")
         .no_binary_name(true)
         .disable_help_flag(true)
         .disable_version_flag(true)
-        .arg(command)?
-        .arg(subject)?
-        .arg(extra)?
-        .arg(workers)?
-        .arg(share)
+        .arg(Arg::new(alloc, "command").required(true))?
+        .arg(Arg::new(alloc, "subject").required(true))?
+        .arg(Arg::new(alloc, "extra"))
 }
 
 /// An option that takes a number from 1 to 16.

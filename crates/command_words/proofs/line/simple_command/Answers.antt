@@ -1,28 +1,13 @@
-use Rattle.std.proofs.Common.{◌∙◌, ◌≡◌, rules, ap, ap₂, codes, true}
+use Rattle.std.proofs.Common.{◌∙◌, ap₂}
 use Rattle.std.proofs.lemmas.Result.{IfOk-weaker}
-use Rattle.clap.specs.Simple.{on_top}
-use Rattle.clap.specs.Words.{app_of, new_rule, rule_of, with_rule}
-use Rattle.command_words.specs.Lines.{bare_command, required_rule, simple_command}
-use Rattle.command_words.proofs.Lines.{set_help, set_name, set_version}
+use Rattle.clap.specs.Words.{with_rule}
+use Rattle.command_words.specs.Lines.{simple_command}
 use Rattle.command_words.proofs.line.simple_command.Goals as goal
 
 pub returns : goal.returns
 unfolding simple_command
 returns c =
-    let named = set_name c.new-3.result c.no_binary_name.result c.no_binary_name.ensures in
-    let helpless = set_help c.no_binary_name.result c.disable_help_flag.result c.disable_help_flag.ensures in
-    let versionless = set_version c.disable_help_flag.result c.disable_version_flag.result c.disable_version_flag.ensures in
-    let bare_is : app_of c.disable_version_flag.result ≡ bare_command =
-    versionless ∙ ap (on_top (λ s. record s { disable_version_flag = true })) (helpless
-    ∙ ap (on_top (λ s. record s { disable_help_flag = true })) (named
-    ∙ ap (on_top (λ s. record s { no_binary_name = true })) c.new-3.ensures.app)) in
-    let command_is : rule_of c.required-command.result ≡ required_rule (codes "command") = search rules in
-    let subject_is : rule_of c.required-subject.result ≡ required_rule (codes "subject") = search rules in
-    let extra_is : rule_of c.new-extra.result ≡ new_rule (codes "extra") = search rules in
-    let one = c.in_ok-arg.ensures.shape (search rules) ∙ ap₂ with_rule bare_is command_is in
-    let two = c.in_ok-arg-2.ensures.shape (search rules) ∙ ap₂ with_rule one subject_is in
-    let three = c.in_ok-arg-3.ensures.shape (search rules) ∙ ap₂ with_rule two extra_is in
-    let four = c.in_ok-arg-4.ensures.shape c.number_option-workers.ensures.global ∙ ap₂ with_rule three c.number_option-workers.ensures.rule in
+    let workers = c.in_ok-arg.ensures.shape c.number_option.ensures.global ∙ ap₂ with_rule c.in_ok-positional_command.ensures.app c.number_option.ensures.rule in
     record {
-      app = IfOk-weaker c.arg-5.result _ _ (λ r added. added.shape c.number_option-share.ensures.global ∙ ap₂ with_rule four c.number_option-share.ensures.rule) c.arg-5.ensures;
+      app = IfOk-weaker c.arg-2.result _ _ (λ r added. added.shape c.number_option-2.ensures.global ∙ ap₂ with_rule workers c.number_option-2.ensures.rule) c.arg-2.ensures;
     }
