@@ -10,7 +10,7 @@ use Rattle.project_run.specs.Crew.{HasFailed, told_by}
 use Rattle.command_words.specs.Commands.{Spells}
 use Rattle.command_words.specs.declared.command.Command.{Command}
 use Rattle.outcome_line.specs.declared.outcome.Outcome.{Outcome}
-use Rattle.conform_tool.specs.Reply.{Folders, House, scan_state}
+use Rattle.conform_tool.specs.States.{Folders, House, scan_state}
 use Rattle.conform_tool.specs.Answer.{SinkState, Answered}
 use Rattle.conform_tool.specs.Complete.{IsAccepted, HasNotRisen, IsComplete, IsUnfailed}
 use Rattle.conform_tool.specs.Headline.{AdoptsJob, RunsJob, KeepsItsPromise, HasEnded}

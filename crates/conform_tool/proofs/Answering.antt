@@ -5,7 +5,9 @@ use Rattle.scan_source.specs.World.{World}
 use Rattle.conform_tool.specs.Answer.{SinkState, IsPut, IsLinePut, IsUnread, Answered}
 use Rattle.command_words.specs.Commands.{Spells, IsNoCommand}
 use Rattle.outcome_line.specs.Output.{line_of, IsMade}
-use Rattle.conform_tool.specs.Reply.{Folders, House, ScanState, IsKindOf, UsesDisk, IsWholeReply}
+use Rattle.conform_tool.specs.Commands.{meaning_of}
+use Rattle.conform_tool.specs.Reply.{IsKindOf, IsWholeReply}
+use Rattle.conform_tool.specs.States.{Folders, House, ScanState}
 use Rattle.reel_qc.specs.declared.probe.ProbeKind.{ProbeKind}
 use Rattle.project_adopt.specs.Adopt.{GoesOn, IsAdoption, IsAdoptReply, IsPromised, IsRest, IsUnadopted}
 use Rattle.reconform.specs.Adopt.{HasAnswered}
@@ -259,7 +261,7 @@ adopt_instead told path old_path old old_after disk disk_after loads loads_after
 })
 
 folder_instead : (house : House) (command : Command) (before after : ScanState) (folders folders_after : Folders) (reached : Outcome) (output : List ℕ)
-    → UsesDisk house command before after folders folders_after reached output → UsesDisk house command before after folders folders_after outcomes.NoMemory (line_of outcomes.NoMemory)
+    → (meaning_of command).UsesDisk house before after folders folders_after reached output → (meaning_of command).UsesDisk house before after folders folders_after outcomes.NoMemory (line_of outcomes.NoMemory)
 folder_instead house (commands.Frame path) before after folders folders_after reached output uses = uses
 folder_instead house (commands.List path rate) before after folders folders_after reached output uses = uses
 folder_instead house (commands.Plan path) before after folders folders_after reached output uses = uses

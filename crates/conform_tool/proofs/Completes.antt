@@ -55,18 +55,22 @@ use Rattle.outcome_line.specs.declared.outcome.Outcome.{Outcome}
 use Rattle.outcome_line.specs.declared.outcome.Outcome.TheVariants as outcomes
 use Rattle.outcome_line.specs.declared.outcome.Refused.TheVariants as refused
 use Rattle.outcome_line.specs.declared.outcome.Which.TheVariants as which
-use Rattle.conform_tool.specs.Frame.{IsFrameCase, info_in}
-use Rattle.conform_tool.specs.List.{IsListCase}
-use Rattle.conform_tool.specs.Reply.{Folders, House, ScanState, HasFailedDisk, IsKindOf, IsDemoReply, IsJobReply, IsPlanForm, IsPullForm, IsWholeReply}
+use Rattle.conform_tool.specs.Commands.Frame.{IsFrameCase, info_in}
+use Rattle.conform_tool.specs.Commands.List.{IsListCase}
+use Rattle.conform_tool.specs.ByFolder.{HasFitFolder, HasSoundFolder}
+use Rattle.conform_tool.specs.ByJob.{HasJob, IsJobReply}
+use Rattle.conform_tool.specs.Commands.{meaning_of}
+use Rattle.conform_tool.specs.Commands.Demo.{IsDemoReply}
+use Rattle.conform_tool.specs.Commands.Plan.{IsPlanForm}
+use Rattle.conform_tool.specs.Commands.Pull.{IsPullForm}
+use Rattle.conform_tool.specs.Meaning.{IsThrough}
+use Rattle.conform_tool.specs.Reply.{IsKindOf, IsWholeReply}
+use Rattle.conform_tool.specs.States.{Folders, House, ScanState}
 use Rattle.conform_tool.specs.Answer.{SinkState, IsPut, Answered}
 use Rattle.conform_tool.specs.Conform.{CrewAnswered}
-use Rattle.conform_tool.specs.Complete.{HasFitFolder, HasJob, HasSoundFolder, IsAccepted, HasNotRisen, IsComplete, IsUnfailed}
+use Rattle.conform_tool.specs.Complete.{IsAccepted, HasNotRisen, IsComplete, IsUnfailed}
 use Rattle.conform_tool.proofs.Headlines.{at_world}
 use Rattle.conform_tool.proofs.Replies.{replied_run}
-
--- what was done, or found no memory
-abbrev IsThrough : Outcome → Type 0
-IsThrough reached = (reached ≡ outcomes.Done) ⊎ (reached ≡ outcomes.NoMemory)
 
 through : (command : Command) (reached : Outcome) → IsThrough reached → IsComplete command reached
 through (commands.Verify path) (outcomes.Damaged frame kept found) is = tt
@@ -367,7 +371,7 @@ reply_complete laws (commands.Demo count) world scan scan_after folders folders_
     demo_complete laws count output reached accepted whole.reply.right
 
 -- no call failed on a folder
-disks_steady : (command : Command) (folders folders_after : Folders) → HasNotRisen folders.reel.faults folders_after.reel.faults → HasNotRisen folders.old.faults folders_after.old.faults → HasFailedDisk command folders folders_after → ⊥
+disks_steady : (command : Command) (folders folders_after : Folders) → HasNotRisen folders.reel.faults folders_after.reel.faults → HasNotRisen folders.old.faults folders_after.old.faults → (meaning_of command).HasFailedDisk folders folders_after → ⊥
 disks_steady (commands.Adopt path old_path) folders folders_after disk_steady old_steady (inl failed) = old_steady failed
 disks_steady (commands.Adopt path old_path) folders folders_after disk_steady old_steady (inr failed) = disk_steady failed
 disks_steady command folders folders_after disk_steady old_steady failed = disk_steady failed

@@ -8,7 +8,9 @@ use Rattle.command_words.specs.declared.command.Command.{Command}
 use Rattle.command_words.specs.declared.command.Command.TheVariants as commands
 use Rattle.outcome_line.specs.declared.outcome.Outcome.{Outcome}
 use Rattle.outcome_line.specs.declared.outcome.Outcome.TheVariants as outcomes
-use Rattle.conform_tool.specs.Reply.{Folders, House, ScanState, IsDemoReply, IsKindOf, IsReply, IsWholeReply}
+use Rattle.conform_tool.specs.Commands.Demo.{IsDemoReply}
+use Rattle.conform_tool.specs.Reply.{IsKindOf, IsReply, IsWholeReply}
+use Rattle.conform_tool.specs.States.{Folders, House, ScanState}
 use Rattle.conform_tool.proofs.Replies.{reply_of}
 
 -- with no call on either, nothing failed

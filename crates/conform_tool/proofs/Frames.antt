@@ -13,8 +13,8 @@ use Rattle.dpx_header.specs.Writing.{header_of}
 use Rattle.dpx_pack.specs.Pixels.{pixels}
 use Rattle.dpx_pack.proofs.Front.{pixels_front}
 use Rattle.scan_source.specs.Answers.{first_bytes}
-use Rattle.conform_tool.specs.Frame.{info_in, frame_head, frame_form, IsFrameForm, IsFrameCase}
-use Rattle.conform_tool.specs.Reply.{IsRightBy}
+use Rattle.conform_tool.specs.Commands.Frame.{info_in, frame_head, frame_form, IsFrameForm, IsFrameCase}
+use Rattle.conform_tool.specs.ByFile.{IsRightBy}
 use Rattle.outcome_line.specs.declared.outcome.Outcome.TheVariants.{Done, Refused}
 use Rattle.outcome_line.specs.declared.outcome.Refused.TheVariants as refused
 

@@ -27,7 +27,8 @@ use Rattle.command_words.specs.declared.command.Command.TheVariants as commands
 use Rattle.outcome_line.specs.Output.{status_of}
 use Rattle.outcome_line.specs.declared.outcome.Outcome.{Outcome}
 use Rattle.outcome_line.specs.declared.outcome.Outcome.TheVariants as outcomes
-use Rattle.conform_tool.specs.Reply.{Folders, House, ScanState, IsKindOf}
+use Rattle.conform_tool.specs.Reply.{IsKindOf}
+use Rattle.conform_tool.specs.States.{Folders, House, ScanState}
 use Rattle.conform_tool.specs.Answer.{SinkState, IsPut, IsUnread, Answered}
 use Rattle.conform_tool.specs.Conform.{CrewAnswered}
 use Rattle.conform_tool.specs.Headline.{AdoptsJob, RunsJob, IsEmptyFolder, IsBeginning, left_with, KeepsItsPromise, HasEnded}

@@ -9,3 +9,4 @@ mod Lists
 mod Plans
 mod Pulls
 mod Replies
+mod Wholes

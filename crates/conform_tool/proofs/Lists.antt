@@ -3,9 +3,9 @@ use Rattle.std.proofs.Common.{◌≡◌, List, ℕ, take, Some, Ok, Err, IsOk, I
 use Rattle.cf_base.specs.declared.timing.Rate.{Rate}
 use Rattle.edl_events.specs.Lists.{list_of}
 use Rattle.edl_events.specs.declared.ListRefusal.{ListRefusal}
-use Rattle.conform_tool.specs.List.{IsListCase, IsListForm}
+use Rattle.conform_tool.specs.Commands.List.{IsListCase, IsListForm}
 use Rattle.printed_tables.specs.Table.{event_table}
-use Rattle.conform_tool.specs.Reply.{IsRightBy}
+use Rattle.conform_tool.specs.ByFile.{IsRightBy}
 use Rattle.outcome_line.specs.declared.outcome.Outcome.TheVariants.{Done, Refused}
 use Rattle.outcome_line.specs.declared.outcome.Refused.TheVariants as refused
 use Rattle.project_job.proofs.Projects.{front_list}

@@ -8,7 +8,9 @@ use Rattle.conform_job.specs.Job.{JobData}
 use Rattle.conform_job.specs.declared.parts.JobParts.{JobParts}
 use Rattle.scan_source.specs.World.{World, file_at}
 use Rattle.project_job.specs.Jobs.{HasPlanned, IsOfJob}
-use Rattle.conform_tool.specs.Reply.{ScanState, IsJobReply, IsKindOf}
+use Rattle.conform_tool.specs.ByJob.{IsJobReply}
+use Rattle.conform_tool.specs.Reply.{IsKindOf}
+use Rattle.conform_tool.specs.States.{ScanState}
 use Rattle.outcome_line.specs.declared.outcome.Outcome.{Outcome}
 use Rattle.outcome_line.specs.declared.outcome.Outcome.TheVariants as outcomes
 use Rattle.outcome_line.specs.declared.outcome.Outcome.TheVariants.{Done, Usage, Refused, SourceFault, SinkFault, NoMemory}

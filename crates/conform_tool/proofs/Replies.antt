@@ -9,8 +9,8 @@ use Rattle.cf_base.specs.declared.fail.Fail.{Fail}
 use Rattle.cf_base.specs.declared.fail.Fail.TheVariants.{Fault}
 use Rattle.cf_base.specs.declared.timing.Rate.{Rate}
 use Rattle.scan_source.specs.World.{World, file_at}
-use Rattle.conform_tool.specs.Frame.{IsFrameCase, IsFrameForm}
-use Rattle.conform_tool.specs.List.{IsListCase, IsListForm}
+use Rattle.conform_tool.specs.Commands.Frame.{IsFrameCase, IsFrameForm}
+use Rattle.conform_tool.specs.Commands.List.{IsListCase, IsListForm}
 use Rattle.project_job.specs.Load.{IsFront, IsMissing, IsOfLoad}
 use Rattle.project_job.specs.declared.loads.Front.{Front}
 use Rattle.outcome_line.specs.declared.outcome.Refused.TheVariants.{NoFile, Project, Reels, List as EditList, Timeline, Cube, Job, Frame}
@@ -22,7 +22,10 @@ use Rattle.project_run.specs.Run.{IsOfRun}
 use Rattle.project_adopt.specs.Adopt.{IsOfAdopt}
 use Rattle.project_run.specs.Look.{IsOfLook}
 use Rattle.project_run.specs.Verify.{IsOfVerify}
-use Rattle.conform_tool.specs.Reply.{CallsDisk, ScanState, ByFile, IsRight, IsRightBy, HasLoaded, LooksAtHeads, IsKindOf, IsReply}
+use Rattle.conform_tool.specs.ByFile.{ByFile, IsRightBy}
+use Rattle.conform_tool.specs.Commands.{meaning_of}
+use Rattle.conform_tool.specs.Reply.{CallsDisk, IsKindOf, IsReply}
+use Rattle.conform_tool.specs.States.{ScanState}
 use Rattle.command_words.specs.declared.command.Command.{Command}
 use Rattle.command_words.specs.declared.command.Command.TheVariants as commands
 use Rattle.outcome_line.specs.declared.outcome.Outcome.{Outcome}
@@ -92,12 +95,12 @@ by_missing world path absent (Refused (Job fault_)) P told kind gone fault memor
 by_missing world path absent (Refused (Frame fault_)) P told kind gone fault memory = absurd kind
 
 pub reply_of : (command : Command) (before after : ScanState) (reached : Outcome) (output : List ℕ) → IsKindOf command reached
-    → IsRight command reached output before after
+    → (meaning_of command).IsRight reached output before after
     → (reached ≢ Done → output ≡ line_of reached)
     → (reached ≡ SourceFault → HasRisen before.faults after.faults)
     → (reached ≢ SourceFault → after.faults ≡ before.faults)
-    → before.faults ≤ after.faults → HasLoaded command before after reached
-    → LooksAtHeads command before after reached → after.world ≡ before.world
+    → before.faults ≤ after.faults → (meaning_of command).HasLoaded before after reached
+    → (meaning_of command).LooksAtHeads before after reached → after.world ≡ before.world
     → IsReply command before after reached output
 reply_of command before after reached output kind right line cause steady later loads heads world = record {
   right = right;
@@ -140,7 +143,7 @@ frame_memory world path output = by_any world path _ (λ file. record { case = t
 pub list_memory : (rate : Rate) (world : Option World) (path output : List ℕ) → ByFile world path (λ file. IsRightBy (IsListCase rate file) (IsListForm rate file) NoMemory output)
 list_memory rate world path output = by_any world path _ (λ file. record { case = tt; form = λ same. absurd (cc) })
 
-pub memory_right : (command : Command) (output : List ℕ) (before after : ScanState) → IsRight command NoMemory output before after
+pub memory_right : (command : Command) (output : List ℕ) (before after : ScanState) → (meaning_of command).IsRight NoMemory output before after
 memory_right (commands.Frame path) output before after = frame_memory before.world path output
 memory_right (commands.List path rate) output before after = list_memory rate before.world path output
 memory_right (commands.Plan path) output before after = told_any before.world (λ world. tt)
@@ -225,7 +228,7 @@ replied_verify path (outcomes.Changed reel key was now) kind = absurd kind
 replied_verify path other kind = tt
 
 -- an outcome whose line found no memory refuses nothing
-pub loads_instead : (command : Command) (before after : ScanState) (reached : Outcome) → HasLoaded command before after reached → HasLoaded command before after NoMemory
+pub loads_instead : (command : Command) (before after : ScanState) (reached : Outcome) → (meaning_of command).HasLoaded before after reached → (meaning_of command).HasLoaded before after NoMemory
 loads_instead (commands.Frame path) before after reached loads = loads
 loads_instead (commands.List path rate) before after reached loads = loads
 loads_instead (commands.Plan path) before after reached loads = record { texts = loads.texts; refused = λ refusal same. absurd (cc) }
@@ -238,7 +241,7 @@ loads_instead (commands.Adopt path old_path) before after reached loads = tt
 loads_instead (commands.Pull path margin) before after reached loads = record { texts = loads.texts; refused = λ refusal same. absurd (cc) }
 loads_instead (commands.Demo count) before after reached loads = loads
 
-pub heads_instead : (command : Command) (before after : ScanState) (reached : Outcome) → LooksAtHeads command before after reached → LooksAtHeads command before after NoMemory
+pub heads_instead : (command : Command) (before after : ScanState) (reached : Outcome) → (meaning_of command).LooksAtHeads before after reached → (meaning_of command).LooksAtHeads before after NoMemory
 heads_instead (commands.Frame path) before after reached heads = heads
 heads_instead (commands.List path rate) before after reached heads = heads
 heads_instead (commands.Plan path) before after reached heads = λ refusal same. absurd (cc)

@@ -1,18 +1,24 @@
 -- What the top call answers and puts.
+--     texts_of words      what the words say
 --     SinkState, sink_state      what a sink tells at a moment, and its count
 --     IsUnread      an outcome that was reached before anything was read
 --     IsUncalled Calls words      the words spell no command that makes such calls
 --     Answered      the answer to these words, over one scan and the two folders, in this house
-use Rattle.std.specs.Prelude.{◌≡◌, ◌⊎◌, ℕ, List, Option, MatchOption}
+use Rattle.std.specs.Prelude.{◌≡◌, ◌⊎◌, ℕ, List, map, Option, MatchOption}
+use Rattle.std.specs.Borrow.{Bor}
 use Rattle.std.specs.Io.KnownBytes.{Appends}
 use Rattle.cf_base.specs.Count.{HasRisen}
 use Rattle.cf_base.specs.Sink.{AppendsPrefix}
 use Rattle.command_words.specs.Commands.{Spells, IsNoCommand}
 use Rattle.outcome_line.specs.Output.{status_of, line_of, IsMade}
-use Rattle.conform_tool.specs.Reply.{Folders, House, ScanState, IsWholeReply}
+use Rattle.conform_tool.specs.Reply.{IsWholeReply}
+use Rattle.conform_tool.specs.States.{Folders, House, ScanState}
 use Rattle.command_words.specs.declared.command.Command.{Command}
 use Rattle.outcome_line.specs.declared.outcome.Outcome.{Outcome}
 use Rattle.outcome_line.specs.declared.outcome.Outcome.TheVariants.{Usage, SinkFault, NoMemory}
+
+abbrev pub texts_of : List (Bor (List ℕ)) → List (List ℕ)
+texts_of words = map (λ word. word.now) words
 
 pub record SinkState : Type 0 where
   pub written : Option (List ℕ)

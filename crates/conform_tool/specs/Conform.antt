@@ -1,7 +1,8 @@
 -- What the top call answers to the words of a run with several workers.
 --     IsAlone words      the words are no such run
+--     IsFirst scans scan      the scan is the first of them
 --     CrewAnswered      the answer to them, over all scans
-use Rattle.std.specs.Prelude.{◌≡◌, ◌≢◌, ◌⊎◌, ℕ, ◌≤◌, List, Option}
+use Rattle.std.specs.Prelude.{◌≡◌, ◌≢◌, ◌⊎◌, ℕ, ◌≤◌, List, slice_get, Option, Some}
 use Rattle.cf_base.specs.Count.{HasRisen}
 use Rattle.scan_source.specs.World.{World}
 use Rattle.command_words.specs.Commands.{Spells}
@@ -15,6 +16,9 @@ use Rattle.conform_tool.specs.Answer.{SinkState, IsPut}
 
 abbrev pub IsAlone : List (List ℕ) → Type 0
 IsAlone words = (path : List ℕ) (workers share : ℕ) → Spells words (commands.Run path workers share) → workers ≤ 1
+
+abbrev pub IsFirst : {S : Type 0} → List S → S → Type 0
+IsFirst scans scan = slice_get scans 0 ≡ Some scan
 
 module _ {S : Type 0} (world : S → Option World) (faults loads : S → ℕ) (same : S → S → Type 0) where
   -- The run came to this outcome with this output, and each fault has its cause.

@@ -1,8 +1,12 @@
 pub mod Answer
+pub mod ByFile
+pub mod ByFolder
+pub mod ByJob
+pub mod Commands
 pub mod Complete
 pub mod Conform
 pub mod Faults
-pub mod Frame
 pub mod Headline
-pub mod List
+pub mod Meaning
 pub mod Reply
+pub mod States

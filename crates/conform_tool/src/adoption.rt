@@ -1,8 +1,8 @@
 //! The command `adopt`.
-ghost use Rattle.std.specs.Prelude.{◌≡◌, ◌≢◌, ◌⊎◌, ◌≤◌, Err, IfErr, MatchResult};
+ghost use Rattle.std.specs.Prelude.{◌≡◌, ◌≢◌, ◌⊎◌, ◌≤◌, Err, IfErr};
 ghost use Rattle.cf_base.specs.Count.{HasRisen};
-ghost use Rattle.outcome_line.specs.Output.{line_of};
-ghost use Rattle.conform_tool.specs.Reply.{IsReply, scan_state};
+ghost use Rattle.conform_tool.specs.Reply.{IsReply, Reaches};
+ghost use Rattle.conform_tool.specs.States.{scan_state};
 ghost use Rattle.project_adopt.specs.Adopt.{IsAdoptReply};
 ghost use Rattle.project_run.specs.Run.{IsLeftAlone, disk_state};
 ghost use Rattle.command_words.specs.declared.command.Command.TheVariants as commands;
@@ -23,13 +23,14 @@ pub fn adopt<S: Scans, D: Disk>(
     disk: &mut D,
     old: &mut D,
 ) -> Result<Vec<u8>, Outcome>
-    ensures reply { MatchResult result
-        (λ text. IsReply (commands.Adopt path.now old_path.now) (scan_state S.world S.faults S.loads S.heads scan.old) (scan_state S.world S.faults S.loads S.heads scan.new) Outcome.Done text.items)
-        (λ outcome. IsReply (commands.Adopt path.now old_path.now) (scan_state S.world S.faults S.loads S.heads scan.old) (scan_state S.world S.faults S.loads S.heads scan.new) outcome (line_of outcome)) }
-    ensures folders { MatchResult result
-        (λ text. IsAdoptReply (S.world scan.old) path.now old_path.now (disk_state D.tells D.history D.faults old.old) (disk_state D.tells D.history D.faults old.new) (disk_state D.tells D.history D.faults disk.old) (disk_state D.tells D.history D.faults disk.new) (S.loads scan.old) (S.loads scan.new) Outcome.Done text.items)
-        (λ outcome. IsAdoptReply (S.world scan.old) path.now old_path.now (disk_state D.tells D.history D.faults old.old) (disk_state D.tells D.history D.faults old.new) (disk_state D.tells D.history D.faults disk.old) (disk_state D.tells D.history D.faults disk.new) (S.loads scan.old) (S.loads scan.new) outcome (line_of outcome)) }
-    ensures disk_fault { result ≡ Err Outcome.DiskFault → HasRisen (D.faults old.old) (D.faults old.new) ⊎ HasRisen (D.faults disk.old) (D.faults disk.new) }
+    ensures reply { Reaches result (IsReply (commands.Adopt path.now old_path.now)
+        (scan_state S.world S.faults S.loads S.heads scan.old) (scan_state S.world S.faults S.loads S.heads scan.new)) }
+    ensures folders { Reaches result (IsAdoptReply (S.world scan.old) path.now old_path.now
+        (disk_state D.tells D.history D.faults old.old) (disk_state D.tells D.history D.faults old.new)
+        (disk_state D.tells D.history D.faults disk.old) (disk_state D.tells D.history D.faults disk.new)
+        (S.loads scan.old) (S.loads scan.new)) }
+    ensures disk_fault { result ≡ Err Outcome.DiskFault
+        → HasRisen (D.faults old.old) (D.faults old.new) ⊎ HasRisen (D.faults disk.old) (D.faults disk.new) }
     ensures disk_steady { result ≢ Err Outcome.DiskFault → D.faults disk.new ≡ D.faults disk.old }
     ensures old_steady { result ≢ Err Outcome.DiskFault → D.faults old.new ≡ D.faults old.old }
     ensures disk_later { D.faults disk.old ≤ D.faults disk.new }

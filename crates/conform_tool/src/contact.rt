@@ -1,8 +1,8 @@
 //! The command `sheet`.
-ghost use Rattle.std.specs.Prelude.{◌≡◌, ◌≢◌, ◌≤◌, Err, IfErr, MatchResult};
+ghost use Rattle.std.specs.Prelude.{◌≡◌, ◌≢◌, ◌≤◌, Err, IfErr};
 ghost use Rattle.cf_base.specs.Count.{HasRisen};
-ghost use Rattle.outcome_line.specs.Output.{line_of};
-ghost use Rattle.conform_tool.specs.Reply.{IsReply, scan_state};
+ghost use Rattle.conform_tool.specs.Reply.{IsReply, Reaches};
+ghost use Rattle.conform_tool.specs.States.{scan_state};
 ghost use Rattle.project_run.specs.Sheet.{IsSheetReply};
 ghost use Rattle.project_run.specs.Run.{IsLeftAlone, disk_state};
 ghost use Rattle.command_words.specs.declared.command.Command.TheVariants as commands;
@@ -23,12 +23,11 @@ pub fn sheet<S: Scans, D: Disk>(
     disk: &mut D,
     tone: &Tone,
 ) -> Result<Vec<u8>, Outcome>
-    ensures reply { MatchResult result
-        (λ text. IsReply (commands.Sheet path.now) (scan_state S.world S.faults S.loads S.heads scan.old) (scan_state S.world S.faults S.loads S.heads scan.new) Outcome.Done text.items)
-        (λ outcome. IsReply (commands.Sheet path.now) (scan_state S.world S.faults S.loads S.heads scan.old) (scan_state S.world S.faults S.loads S.heads scan.new) outcome (line_of outcome)) }
-    ensures folder { MatchResult result
-        (λ text. IsSheetReply tone.now.table (S.world scan.old) path.now (disk_state D.tells D.history D.faults disk.old) (disk_state D.tells D.history D.faults disk.new) (S.loads scan.old) (S.loads scan.new) Outcome.Done text.items)
-        (λ outcome. IsSheetReply tone.now.table (S.world scan.old) path.now (disk_state D.tells D.history D.faults disk.old) (disk_state D.tells D.history D.faults disk.new) (S.loads scan.old) (S.loads scan.new) outcome (line_of outcome)) }
+    ensures reply { Reaches result (IsReply (commands.Sheet path.now)
+        (scan_state S.world S.faults S.loads S.heads scan.old) (scan_state S.world S.faults S.loads S.heads scan.new)) }
+    ensures folder { Reaches result (IsSheetReply tone.now.table (S.world scan.old) path.now
+        (disk_state D.tells D.history D.faults disk.old) (disk_state D.tells D.history D.faults disk.new)
+        (S.loads scan.old) (S.loads scan.new)) }
     ensures disk_fault { result ≡ Err Outcome.DiskFault → HasRisen (D.faults disk.old) (D.faults disk.new) }
     ensures disk_steady { result ≢ Err Outcome.DiskFault → D.faults disk.new ≡ D.faults disk.old }
     ensures disk_later { D.faults disk.old ≤ D.faults disk.new }

@@ -1,13 +1,13 @@
 //! The command `frame`.
-ghost use Rattle.std.specs.Prelude.{◌≡◌, ◌+◌, ◌*◌, ◌≤◌, ◌++◌, min, length, IfOk, IfErr, IsOkAnd, Err, MatchResult};
+ghost use Rattle.std.specs.Prelude.{◌≡◌, ◌+◌, ◌*◌, ◌≤◌, ◌++◌, min, length, IfOk, IfErr, IsOkAnd, Err};
 ghost use Rattle.std.specs.List.{flat_map};
 ghost use Rattle.byteorder.specs.Endian.{big_bytes};
 ghost use Rattle.dpx_header.specs.Frame.{IsFrame, need_of};
 ghost use Rattle.dpx_header.specs.Writing.{header_of};
 ghost use Rattle.dpx_pack.specs.Pixels.{pixels};
-ghost use Rattle.conform_tool.specs.Frame.{frame_head, frame_form};
-ghost use Rattle.conform_tool.specs.Reply.{IsReply, scan_state};
-ghost use Rattle.outcome_line.specs.Output.{line_of};
+ghost use Rattle.conform_tool.specs.Commands.Frame.{frame_head, frame_form};
+ghost use Rattle.conform_tool.specs.Reply.{IsReply, Reaches};
+ghost use Rattle.conform_tool.specs.States.{scan_state};
 ghost use Rattle.command_words.specs.declared.command.Command.TheVariants as commands;
 ghost use Rattle.scan_source.specs.Answers.{first_bytes};
 ghost use Rattle.dpx_header.specs.Reading.{info_of};
@@ -27,9 +27,8 @@ const MOST: u64 = 84_914_180;
 
 /// The pixels of the file at a path, under a new header: the whole file that is put, or the outcome that was reached.
 pub fn frame<S: Scans>(alloc: Global, path: &PathText, scan: &mut S) -> Result<Vec<u8>, Outcome>
-    ensures reply { MatchResult result
-        (λ file. IsReply (commands.Frame path.now) (scan_state S.world S.faults S.loads S.heads scan.old) (scan_state S.world S.faults S.loads S.heads scan.new) Outcome.Done file.items)
-        (λ outcome. IsReply (commands.Frame path.now) (scan_state S.world S.faults S.loads S.heads scan.old) (scan_state S.world S.faults S.loads S.heads scan.new) outcome (line_of outcome)) }
+    ensures reply { Reaches result (IsReply (commands.Frame path.now)
+        (scan_state S.world S.faults S.loads S.heads scan.old) (scan_state S.world S.faults S.loads S.heads scan.new)) }
     ensures same { S.same scan.old scan.new }
 {
     let front = match load(alloc, path, MOST, Which::Frame, scan) {
@@ -61,7 +60,7 @@ fn converted(alloc: Global, bytes: &[u8], len: u64) -> Result<Vec<u8>, Fail<DpxF
 }
 
 /// The file's pixels in big-endian words, under a new header.
-#[tactic(auto, unfolding(crate::specs::Frame::frame_form))]
+#[tactic(auto, unfolding(crate::specs::Commands::Frame::frame_form))]
 fn new_file(alloc: Global, info: &FrameInfo, bytes: &[u8]) -> Result<Vec<u8>, AllocError>
     requires frame { IsFrame info.now }
     requires whole { need_of info.now ≤ length bytes.now }

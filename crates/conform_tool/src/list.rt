@@ -1,9 +1,9 @@
 //! The command `list`.
-ghost use Rattle.std.specs.Prelude.{◌≡◌, ◌≤◌, IfOk, IsOkAnd, Err, MatchResult};
+ghost use Rattle.std.specs.Prelude.{◌≡◌, ◌≤◌, IfOk, IsOkAnd, Err};
 ghost use Rattle.edl_events.specs.Lists.{list_of};
 ghost use Rattle.conform_tool.specs.Faults.{IfFault};
-ghost use Rattle.outcome_line.specs.Output.{line_of};
-ghost use Rattle.conform_tool.specs.Reply.{IsReply, scan_state};
+ghost use Rattle.conform_tool.specs.Reply.{IsReply, Reaches};
+ghost use Rattle.conform_tool.specs.States.{scan_state};
 ghost use Rattle.printed_tables.specs.Table.{event_table};
 ghost use Rattle.command_words.specs.declared.command.Command.TheVariants as commands;
 
@@ -22,9 +22,8 @@ pub fn list<S: Scans>(
     rate: Rate,
     scan: &mut S,
 ) -> Result<Vec<u8>, Outcome>
-    ensures reply { MatchResult result
-        (λ table. IsReply (commands.List path.now rate) (scan_state S.world S.faults S.loads S.heads scan.old) (scan_state S.world S.faults S.loads S.heads scan.new) Outcome.Done table.items)
-        (λ outcome. IsReply (commands.List path.now rate) (scan_state S.world S.faults S.loads S.heads scan.old) (scan_state S.world S.faults S.loads S.heads scan.new) outcome (line_of outcome)) }
+    ensures reply { Reaches result (IsReply (commands.List path.now rate)
+        (scan_state S.world S.faults S.loads S.heads scan.old) (scan_state S.world S.faults S.loads S.heads scan.new)) }
     ensures same { S.same scan.old scan.new }
 {
     let front = match load(alloc, path, MOST_LIST, Which::List, scan) {

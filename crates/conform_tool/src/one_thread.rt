@@ -3,11 +3,11 @@ ghost use Rattle.std.specs.Prelude.{◌≡◌, ◌≤◌, ℕ, List, length, map
 ghost use Rattle.conform_job.specs.Job.{JobData};
 ghost use Rattle.scan_source.specs.World.{World};
 ghost use Rattle.reel_disk.specs.Disk.{view_of};
-ghost use Rattle.conform_tool.specs.Answer.{Answered, IsFoundIn, IsLinePut, IsPut, IsUncalled, sink_state};
-ghost use Rattle.conform_tool.specs.Complete.{IsAccepted, HasNotRisen, IsComplete, IsUnfailed};
+ghost use Rattle.conform_tool.specs.Answer.{Answered, IsFoundIn, IsLinePut, IsPut, IsUncalled, sink_state, texts_of};
+ghost use Rattle.conform_tool.specs.Complete.{IsAccepted, IsComplete, IsUnfailed, NoCallFailed};
 ghost use Rattle.conform_tool.specs.Headline.{AdoptsJob, RunsJob, KeepsItsPromise, HasEnded};
-ghost use Rattle.outcome_line.specs.Output.{line_of};
-ghost use Rattle.conform_tool.specs.Reply.{CallsDisk, CallsOld, IsWholeReply, folders_of, house_of, scan_state};
+ghost use Rattle.conform_tool.specs.Reply.{CallsDisk, CallsOld, IsWholeReply, Reaches};
+ghost use Rattle.conform_tool.specs.States.{folders_of, house_of, scan_state};
 ghost use Rattle.command_words.specs.Commands.{HasCounts, IsNoCommand, Spells};
 ghost use Rattle.project_run.specs.Run.{IsLeftAlone};
 
@@ -47,7 +47,7 @@ pub fn answer<S: Scans, D: Disk, K: Sink>(
     tone: &Tone,
 ) -> Outcome
     requires few { length probes.now ≤ 16 }
-    ensures answered { Answered (house_of (map (λ p. p.kind) probes.now) tone.now.table) (map (λ w. w.now) words.now)
+    ensures answered { Answered (house_of (map (λ p. p.kind) probes.now) tone.now.table) (texts_of words.now)
         (scan_state S.world S.faults S.loads S.heads scan.old) (scan_state S.world S.faults S.loads S.heads scan.new)
         (folders_of D.tells D.history D.faults disk.old old.old) (folders_of D.tells D.history D.faults disk.new old.new)
         (sink_state K.written K.faults out.old) (sink_state K.written K.faults out.new) result }
@@ -57,24 +57,27 @@ pub fn answer<S: Scans, D: Disk, K: Sink>(
     // What is left alone is the very disk, or the very scan.
     ensures untouched { IsLeftAlone disk.old disk.new result }
     ensures old_untouched { IsLeftAlone old.old old.new result }
-    ensures no_call { IsUncalled CallsDisk (map (λ w. w.now) words.now) → disk.new ≡ disk.old }
-    ensures no_old_call { IsUncalled CallsOld (map (λ w. w.now) words.now) → old.new ≡ old.old }
-    ensures unread { IsNoCommand (map (λ w. w.now) words.now) → scan.new ≡ scan.old }
+    ensures no_call { IsUncalled CallsDisk (texts_of words.now) → disk.new ≡ disk.old }
+    ensures no_old_call { IsUncalled CallsOld (texts_of words.now) → old.new ≡ old.old }
+    ensures unread { IsNoCommand (texts_of words.now) → scan.new ≡ scan.old }
     ensures old_same { D.same old.old old.new }
 
     // The headline.
-    ensures headline { (world : World) (job : JobData) → RunsJob (map (λ w. w.now) words.now) (S.world scan.old) D.tells world job
+    ensures headline { (world : World) (job : JobData) → RunsJob (texts_of words.now) (S.world scan.old) D.tells world job
         → KeepsItsPromise job world (D.history disk.old) (D.history disk.new) (HasEnded result) }
-    ensures adopted { (world : World) (job : JobData) → AdoptsJob (map (λ w. w.now) words.now) (S.world scan.old) D.tells world (view_of (D.history old.old)) job
+    ensures adopted { (world : World) (job : JobData)
+        → AdoptsJob (texts_of words.now) (S.world scan.old) D.tells world (view_of (D.history old.old)) job
         → KeepsItsPromise job world (D.history disk.old) (D.history disk.new) (HasEnded result) }
 
     // Where nothing stands in the way of the command and no call failed, it is done, or memory ran out.
-    ensures complete { (command : Command) (world : World) → Spells (map (λ w. w.now) words.now) command → S.world scan.old ≡ Some world
+    ensures complete { (command : Command) (world : World) → Spells (texts_of words.now) command → S.world scan.old ≡ Some world
         → IsAccepted command world (folders_of D.tells D.history D.faults disk.old old.old)
-        → HasNotRisen (S.faults scan.old) (S.faults scan.new) → HasNotRisen (D.faults disk.old) (D.faults disk.new) → HasNotRisen (D.faults old.old) (D.faults old.new) → HasNotRisen (K.faults out.old) (K.faults out.new)
+        → NoCallFailed S.faults scan.old scan.new → NoCallFailed D.faults disk.old disk.new
+        → NoCallFailed D.faults old.old old.new → NoCallFailed K.faults out.old out.new
         → IsComplete command result }
-    ensures unfailed { (command : Command) → Spells (map (λ w. w.now) words.now) command
-        → HasNotRisen (S.faults scan.old) (S.faults scan.new) → HasNotRisen (D.faults disk.old) (D.faults disk.new) → HasNotRisen (D.faults old.old) (D.faults old.new) → HasNotRisen (K.faults out.old) (K.faults out.new)
+    ensures unfailed { (command : Command) → Spells (texts_of words.now) command
+        → NoCallFailed S.faults scan.old scan.new → NoCallFailed D.faults disk.old disk.new
+        → NoCallFailed D.faults old.old old.new → NoCallFailed K.faults out.old out.new
         → IsUnfailed command result }
 {
     job_laws();
@@ -98,7 +101,8 @@ pub(crate) fn answer_found<S: Scans, D: Disk, K: Sink, C: Counter>(
 ) -> Outcome
     requires ready { C.ready }
     requires counts { IfSome found HasCounts }
-    ensures answered { (words : List (List ℕ)) → IsFoundIn words found → Answered (house_of (map (λ p. p.kind) probes.now) tone.now.table) words
+    ensures answered { (words : List (List ℕ)) → IsFoundIn words found
+        → Answered (house_of (map (λ p. p.kind) probes.now) tone.now.table) words
         (scan_state S.world S.faults S.loads S.heads scan.old) (scan_state S.world S.faults S.loads S.heads scan.new)
         (folders_of D.tells D.history D.faults disk.old old.old) (folders_of D.tells D.history D.faults disk.new old.new)
         (sink_state K.written K.faults out.old) (sink_state K.written K.faults out.new) result }
@@ -133,9 +137,9 @@ fn carried_out<S: Scans, D: Disk, C: Counter>(
 ) -> Result<Vec<u8>, Outcome>
     requires ready { C.ready }
     requires counts { HasCounts command.now }
-    ensures reply { MatchResult result
-        (λ output. IsWholeReply (house_of (map (λ p. p.kind) probes.now) tone.now.table) command.now (scan_state S.world S.faults S.loads S.heads scan.old) (scan_state S.world S.faults S.loads S.heads scan.new) (folders_of D.tells D.history D.faults disk.old old.old) (folders_of D.tells D.history D.faults disk.new old.new) Outcome.Done output.items)
-        (λ outcome. IsWholeReply (house_of (map (λ p. p.kind) probes.now) tone.now.table) command.now (scan_state S.world S.faults S.loads S.heads scan.old) (scan_state S.world S.faults S.loads S.heads scan.new) (folders_of D.tells D.history D.faults disk.old old.old) (folders_of D.tells D.history D.faults disk.new old.new) outcome (line_of outcome)) }
+    ensures reply { Reaches result (IsWholeReply (house_of (map (λ p. p.kind) probes.now) tone.now.table) command.now
+        (scan_state S.world S.faults S.loads S.heads scan.old) (scan_state S.world S.faults S.loads S.heads scan.new)
+        (folders_of D.tells D.history D.faults disk.old old.old) (folders_of D.tells D.history D.faults disk.new old.new)) }
     ensures same { S.same scan.old scan.new }
     ensures untouched { IfErr result (IsLeftAlone disk.old disk.new) }
     ensures old_untouched { IfErr result (IsLeftAlone old.old old.new) }

@@ -1,7 +1,6 @@
 //! The command `plan`.
-ghost use Rattle.std.specs.Prelude.{MatchResult};
-ghost use Rattle.outcome_line.specs.Output.{line_of};
-ghost use Rattle.conform_tool.specs.Reply.{IsReply, scan_state};
+ghost use Rattle.conform_tool.specs.Reply.{IsReply, Reaches};
+ghost use Rattle.conform_tool.specs.States.{scan_state};
 ghost use Rattle.command_words.specs.declared.command.Command.TheVariants as commands;
 
 use cf_base::PathText;
@@ -13,9 +12,8 @@ use std::alloc::Global;
 
 /// The plan of the job of the project at a path, or the outcome that was reached.
 pub fn plan<S: Scans>(alloc: Global, path: &PathText, scan: &mut S) -> Result<Vec<u8>, Outcome>
-    ensures reply { MatchResult result
-        (λ text. IsReply (commands.Plan path.now) (scan_state S.world S.faults S.loads S.heads scan.old) (scan_state S.world S.faults S.loads S.heads scan.new) Outcome.Done text.items)
-        (λ outcome. IsReply (commands.Plan path.now) (scan_state S.world S.faults S.loads S.heads scan.old) (scan_state S.world S.faults S.loads S.heads scan.new) outcome (line_of outcome)) }
+    ensures reply { Reaches result (IsReply (commands.Plan path.now)
+        (scan_state S.world S.faults S.loads S.heads scan.old) (scan_state S.world S.faults S.loads S.heads scan.new)) }
     ensures same { S.same scan.old scan.new }
 {
     let job = match planned(alloc, path, scan) {

@@ -1,7 +1,8 @@
 //! The command `pull`.
-ghost use Rattle.std.specs.Prelude.{◌≤◌, IfOk, MatchResult};
-ghost use Rattle.outcome_line.specs.Output.{line_of};
-ghost use Rattle.conform_tool.specs.Reply.{IsPullForm, IsReply, scan_state};
+ghost use Rattle.std.specs.Prelude.{◌≤◌, IfOk};
+ghost use Rattle.conform_tool.specs.Commands.Pull.{IsPullForm};
+ghost use Rattle.conform_tool.specs.Reply.{IsReply, Reaches};
+ghost use Rattle.conform_tool.specs.States.{scan_state};
 ghost use Rattle.command_words.specs.declared.command.Command.TheVariants as commands;
 ghost use Rattle.project_job.specs.Jobs.{AreCounted};
 
@@ -21,9 +22,8 @@ pub fn pull<S: Scans>(
     scan: &mut S,
 ) -> Result<Vec<u8>, Outcome>
     requires { margin ≤ 1000 }
-    ensures reply { MatchResult result
-        (λ text. IsReply (commands.Pull path.now margin) (scan_state S.world S.faults S.loads S.heads scan.old) (scan_state S.world S.faults S.loads S.heads scan.new) Outcome.Done text.items)
-        (λ outcome. IsReply (commands.Pull path.now margin) (scan_state S.world S.faults S.loads S.heads scan.old) (scan_state S.world S.faults S.loads S.heads scan.new) outcome (line_of outcome)) }
+    ensures reply { Reaches result (IsReply (commands.Pull path.now margin)
+        (scan_state S.world S.faults S.loads S.heads scan.old) (scan_state S.world S.faults S.loads S.heads scan.new)) }
     ensures same { S.same scan.old scan.new }
 {
     let job = match planned(alloc, path, scan) {

@@ -1,8 +1,8 @@
 //! The command `qc`.
-ghost use Rattle.std.specs.Prelude.{◌≡◌, ◌≢◌, ◌≤◌, Err, IfErr, MatchResult, map};
+ghost use Rattle.std.specs.Prelude.{◌≡◌, ◌≢◌, ◌≤◌, Err, IfErr, map};
 ghost use Rattle.cf_base.specs.Count.{HasRisen};
-ghost use Rattle.outcome_line.specs.Output.{line_of};
-ghost use Rattle.conform_tool.specs.Reply.{IsReply, scan_state};
+ghost use Rattle.conform_tool.specs.Reply.{IsReply, Reaches};
+ghost use Rattle.conform_tool.specs.States.{scan_state};
 ghost use Rattle.project_run.specs.Quality.{IsQcReply};
 ghost use Rattle.project_run.specs.Run.{IsLeftAlone, disk_state};
 ghost use Rattle.command_words.specs.declared.command.Command.TheVariants as commands;
@@ -25,12 +25,11 @@ pub fn qc<S: Scans, D: Disk, C: Counter>(
     probes: &[Probe],
 ) -> Result<Vec<u8>, Outcome>
     requires ready { C.ready }
-    ensures reply { MatchResult result
-        (λ text. IsReply (commands.Qc path.now) (scan_state S.world S.faults S.loads S.heads scan.old) (scan_state S.world S.faults S.loads S.heads scan.new) Outcome.Done text.items)
-        (λ outcome. IsReply (commands.Qc path.now) (scan_state S.world S.faults S.loads S.heads scan.old) (scan_state S.world S.faults S.loads S.heads scan.new) outcome (line_of outcome)) }
-    ensures folder { MatchResult result
-        (λ text. IsQcReply (map (λ p. p.kind) probes.now) (S.world scan.old) path.now (disk_state D.tells D.history D.faults disk.old) (disk_state D.tells D.history D.faults disk.new) (S.loads scan.old) (S.loads scan.new) Outcome.Done text.items)
-        (λ outcome. IsQcReply (map (λ p. p.kind) probes.now) (S.world scan.old) path.now (disk_state D.tells D.history D.faults disk.old) (disk_state D.tells D.history D.faults disk.new) (S.loads scan.old) (S.loads scan.new) outcome (line_of outcome)) }
+    ensures reply { Reaches result (IsReply (commands.Qc path.now)
+        (scan_state S.world S.faults S.loads S.heads scan.old) (scan_state S.world S.faults S.loads S.heads scan.new)) }
+    ensures folder { Reaches result (IsQcReply (map (λ p. p.kind) probes.now) (S.world scan.old) path.now
+        (disk_state D.tells D.history D.faults disk.old) (disk_state D.tells D.history D.faults disk.new)
+        (S.loads scan.old) (S.loads scan.new)) }
     ensures disk_fault { result ≡ Err Outcome.DiskFault → HasRisen (D.faults disk.old) (D.faults disk.new) }
     ensures disk_steady { result ≢ Err Outcome.DiskFault → D.faults disk.new ≡ D.faults disk.old }
     ensures disk_later { D.faults disk.old ≤ D.faults disk.new }

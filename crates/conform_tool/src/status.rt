@@ -1,8 +1,8 @@
 //! The command `status`.
-ghost use Rattle.std.specs.Prelude.{◌≡◌, ◌≢◌, ◌≤◌, Err, IfErr, MatchResult};
+ghost use Rattle.std.specs.Prelude.{◌≡◌, ◌≢◌, ◌≤◌, Err, IfErr};
 ghost use Rattle.cf_base.specs.Count.{HasRisen};
-ghost use Rattle.outcome_line.specs.Output.{line_of};
-ghost use Rattle.conform_tool.specs.Reply.{IsReply, scan_state};
+ghost use Rattle.conform_tool.specs.Reply.{IsReply, Reaches};
+ghost use Rattle.conform_tool.specs.States.{scan_state};
 ghost use Rattle.project_run.specs.Run.{IsLeftAlone, disk_state};
 ghost use Rattle.project_run.specs.Status.{IsStatusReply};
 ghost use Rattle.command_words.specs.declared.command.Command.TheVariants as commands;
@@ -21,12 +21,11 @@ pub fn status<S: Scans, D: Disk>(
     scan: &mut S,
     disk: &mut D,
 ) -> Result<Vec<u8>, Outcome>
-    ensures reply { MatchResult result
-        (λ text. IsReply (commands.Status path.now) (scan_state S.world S.faults S.loads S.heads scan.old) (scan_state S.world S.faults S.loads S.heads scan.new) Outcome.Done text.items)
-        (λ outcome. IsReply (commands.Status path.now) (scan_state S.world S.faults S.loads S.heads scan.old) (scan_state S.world S.faults S.loads S.heads scan.new) outcome (line_of outcome)) }
-    ensures folder { MatchResult result
-        (λ text. IsStatusReply (S.world scan.old) path.now (disk_state D.tells D.history D.faults disk.old) (disk_state D.tells D.history D.faults disk.new) (S.loads scan.old) (S.loads scan.new) Outcome.Done text.items)
-        (λ outcome. IsStatusReply (S.world scan.old) path.now (disk_state D.tells D.history D.faults disk.old) (disk_state D.tells D.history D.faults disk.new) (S.loads scan.old) (S.loads scan.new) outcome (line_of outcome)) }
+    ensures reply { Reaches result (IsReply (commands.Status path.now)
+        (scan_state S.world S.faults S.loads S.heads scan.old) (scan_state S.world S.faults S.loads S.heads scan.new)) }
+    ensures folder { Reaches result (IsStatusReply (S.world scan.old) path.now
+        (disk_state D.tells D.history D.faults disk.old) (disk_state D.tells D.history D.faults disk.new)
+        (S.loads scan.old) (S.loads scan.new)) }
     ensures disk_fault { result ≡ Err Outcome.DiskFault → HasRisen (D.faults disk.old) (D.faults disk.new) }
     ensures disk_steady { result ≢ Err Outcome.DiskFault → D.faults disk.new ≡ D.faults disk.old }
     ensures disk_later { D.faults disk.old ≤ D.faults disk.new }

@@ -1,14 +1,15 @@
 //! The top call: a run with more than one worker by a crew, and all else on one thread.
-ghost use Rattle.std.specs.Prelude.{◌≡◌, ◌≤◌, ℕ, List, true, length, map, drop, vec_len, slice_get, Some, IfSome, AllPairs, MatchOption};
+ghost use Rattle.std.specs.Prelude.{◌≡◌, ◌≤◌, ℕ, List, true, length, map, drop, vec_len, Some, IfSome, AllPairs, MatchOption};
 ghost use Rattle.command_words.specs.Commands.{HasCounts, Spells};
 ghost use Rattle.command_words.specs.Lines.{HasCount};
 ghost use Rattle.command_words.specs.declared.command.Command.TheVariants as commands;
 ghost use Rattle.reel_disk.specs.Disk.{view_of};
-ghost use Rattle.conform_tool.specs.Answer.{Answered, IsFoundIn, IsUncalled, sink_state};
-ghost use Rattle.conform_tool.specs.Conform.{CrewAnswered, IsAlone};
-ghost use Rattle.conform_tool.specs.Complete.{IsAccepted, HasNotRisen, IsComplete, IsUnfailed};
+ghost use Rattle.conform_tool.specs.Answer.{Answered, IsFoundIn, IsUncalled, sink_state, texts_of};
+ghost use Rattle.conform_tool.specs.Conform.{CrewAnswered, IsAlone, IsFirst};
+ghost use Rattle.conform_tool.specs.Complete.{IsAccepted, IsComplete, IsUnfailed, NoCallFailed};
 ghost use Rattle.conform_tool.specs.Headline.{AdoptsJob, RunsJob, KeepsItsPromise, HasEnded};
-ghost use Rattle.conform_tool.specs.Reply.{CallsDisk, CallsOld, folders_of, house_of, scan_state};
+ghost use Rattle.conform_tool.specs.Reply.{CallsDisk, CallsOld};
+ghost use Rattle.conform_tool.specs.States.{folders_of, house_of, scan_state};
 ghost use Rattle.conform_job.specs.Job.{JobData};
 ghost use Rattle.project_run.specs.Crew.{HasFailed, told_by};
 ghost use Rattle.project_run.specs.Run.{IsLeftAlone, disk_state};
@@ -59,46 +60,53 @@ pub fn conform<S: Scans + Send, D: Disk + Send, K: Sink, R: Threads + Wait + Syn
     requires first_moment { D.tells ≡ true → (D.history disk).now ≡ 0 }
 
     // A run with several workers.
-    ensures crew { (path : List ℕ) (workers share : ℕ) → Spells (map (λ w. w.now) words.now) (commands.Run path workers share) → 2 ≤ workers
+    ensures crew { (path : List ℕ) (workers share : ℕ) → Spells (texts_of words.now) (commands.Run path workers share)
+        → 2 ≤ workers
         → CrewAnswered S.world S.faults S.loads S.same path workers scans.items result.scans.items
         (disk_state D.tells D.history D.faults disk) (disk_state D.tells D.history D.faults result.disk)
         (sink_state K.written K.faults out.old) (sink_state K.written K.faults out.new) result.outcome }
 
     // All else, with the first scan.
-    ensures answered { IsAlone (map (λ w. w.now) words.now) → (first last : S) → slice_get scans.items 0 ≡ Some first → slice_get result.scans.items 0 ≡ Some last
-        → Answered (house_of (map (λ p. p.kind) probes.now) tone.now.table) (map (λ w. w.now) words.now)
+    ensures answered { IsAlone (texts_of words.now) → (first last : S) → IsFirst scans.items first → IsFirst result.scans.items last
+        → Answered (house_of (map (λ p. p.kind) probes.now) tone.now.table) (texts_of words.now)
         (scan_state S.world S.faults S.loads S.heads first) (scan_state S.world S.faults S.loads S.heads last)
         (folders_of D.tells D.history D.faults disk old.old) (folders_of D.tells D.history D.faults result.disk old.new)
         (sink_state K.written K.faults out.old) (sink_state K.written K.faults out.new) result.outcome }
-    ensures others { IsAlone (map (λ w. w.now) words.now) → drop 1 result.scans.items ≡ drop 1 scans.items }
-    ensures same { IsAlone (map (λ w. w.now) words.now) → (first last : S) → slice_get scans.items 0 ≡ Some first → slice_get result.scans.items 0 ≡ Some last → S.same first last }
+    ensures others { IsAlone (texts_of words.now) → drop 1 result.scans.items ≡ drop 1 scans.items }
+    ensures same { IsAlone (texts_of words.now) → (first last : S) → IsFirst scans.items first → IsFirst result.scans.items last
+        → S.same first last }
 
     ensures handed_back { vec_len result.scans ≡ vec_len scans }
     ensures later { K.faults out.old ≤ K.faults out.new }
-    ensures old_folder { (path : List ℕ) (workers share : ℕ) → Spells (map (λ w. w.now) words.now) (commands.Run path workers share) → 2 ≤ workers → old.new ≡ old.old }
+    ensures old_folder { (path : List ℕ) (workers share : ℕ) → Spells (texts_of words.now) (commands.Run path workers share)
+        → 2 ≤ workers → old.new ≡ old.old }
 
     // What is left alone is the very disk.
     ensures untouched { IsLeftAlone disk result.disk result.outcome }
     ensures old_untouched { IsLeftAlone old.old old.new result.outcome }
-    ensures no_call { IsUncalled CallsDisk (map (λ w. w.now) words.now) → result.disk ≡ disk }
-    ensures no_old_call { IsUncalled CallsOld (map (λ w. w.now) words.now) → old.new ≡ old.old }
+    ensures no_call { IsUncalled CallsDisk (texts_of words.now) → result.disk ≡ disk }
+    ensures no_old_call { IsUncalled CallsOld (texts_of words.now) → old.new ≡ old.old }
     ensures old_same { D.same old.old old.new }
 
     // The headline, for any number of workers.
-    ensures headline { (world : World) (job : JobData) → RunsJob (map (λ w. w.now) words.now) (told_by S.world scans.items) D.tells world job
+    ensures headline { (world : World) (job : JobData) → RunsJob (texts_of words.now) (told_by S.world scans.items) D.tells world job
         → KeepsItsPromise job world (D.history disk) (D.history result.disk) (HasEnded result.outcome) }
 
     // The same of an adoption, whose old folder is sound.
-    ensures adopted { (world : World) (job : JobData) → AdoptsJob (map (λ w. w.now) words.now) (told_by S.world scans.items) D.tells world (view_of (D.history old.old)) job
+    ensures adopted { (world : World) (job : JobData)
+        → AdoptsJob (texts_of words.now) (told_by S.world scans.items) D.tells world (view_of (D.history old.old)) job
         → KeepsItsPromise job world (D.history disk) (D.history result.disk) (HasEnded result.outcome) }
 
     // Where nothing stands in the way of the command and no call failed, it is done, or memory ran out.
-    ensures complete { (command : Command) (world : World) → Spells (map (λ w. w.now) words.now) command → told_by S.world scans.items ≡ Some world
+    ensures complete { (command : Command) (world : World) → Spells (texts_of words.now) command
+        → told_by S.world scans.items ≡ Some world
         → IsAccepted command world (folders_of D.tells D.history D.faults disk old.old)
-        → (HasFailed S.world S.faults S.loads S.same scans.items result.scans.items → ⊥) → HasNotRisen (D.faults disk) (D.faults result.disk) → HasNotRisen (D.faults old.old) (D.faults old.new) → HasNotRisen (K.faults out.old) (K.faults out.new)
+        → (HasFailed S.world S.faults S.loads S.same scans.items result.scans.items → ⊥)
+        → NoCallFailed D.faults disk result.disk → NoCallFailed D.faults old.old old.new → NoCallFailed K.faults out.old out.new
         → IsComplete command result.outcome }
-    ensures unfailed { (command : Command) → Spells (map (λ w. w.now) words.now) command
-        → (HasFailed S.world S.faults S.loads S.same scans.items result.scans.items → ⊥) → HasNotRisen (D.faults disk) (D.faults result.disk) → HasNotRisen (D.faults old.old) (D.faults old.new) → HasNotRisen (K.faults out.old) (K.faults out.new)
+    ensures unfailed { (command : Command) → Spells (texts_of words.now) command
+        → (HasFailed S.world S.faults S.loads S.same scans.items result.scans.items → ⊥)
+        → NoCallFailed D.faults disk result.disk → NoCallFailed D.faults old.old old.new → NoCallFailed K.faults out.old out.new
         → IsUnfailed command result.outcome }
 {
     job_laws();
@@ -219,14 +227,15 @@ fn by_one<S: Scans, D: Disk, K: Sink, C: Counter>(
     requires ready { C.ready }
     requires some { 1 ≤ vec_len scans }
     requires counts { IfSome found HasCounts }
-    ensures answered { (words : List (List ℕ)) → IsFoundIn words found → (first last : S) → slice_get scans.items 0 ≡ Some first → slice_get result.scans.items 0 ≡ Some last
+    ensures answered { (words : List (List ℕ)) → IsFoundIn words found
+        → (first last : S) → IsFirst scans.items first → IsFirst result.scans.items last
         → Answered (house_of (map (λ p. p.kind) probes.now) tone.now.table) words
         (scan_state S.world S.faults S.loads S.heads first) (scan_state S.world S.faults S.loads S.heads last)
         (folders_of D.tells D.history D.faults disk old.old) (folders_of D.tells D.history D.faults result.disk old.new)
         (sink_state K.written K.faults out.old) (sink_state K.written K.faults out.new) result.outcome }
     ensures others { drop 1 result.scans.items ≡ drop 1 scans.items }
     ensures handed_back { vec_len result.scans ≡ vec_len scans }
-    ensures same { (first last : S) → slice_get scans.items 0 ≡ Some first → slice_get result.scans.items 0 ≡ Some last → S.same first last }
+    ensures same { (first last : S) → IsFirst scans.items first → IsFirst result.scans.items last → S.same first last }
     ensures later { K.faults out.old ≤ K.faults out.new }
     ensures untouched { IsLeftAlone disk result.disk result.outcome }
     ensures old_untouched { IsLeftAlone old.old old.new result.outcome }

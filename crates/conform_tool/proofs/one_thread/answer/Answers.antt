@@ -1,6 +1,6 @@
 -- What was read of the words gives the answer, and the answer gives the headline and completeness.
 use Rattle.std.proofs.Common.{map}
-use Rattle.conform_tool.specs.Reply.{folders_of, house_of, scan_state}
+use Rattle.conform_tool.specs.States.{folders_of, house_of, scan_state}
 use Rattle.conform_tool.proofs.Answering.{answered_unread}
 use Rattle.conform_tool.proofs.Completes.{answered_complete, answered_unfailed}
 use Rattle.conform_tool.proofs.Headlines.{answered_adoption, answered_promise}

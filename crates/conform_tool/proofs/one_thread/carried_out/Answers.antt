@@ -1,5 +1,6 @@
 -- The demonstration makes no call on the scan or the disk.
 use Rattle.conform_tool.proofs.Demos.{demo_replied}
+use Rattle.conform_tool.proofs.Wholes.{plan_replied, pull_replied}
 use Rattle.std.proofs.Common.{subst, sym}
 use Rattle.conform_tool.specs.Reply.{CallsDisk, CallsOld}
 use Rattle.conform_tool.proofs.one_thread.carried_out.Goals as goal
@@ -28,3 +29,11 @@ returns-in-Adopt-clause-no_call g c none = absurd (none (subst CallsDisk (sym c.
 
 pub returns-in-Adopt-clause-no_old_call : goal.returns-in-Adopt-clause-no_old_call
 returns-in-Adopt-clause-no_old_call g c none = absurd (none (subst CallsOld (sym c.in-Adopt.is) tt))
+
+-- these make none on a folder
+pub returns-in-Plan-clause-reply : goal.returns-in-Plan-clause-reply
+returns-in-Plan-clause-reply g c = plan_replied _ c.args.command.now _ _ _ _ c.plan.result c.in-Plan.is c.plan.ensures.reply
+
+pub returns-in-Pull-clause-reply : goal.returns-in-Pull-clause-reply
+returns-in-Pull-clause-reply g c =
+    pull_replied _ c.args.command.now _ _ _ _ _ c.pull.result c.in-Pull.is c.pull.ensures.reply

@@ -1,7 +1,7 @@
 -- The job that the project comes to has its plan.
 use Rattle.std.proofs.Common.{refl}
 use Rattle.command_words.specs.declared.command.Command.TheVariants as commands
-use Rattle.conform_tool.specs.Reply.{IsPlanForm}
+use Rattle.conform_tool.specs.Commands.Plan.{IsPlanForm}
 use Rattle.conform_tool.proofs.Plans.{job_done, job_refused, job_without, replied_job}
 use Rattle.conform_tool.proofs.Replies.{reply_of, error_of, outcome_of}
 use Rattle.conform_tool.proofs.plan.plan.Goals as goal

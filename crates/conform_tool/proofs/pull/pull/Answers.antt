@@ -1,7 +1,7 @@
 -- The job that the project comes to has its pull list.
 use Rattle.std.proofs.Common.{refl}
 use Rattle.command_words.specs.declared.command.Command.TheVariants as commands
-use Rattle.conform_tool.specs.Reply.{IsPullForm}
+use Rattle.conform_tool.specs.Commands.Pull.{IsPullForm}
 use Rattle.conform_tool.proofs.Plans.{job_done, job_refused, job_without, replied_job}
 use Rattle.conform_tool.proofs.Replies.{reply_of, error_of, outcome_of}
 use Rattle.conform_tool.proofs.pull.pull.Goals as goal

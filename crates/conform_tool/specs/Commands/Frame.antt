@@ -1,4 +1,4 @@
--- The command `frame`: what it comes to, and the file that it puts.
+-- The command `frame PATH`: it reads one DPX file, and puts the same pixels under the station's own header.
 use Rattle.std.specs.Prelude.{◌≡◌, ℕ, List, [], ◌++◌, length, Option, None, Result, Err, IsOk, IsOkAnd, IsSomeAnd}
 use Rattle.std.specs.List.{flat_map}
 use Rattle.byteorder.specs.Endian.{big_bytes}
@@ -9,10 +9,13 @@ use Rattle.dpx_header.specs.Reading.{info_of}
 use Rattle.dpx_header.specs.Writing.{header_of}
 use Rattle.dpx_pack.specs.Pixels.{pixels}
 use Rattle.scan_source.specs.Answers.{first_bytes}
+use Rattle.scan_source.specs.World.{file_at}
 use Rattle.outcome_line.specs.declared.outcome.Outcome.{Outcome}
 use Rattle.outcome_line.specs.declared.outcome.Outcome.TheVariants.{Done, Refused as IsRefused, SourceFault, NoMemory}
 use Rattle.outcome_line.specs.declared.outcome.Refused.TheVariants as refused
 use Rattle.outcome_line.specs.declared.outcome.Which.TheVariants as which
+use Rattle.conform_tool.specs.ByFile.{ByFile, HasLoadedOne, IsRightBy, LooksAtNone}
+use Rattle.conform_tool.specs.Meaning.{HasReelFailed, IsThrough, LeavesReel, Meaning, no_calls}
 
 -- what a file says of its pixels, or its first fault
 abbrev pub info_in : List ℕ → Result FrameInfo DpxFault
@@ -40,3 +43,16 @@ IsFrameCase file (IsRefused other) = ⊥
 IsFrameCase file SourceFault = Unit {0}
 IsFrameCase file NoMemory = Unit {0}
 IsFrameCase file other = ⊥
+
+abbrev pub frame_meaning : List ℕ → Meaning
+frame_meaning path = record {
+  IsRight = λ reached output before after.
+      ByFile before.world path (λ file. IsRightBy (IsFrameCase file) (IsFrameForm file) reached output);
+  HasLoaded = HasLoadedOne;
+  LooksAtHeads = LooksAtNone;
+  calls = no_calls;
+  UsesDisk = LeavesReel;
+  HasFailedDisk = HasReelFailed;
+  IsAccepted = λ world folders. IsFrameCase (file_at world path) Done;
+  IsComplete = IsThrough;
+}

@@ -1,12 +1,15 @@
--- The command `list`: what it comes to, and the table that it puts.
+-- The command `list FILE RATE`: it reads an edit list, and puts its event table.
 use Rattle.std.specs.Prelude.{◌≡◌, ℕ, List, Option, None, Err, IsOk, IsOkAnd, IsSomeAnd}
 use Rattle.cf_base.specs.declared.timing.Rate.{Rate}
+use Rattle.scan_source.specs.World.{file_at}
 use Rattle.edl_events.specs.Lists.{list_of}
 use Rattle.printed_tables.specs.Table.{event_table}
 use Rattle.outcome_line.specs.declared.outcome.Outcome.{Outcome}
 use Rattle.outcome_line.specs.declared.outcome.Outcome.TheVariants.{Done, Refused as IsRefused, SourceFault, NoMemory}
 use Rattle.outcome_line.specs.declared.outcome.Refused.TheVariants as refused
 use Rattle.outcome_line.specs.declared.outcome.Which.TheVariants as which
+use Rattle.conform_tool.specs.ByFile.{ByFile, HasLoadedOne, IsRightBy, LooksAtNone}
+use Rattle.conform_tool.specs.Meaning.{HasReelFailed, IsThrough, LeavesReel, Meaning, no_calls}
 
 -- the table that is put for the list at the path
 abbrev pub IsListForm : Rate → Option (List ℕ) → List ℕ → Type 0
@@ -22,3 +25,16 @@ IsListCase rate file (IsRefused other) = ⊥
 IsListCase rate file SourceFault = Unit {0}
 IsListCase rate file NoMemory = Unit {0}
 IsListCase rate file other = ⊥
+
+abbrev pub list_meaning : List ℕ → Rate → Meaning
+list_meaning path rate = record {
+  IsRight = λ reached output before after.
+      ByFile before.world path (λ file. IsRightBy (IsListCase rate file) (IsListForm rate file) reached output);
+  HasLoaded = HasLoadedOne;
+  LooksAtHeads = LooksAtNone;
+  calls = no_calls;
+  UsesDisk = LeavesReel;
+  HasFailedDisk = HasReelFailed;
+  IsAccepted = λ world folders. IsListCase rate (file_at world path) Done;
+  IsComplete = IsThrough;
+}
