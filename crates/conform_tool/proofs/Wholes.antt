@@ -6,51 +6,38 @@ use Rattle.command_words.specs.declared.command.Command.TheVariants as commands
 use Rattle.outcome_line.specs.Output.{line_of}
 use Rattle.outcome_line.specs.declared.outcome.Outcome.{Outcome}
 use Rattle.outcome_line.specs.declared.outcome.Outcome.TheVariants as outcomes
+use Rattle.conform_tool.specs.Commands.{meaning_of}
 use Rattle.conform_tool.specs.Reply.{IsKindOf, IsReply, IsWholeReply, Reaches}
 use Rattle.conform_tool.specs.States.{Folders, House, ScanState}
 
-plan_whole : {house : House} (path : List ℕ) (scan scan_after : ScanState) (folders : Folders) (reached : Outcome) (output : List ℕ)
-    → IsReply (commands.Plan path) scan scan_after reached output → IsWholeReply house (commands.Plan path) scan scan_after folders folders reached output
-plan_whole path scan scan_after folders reached output reply = record {
-  reply = reply;
-  folder = refl;
-  old_folder = λ _. refl;
-  disk_fault = λ same. absurd (subst (IsKindOf (commands.Plan path)) same reply.kind);
-  disk_steady = λ _. refl;
-  old_steady = λ _. refl;
-  disk_later = omega arith;
-  old_later = omega arith;
-}
+module _ (house : House) (kind : Command) (scan scan_after : ScanState) (folders : Folders) (no_disk : IsKindOf kind outcomes.DiskFault → ⊥)
+    (leaves : (reached : Outcome) (output : List ℕ) → (meaning_of kind).UsesDisk house scan scan_after folders folders reached output) where
+  unmoved : (reached : Outcome) (output : List ℕ) → IsReply kind scan scan_after reached output → IsWholeReply house kind scan scan_after folders folders reached output
+  unmoved reached output reply = record {
+    reply = reply;
+    folder = leaves reached output;
+    old_folder = λ _. refl;
+    disk_fault = λ same. absurd (no_disk (subst (IsKindOf kind) same reply.kind));
+    disk_steady = λ _. refl;
+    old_steady = λ _. refl;
+    disk_later = omega arith;
+    old_later = omega arith;
+  }
 
-pull_whole : {house : House} (path : List ℕ) (margin : ℕ) (scan scan_after : ScanState) (folders : Folders) (reached : Outcome) (output : List ℕ)
-    → IsReply (commands.Pull path margin) scan scan_after reached output → IsWholeReply house (commands.Pull path margin) scan scan_after folders folders reached output
-pull_whole path margin scan scan_after folders reached output reply = record {
-  reply = reply;
-  folder = refl;
-  old_folder = λ _. refl;
-  disk_fault = λ same. absurd (subst (IsKindOf (commands.Pull path margin)) same reply.kind);
-  disk_steady = λ _. refl;
-  old_steady = λ _. refl;
-  disk_later = omega arith;
-  old_later = omega arith;
-}
+  reached_unmoved : (result : Result (Vec ℕ Global) Outcome) → Reaches result (IsReply kind scan scan_after) → Reaches result (IsWholeReply house kind scan scan_after folders folders)
+  reached_unmoved (Ok text) reply = unmoved outcomes.Done text.items reply
+  reached_unmoved (Err outcome) reply = unmoved outcome (line_of outcome) reply
 
-plan_reached : (house : House) (path : List ℕ) (scan scan_after : ScanState) (folders : Folders) (result : Result (Vec ℕ Global) Outcome)
-    → Reaches result (IsReply (commands.Plan path) scan scan_after) → Reaches result (IsWholeReply house (commands.Plan path) scan scan_after folders folders)
-plan_reached house path scan scan_after folders (Ok text) reply = plan_whole path scan scan_after folders outcomes.Done text.items reply
-plan_reached house path scan scan_after folders (Err outcome) reply = plan_whole path scan scan_after folders outcome (line_of outcome) reply
-
-pull_reached : (house : House) (path : List ℕ) (margin : ℕ) (scan scan_after : ScanState) (folders : Folders) (result : Result (Vec ℕ Global) Outcome)
-    → Reaches result (IsReply (commands.Pull path margin) scan scan_after) → Reaches result (IsWholeReply house (commands.Pull path margin) scan scan_after folders folders)
-pull_reached house path margin scan scan_after folders (Ok text) reply = pull_whole path margin scan scan_after folders outcomes.Done text.items reply
-pull_reached house path margin scan scan_after folders (Err outcome) reply = pull_whole path margin scan scan_after folders outcome (line_of outcome) reply
+  -- of a command that is of this kind
+  replied_unmoved : (command : Command) (result : Result (Vec ℕ Global) Outcome) → command ≡ kind
+      → Reaches result (IsReply kind scan scan_after) → Reaches result (IsWholeReply house command scan scan_after folders folders)
+  replied_unmoved command result same reply =
+      subst (λ c. Reaches result (IsWholeReply house c scan scan_after folders folders)) (sym same) (reached_unmoved result reply)
 
 pub plan_replied : (house : House) (command : Command) (path : List ℕ) (scan scan_after : ScanState) (folders : Folders) (result : Result (Vec ℕ Global) Outcome) → command ≡ commands.Plan path
     → Reaches result (IsReply (commands.Plan path) scan scan_after) → Reaches result (IsWholeReply house command scan scan_after folders folders)
-plan_replied house command path scan scan_after folders result same reply =
-    subst (λ c. Reaches result (IsWholeReply house c scan scan_after folders folders)) (sym same) (plan_reached house path scan scan_after folders result reply)
+plan_replied house command path scan scan_after folders = replied_unmoved house (commands.Plan path) scan scan_after folders (λ none. none) (λ reached output. refl) command
 
 pub pull_replied : (house : House) (command : Command) (path : List ℕ) (margin : ℕ) (scan scan_after : ScanState) (folders : Folders) (result : Result (Vec ℕ Global) Outcome) → command ≡ commands.Pull path margin
     → Reaches result (IsReply (commands.Pull path margin) scan scan_after) → Reaches result (IsWholeReply house command scan scan_after folders folders)
-pull_replied house command path margin scan scan_after folders result same reply =
-    subst (λ c. Reaches result (IsWholeReply house c scan scan_after folders folders)) (sym same) (pull_reached house path margin scan scan_after folders result reply)
+pull_replied house command path margin scan scan_after folders = replied_unmoved house (commands.Pull path margin) scan scan_after folders (λ none. none) (λ reached output. refl) command

@@ -4,7 +4,7 @@ ghost use Rattle.std.specs.Prelude.{◌<◌, ℕ, All, length, slice_index_or};
 use std::thread;
 use std::thread::Threads;
 
-/// What is done to an item, by one who shares it with those who do the others.
+/// What is done to each item of a slice. The value is shared by the threads that do it.
 pub(crate) trait Works<T> {
     /// What is known of an item before.
     ghost may: { Self → T → Type 0 };
