@@ -4,6 +4,7 @@ pub mod Events
 pub mod Fail
 pub mod FileId
 pub mod Fixed
+pub mod FixedSize
 pub mod Lines
 pub mod MemorySink
 pub mod Padded

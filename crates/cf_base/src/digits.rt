@@ -1,6 +1,30 @@
-//! Numbers in a fixed number of decimal digits, and the file names that are made of them.
-ghost use Rattle.std.specs.Prelude.{◌≡◌};
+//! Decimal digits: what they write, numbers in a fixed number of them, and the file names that are made of these.
+ghost use Rattle.std.specs.Prelude.{◌≡◌, ◌≤◌, ◌<◌, ◌^◌, true, length};
+ghost use Rattle.std.specs.Char.{is_ascii_digit};
+ghost use Rattle.std.specs.List.{list_all};
+ghost use Rattle.std.specs.Str.Parse.{digits_value as value_of_digits};
 ghost use Rattle.cf_base.specs.Digits.{digits, frame_file_name as name_of_frame};
+
+/// Whether each byte is a decimal digit in ASCII.
+pub fn are_digits(bytes: &[u8]) -> bool
+    ensures { result ≡ list_all is_ascii_digit bytes.now }
+{
+    bytes.iter().all(|byte| byte.is_ascii_digit())
+}
+
+/// The number that up to nine digits write.
+pub fn digits_value(bytes: &[u8]) -> u32
+    requires length { length bytes.now ≤ 9 }
+    requires digits { list_all is_ascii_digit bytes.now ≡ true }
+    ensures value { result ≡ value_of_digits 10 bytes.now }
+    ensures bound { result < 10 ^ length bytes.now }
+{
+    let mut value = 0;
+    for byte in bytes {
+        value = value * 10 + u32::from(*byte - b'0');
+    }
+    value
+}
 
 /// The last `N` decimal digits of a number in ASCII, leading zeros among them.
 pub fn last_digits<const N: usize>(number: u32) -> [u8; N]

@@ -5,6 +5,9 @@ ghost use Rattle.std.specs.List.{list_all, list_any, position_or_len};
 ghost use Rattle.std.specs.Char.{is_ascii_digit};
 ghost use Rattle.std.specs.Str.Parse.{digits_value, digits_value_after, starts_with_minus, without_leading_sign};
 ghost use Rattle.cf_base.specs.Fixed.{fixed_of, mantissa, exponent, is_exponent_mark, is_point, is_numeral, is_number, whole_part, decimals, nearest, exponent_size, numerator, denominator};
+ghost use Rattle.cf_base.specs.FixedSize.{moved_size};
+
+use crate::digits::are_digits;
 
 /// A number in units of 10^-9.
 #[derive(Clone, Copy, Debug, PartialEq, Eq)]
@@ -80,18 +83,11 @@ fn exponent_of(token: &[u8]) -> &[u8]
     }
 }
 
-/// Whether all bytes are digits.
-fn all_digits(ds: &[u8]) -> bool
-    ensures { result ≡ list_all is_ascii_digit ds.now }
-{
-    ds.iter().all(|c| c.is_ascii_digit())
-}
-
 /// Whether these are digits, one or more.
-fn are_digits(ds: &[u8]) -> bool
+fn is_numeral(ds: &[u8]) -> bool
     ensures { result ≡ is_numeral ds.now }
 {
-    !ds.is_empty() && all_digits(ds)
+    !ds.is_empty() && are_digits(ds)
 }
 
 /// Where the point stands, or the length.
@@ -132,7 +128,7 @@ fn decimals_of(token: &[u8]) -> &[u8]
 fn are_digits_in_two(whole: &[u8], decimals: &[u8]) -> bool
     ensures { result ≡ is_numeral (whole.now ++ decimals.now) }
 {
-    (!whole.is_empty() || !decimals.is_empty()) && all_digits(whole) && all_digits(decimals)
+    (!whole.is_empty() || !decimals.is_empty()) && are_digits(whole) && are_digits(decimals)
 }
 
 /// Whether there is a mark of an exponent.
@@ -147,7 +143,7 @@ fn is_number_token(token: &[u8]) -> bool
     ensures { result ≡ is_number token.now }
 {
     are_digits_in_two(whole_of(token), decimals_of(token))
-        && (are_digits(without_sign(exponent_of(token))) || !has_mark(without_sign(token)))
+        && (is_numeral(without_sign(exponent_of(token))) || !has_mark(without_sign(token)))
 }
 
 /// The most that a size may be, in units: 1000.
@@ -220,7 +216,7 @@ fn size_of(whole: &[u8], decimals: &[u8], up: u32, down: u32) -> u64
     requires decimals { list_all is_ascii_digit decimals.now ≡ true }
     requires up { up ≤ 99 }
     requires down { down ≤ 99 }
-    ensures { result ≡ min GREATEST (nearest (digits_value 10 (whole.now ++ decimals.now) * 10 ^ (9 + up)) (10 ^ (length decimals.now + down))) }
+    ensures { result ≡ min GREATEST (moved_size whole.now decimals.now up down) }
 {
     let total = whole.len() + decimals.len();
     let lift = 9 + up as usize;

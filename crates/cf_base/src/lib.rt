@@ -18,7 +18,7 @@ mod text;
 mod timing;
 mod tokens;
 
-pub use digits::{frame_file_name, last_digits};
+pub use digits::{are_digits, digits_value, frame_file_name, last_digits};
 pub use event::{EventList, EventRec, EventRows, Transition};
 pub use fail::{Fail, Never};
 pub use file::{FileId, is_same_file};

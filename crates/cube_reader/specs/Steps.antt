@@ -2,7 +2,7 @@
 --     values count words      so many words, each of which is a number, as numbers
 --     keyword_step s k words      what the lines say with a keyword line more, or its fault
 --     IsReading lines n r      what is known after the first n lines
-use Rattle.std.specs.Prelude.{◌≡◌, ◌≤◌, ◌<◌, ℕ, ◌+◌, Bool, true, not, ◌&&◌, ◌||◌, ◌==◌, nat_le, if◌then◌else◌, List, [], ◌∷◌, length, map, take, filter, count_by, codes, slice_get, slice_index_or, Option, Some, None, Result, Ok, Err}
+use Rattle.std.specs.Prelude.{◌≡◌, ◌≤◌, ◌<◌, ℕ, ◌+◌, Bool, true, false, not, pos, ◌&&◌, ◌||◌, ◌==◌, nat_le, if◌then◌else◌, List, [], ◌∷◌, length, map, take, filter, count_by, codes, slice_get, slice_index_or, Option, Some, None, Result, Ok, Err}
 use Rattle.std.specs.List.{list_any, list_all, All}
 use Rattle.std.specs.Str.{bytes_eq}
 use Rattle.std.specs.Str.Parse.{digits_value}
@@ -89,6 +89,16 @@ noted s k = record {
 
 -- What the lines say with one more.
 
+-- what no line says: no size, and inputs from 0 to 1
+abbrev pub new_state : State
+new_state = record {
+  seen = record { title = false; line_size = false; cube_size = false; domain_min = false; domain_max = false; line_range = false; cube_range = false };
+  size = 0;
+  low = on_all (record { 0 = pos 0 } ∷ []) 0;
+  high = on_all (record { 0 = pos 1000000000 } ∷ []) 0;
+  data_lines = 0;
+}
+
 abbrev pub changed : State → Keyword → ℕ → List Fixed → List Fixed → State
 changed s k size low high = record { seen = noted s.seen k; size = size; low = low; high = high; data_lines = s.data_lines }
 
@@ -168,6 +178,10 @@ abbrev pub After : List Line → ℕ → Result (Unit {0}) (Fail CubeKind) → R
 After lines n (Ok u) r = IsReading lines (n + 1) r
 After lines n (Err (Fault kind)) r = slice_get (faults_of lines) 0 ≡ Some (at_line (n + 1) kind)
 After lines n (Err NoMemory) r = Unit {0}
+
+-- a line is read behind those before it, in each text where it is the next
+abbrev pub ReadsLine : Line → Reading → Result (Unit {0}) (Fail CubeKind) → Reading → Type 0
+ReadsLine line before answer after = (lines : List Line) → slice_get lines before.lines ≡ Some line → IsReading lines before.lines before → After lines before.lines answer after
 
 abbrev pub ReadsAll : List Line → Result Reading (Fail CubeFault) → Type 0
 ReadsAll lines (Ok r) = IsReading lines (length lines) r

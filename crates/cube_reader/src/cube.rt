@@ -1,6 +1,7 @@
 //! A table of colours.
-ghost use Rattle.cube_reader.specs.Table.{IsTable, units};
-ghost use Rattle.std.specs.Prelude.{◌≡◌, ◌≤◌, ◌<◌, Some, slice_get, length, ℕ, pos, ◌≤ℤ◌};
+ghost use Rattle.cube_reader.specs.Entry.{AreClamped};
+ghost use Rattle.cube_reader.specs.Table.{IsTable};
+ghost use Rattle.std.specs.Prelude.{◌≡◌, ◌<◌, Some, slice_get, length};
 
 use cf_base::Fixed;
 use std::marker::Model;
@@ -66,7 +67,7 @@ impl Cube {
     pub fn entry(&self, n: u32) -> [Fixed; 3]
         requires { n < length self.now.entries }
         ensures entry { slice_get self.now.entries n ≡ Some result }
-        ensures clamped { (channel : ℕ) → channel < 3 → (pos 0 ≤ℤ units result channel) × (units result channel ≤ℤ pos 1000000000) }
+        ensures clamped { AreClamped result }
     {
         self.entries[n as usize]
     }

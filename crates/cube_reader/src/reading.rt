@@ -1,9 +1,9 @@
 //! One pass over the lines of a text.
-ghost use Rattle.std.specs.Prelude.{◌≡◌, ◌≤◌, ◌<◌, ℕ, List, length, slice_get, Some, [], ◌∷◌, true, false};
+ghost use Rattle.std.specs.Prelude.{◌≡◌, ◌≤◌, length, [], ◌∷◌, true, false};
 ghost use Rattle.cf_base.specs.Tokens.{IsGap};
 ghost use Rattle.cube_reader.specs.Table.{greatest_size};
-ghost use Rattle.cube_reader.specs.Text.{Line, tokens_of, lines_in, is_passed_over, is_data};
-ghost use Rattle.cube_reader.specs.Steps.{IsReading, After, ReadsAll, refused_at, words_from};
+ghost use Rattle.cube_reader.specs.Text.{tokens_of, lines_in, is_passed_over, is_data};
+ghost use Rattle.cube_reader.specs.Steps.{ReadsAll, ReadsLine, refused_at, words_from};
 
 use crate::fault::{CubeFault, CubeKind};
 use crate::keywords::keyword_of;
@@ -61,7 +61,7 @@ fn read_more(reading: &mut Reading, line: &[u8]) -> Result<(), Fail<CubeKind>>
     requires few { reading.old.lines ≤ 100663296 }
     requires few_data { reading.old.state.data_lines ≤ 100663296 }
     requires sized { reading.old.state.size ≤ greatest_size reading.old.state.seen.cube_size }
-    ensures { (lines : List Line) → slice_get lines reading.old.lines ≡ Some (tokens_of line.now) → IsReading lines reading.old.lines reading.old → After lines reading.old.lines result reading.new }
+    ensures { ReadsLine (tokens_of line.now) reading.old result reading.new }
 {
     let Some(first) = token_from(line, 0) else {
         reading.lines += 1;
@@ -92,7 +92,7 @@ fn read_data(reading: &mut Reading, line: &[u8]) -> Result<(), Fail<CubeKind>>
     requires sized { reading.old.state.size ≤ greatest_size reading.old.state.seen.cube_size }
     requires solid { is_passed_over (tokens_of line.now) ≡ false }
     requires begins { is_data (tokens_of line.now) ≡ true }
-    ensures { (lines : List Line) → slice_get lines reading.old.lines ≡ Some (tokens_of line.now) → IsReading lines reading.old.lines reading.old → After lines reading.old.lines result reading.new }
+    ensures { ReadsLine (tokens_of line.now) reading.old result reading.new }
 {
     if let Some(kind) = reading.state.data_fault() {
         return Err(Fail::Fault(kind));
@@ -123,7 +123,7 @@ fn read_keyword(
     requires first { tokens_of line.now ≡ word.now ∷ words_from line.now at }
     requires solid { is_passed_over (tokens_of line.now) ≡ false }
     requires keyword { is_data (tokens_of line.now) ≡ false }
-    ensures { (lines : List Line) → slice_get lines reading.old.lines ≡ Some (tokens_of line.now) → IsReading lines reading.old.lines reading.old → After lines reading.old.lines result reading.new }
+    ensures { ReadsLine (tokens_of line.now) reading.old result reading.new }
 {
     let Some(keyword) = keyword_of(word) else {
         return Err(Fail::Fault(CubeKind::Keyword));

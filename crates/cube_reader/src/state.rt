@@ -1,10 +1,9 @@
 //! One line more, from what the lines before it say.
-ghost use Rattle.std.specs.Prelude.{◌≡◌, ◌≤◌, ◌<◌, length, map, [], ◌∷◌, false, pos};
-ghost use Rattle.std.specs.Int.{int_max, int_min};
+ghost use Rattle.std.specs.Prelude.{◌≡◌, ◌≤◌, ◌<◌, length, map};
 ghost use Rattle.cf_base.specs.Tokens.{IsGap};
 ghost use Rattle.cube_reader.specs.Table.{entry_count, greatest_size};
-ghost use Rattle.cube_reader.specs.Text.{is_under, clamped, on_all};
-ghost use Rattle.cube_reader.specs.Steps.{words_from, keyword_step, known_step, knows_size, are_ordered, is_full_state, data_step, end_step, sized, size_in};
+ghost use Rattle.cube_reader.specs.Text.{is_under, clamped};
+ghost use Rattle.cube_reader.specs.Steps.{words_from, new_state, keyword_step, known_step, knows_size, are_ordered, is_full_state, data_step, end_step, sized};
 
 use crate::fault::CubeKind;
 use crate::keywords::{Keyword, Keywords};
@@ -38,7 +37,7 @@ pub struct State {
 impl State {
     /// What no line says: no size, and inputs from 0 to 1.
     pub fn new() -> Self
-        ensures { result ≡ record { seen = record { title = false; line_size = false; cube_size = false; domain_min = false; domain_max = false; line_range = false; cube_range = false }; size = 0; low = on_all (record { 0 = pos 0 } ∷ []) 0; high = on_all (record { 0 = pos 1000000000 } ∷ []) 0; data_lines = 0 } }
+        ensures { result ≡ new_state }
     {
         State {
             seen: Keywords {

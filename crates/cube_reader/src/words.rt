@@ -1,15 +1,11 @@
 //! The words of a line as numbers.
-ghost use Rattle.std.specs.Prelude.{◌≡◌, ◌≤◌, length, drop, true, IfNone, IfSome, None, Some};
-ghost use Rattle.std.specs.List.{list_all};
-ghost use Rattle.std.specs.Char.{is_ascii_digit};
-ghost use Rattle.std.specs.Str.Parse.{digits_value as value_of_digits};
+ghost use Rattle.std.specs.Prelude.{◌≡◌, ◌≤◌, length, drop, IfNone, IfSome, None, Some};
 ghost use Rattle.cf_base.specs.Tokens.{IsGap};
 ghost use Rattle.cube_reader.specs.Text.{is_far};
-ghost use Rattle.cube_reader.specs.Table.{IsBound, units};
 ghost use Rattle.cube_reader.specs.Steps.{words_from, first_number, values, bounds, small_number, size_in};
 
 use crate::fault::CubeKind;
-use cf_base::{Fixed, read_fixed, token_from};
+use cf_base::{Fixed, are_digits, digits_value, read_fixed, token_from};
 
 /// How far a bound may be from 0: 100.
 const FARTHEST: u64 = 100_000_000_000;
@@ -163,24 +159,4 @@ fn small_number(word: &[u8], greatest: u32) -> Option<u32>
     } else {
         None
     }
-}
-
-/// Whether each byte is a digit.
-fn are_digits(word: &[u8]) -> bool
-    ensures { result ≡ list_all is_ascii_digit word.now }
-{
-    word.iter().all(|byte| byte.is_ascii_digit())
-}
-
-/// The number of up to nine digits.
-fn digits_value(bytes: &[u8]) -> u32
-    requires length { length bytes.now ≤ 9 }
-    requires digits { list_all is_ascii_digit bytes.now ≡ true }
-    ensures { result ≡ value_of_digits 10 bytes.now }
-{
-    let mut value = 0;
-    for byte in bytes {
-        value = value * 10 + u32::from(*byte - b'0');
-    }
-    value
 }

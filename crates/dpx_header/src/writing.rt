@@ -1,7 +1,7 @@
 //! Headers, written.
-ghost use Rattle.std.specs.Prelude.{◌≡◌, ◌+◌, ◌*◌, ◌≤◌, ℕ, IsTrue, [], ◌∷◌, Contains, Ok, length, replicate, slice_index};
-ghost use Rattle.dpx_header.specs.Reading.{info_of};
-ghost use Rattle.dpx_header.specs.Writing.{Field, IsOutHead, IsOutside, Stands, laid, all_laid, lie_apart, u16 as u16_bytes, u32 as u32_bytes, undefined, text as text_bytes, file_fields, image_fields, element_fields, unused_fields, orientation_fields, industry_fields, timecode_field, header_fields, header_of, written_info};
+ghost use Rattle.std.specs.Prelude.{◌≡◌, ◌+◌, ◌*◌, ◌≤◌, ℕ, IsTrue, [], ◌∷◌, Contains, length, replicate, slice_index};
+ghost use Rattle.dpx_header.specs.ReadBack.{ReadsBack};
+ghost use Rattle.dpx_header.specs.Writing.{Field, IsOutHead, IsOutside, Stands, laid, all_laid, lie_apart, u16 as u16_bytes, u32 as u32_bytes, undefined, text as text_bytes, file_fields, image_fields, element_fields, unused_fields, orientation_fields, industry_fields, timecode_field, header_fields, header_of};
 
 use byteorder::{BigEndian, ByteOrder};
 use cf_base::{TitleText, frame_file_name};
@@ -39,7 +39,7 @@ pub fn write_header(head: &OutHead, into: &mut [u8; 2048])
     ensures apart { IsTrue (lie_apart 0 2048 (header_fields head.now)) }
     ensures others { (at : ℕ) → IsOutside (header_fields head.now) at → slice_index into.new at ≡ 0 }
 
-    ensures reads_back { (len : ℕ) → 2048 + 4 * head.now.width * head.now.height ≤ len → info_of into.new len ≡ Ok (written_info head.now) }
+    ensures reads_back { ReadsBack head.now into.new }
 {
     clear(into);
     put_file_fields(head, into);

@@ -20,7 +20,7 @@ use Rattle.std.specs.Ordering.{nat_cmp}
 use Rattle.std.specs.BTreeMap.{BTreeMap, get}
 use Rattle.edl_events.specs.declared.table.Table.{Table}
 use Rattle.edl_events.specs.declared.reading.Reading.{Reading}
-use Rattle.edl_events.specs.Table.{IsTable, goes_on, count_of, place_of, kept_count, kept_place, with_line, with_place}
+use Rattle.edl_events.specs.Table.{IsTable, HasCounts, HasPlaces, count_of, place_of, line_counts, line_places}
 use Rattle.edl_events.specs.Places.{Line, Head, is_event, is_picture, mode_after, record_mode}
 use Rattle.edl_events.specs.Motion.{speed_at}
 use Rattle.edl_events.specs.Pictures.{last_out}
@@ -82,18 +82,17 @@ After rate lines n (Ok u) r = IsReading rate lines (n + 1) r
 After rate lines n (Err (Fault kind)) r = first_round rate lines ≡ Some (refusal (n + 1) kind)
 After rate lines n (Err NoMemory) r = Unit {0}
 
+-- a line is read behind those before it, in each text where it is the next
+abbrev pub ReadsLine : Rate → Line → Reading → Result (Unit {0}) (Fail ListKind) → Reading → Type 0
+ReadsLine rate line before answer after =
+    (lines : List Line) → slice_get lines before.state.lines ≡ Some line → IsReading rate lines before.state.lines before → After rate lines before.state.lines answer after
+
 -- a table with one more event line, or none
 abbrev pub IsAdded : Option Head → ℕ → Table → Table → Type 0
 IsAdded None place old new =
-    (new.number ≡ old.number)
-    × ((q : List ℕ) → count_of new.counts q ≡ count_of old.counts q)
-    × ((q : List ℕ) (nth : ℕ) → place_of new.places q nth ≡ place_of old.places q nth)
+    (new.number ≡ old.number) × HasCounts new (count_of old.counts) × HasPlaces new (place_of old.places)
 IsAdded (Some head) place old new =
-    let goes = goes_on old.number head.number in
-    let counts = kept_count goes (count_of old.counts) in
-    (new.number ≡ Some head.number)
-    × ((q : List ℕ) → count_of new.counts q ≡ with_line counts head.reel q)
-    × ((q : List ℕ) (nth : ℕ) → place_of new.places q nth ≡ with_place counts (kept_place goes (place_of old.places)) place head.reel q nth)
+    (new.number ≡ Some head.number) × HasCounts new (line_counts old head.number head.reel) × HasPlaces new (line_places old head.number place head.reel)
 
 -- the speed of an event line behind a motion line for the line at a place
 abbrev pub noted : Option ℤ → ℕ → ℤ → ℕ → Option ℤ

@@ -14,6 +14,7 @@ use Rattle.edl_events.specs.declared.ListKind.TheVariants as fault
 use Rattle.edl_events.specs.declared.steps.State.{State}
 use Rattle.edl_events.specs.declared.steps.Step.{Step}
 use Rattle.edl_events.specs.Lists.{can_count}
+use Rattle.edl_events.specs.Made.{IsInDay}
 use Rattle.edl_events.specs.Pictures.{◌>>=◌, unless, times_of, transition_fits}
 
 abbrev pub picture_from : Rate → State → List ℕ → ℕ → List ℕ → Transition → List Span → Result EventRec ListKind
@@ -34,6 +35,10 @@ picture_from rate s bytes number reel transition spans = do
     speed = None;
     transition = transition;
   })
+
+-- an event's numbers are those of the days that the lines before it say
+abbrev pub IsInDayOf : Rate → State → EventRec → Type 0
+IsInDayOf rate s e = IsInDay rate s.mode (unwrap_or s.record_mode s.mode) e
 
 abbrev pub plain_step : State → Step
 plain_step s = record { state = record { lines = s.lines + 1; mode = s.mode; record_mode = s.record_mode; last_out = s.last_out; pictures = s.pictures }; event = None }

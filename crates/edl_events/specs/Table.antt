@@ -1,6 +1,8 @@
 -- The table of open lines: what it has of each reel, and what that means. Words of private clauses.
 --     count_of counts reel      how many event lines, and how many motion lines, the run has of a reel
 --     place_of places reel nth      the place of the run's nth line of a reel, from 0
+--     HasCounts table counts, HasPlaces table places      what a table has
+--     line_counts table number reel, line_places table number place reel      what it has behind one more event line
 --     IsTable before number counts places      these are those of the run behind the lines before
 use Rattle.std.specs.Prelude.{◌≡◌, ◌≤◌, ℕ, ◌+◌, ◌-◌, ◌^◌, ◌<◌, ◌&&◌, min, Bool, false, ◌==◌, if◌then◌else◌, List, [], ◌∷◌, length, slice_get, Option, Some, None, unwrap_or, option_and_then}
 use Rattle.std.specs.Option.{option_map}
@@ -12,6 +14,7 @@ use Rattle.std.specs.Ordering.{on, nat_cmp, ordering_then}
 use Rattle.std.specs.Cmp.Lexicographic.{slice_cmp}
 use Rattle.edl_events.specs.declared.table.ReelKey.{ReelKey}
 use Rattle.edl_events.specs.declared.table.Count.{Count}
+use Rattle.edl_events.specs.declared.table.Table.{Table}
 use Rattle.edl_events.specs.Places.{Line, is_event, passes_at, places}
 use Rattle.edl_events.specs.Motion.{has_reel, motions_from, number_at, run_after}
 
@@ -55,6 +58,34 @@ with_line counts reel q = if bytes_eq reel q then record { lines = one_more (cou
 
 abbrev pub with_place : (List ℕ → Count) → (List ℕ → ℕ → Option ℕ) → ℕ → List ℕ → List ℕ → ℕ → Option ℕ
 with_place counts places place reel q nth = if bytes_eq reel q && (counts reel).lines == nth then Some place else places q nth
+
+-- a table has these counts, and these places
+abbrev pub HasCounts : Table → (List ℕ → Count) → Type 0
+HasCounts table counts = (q : List ℕ) → count_of table.counts q ≡ counts q
+
+abbrev pub HasPlaces : Table → (List ℕ → ℕ → Option ℕ) → Type 0
+HasPlaces table places = (q : List ℕ) (nth : ℕ) → place_of table.places q nth ≡ places q nth
+
+-- what an event line of a number finds in a table
+abbrev pub run_counts : Table → ℕ → List ℕ → Count
+run_counts table number = kept_count (goes_on table.number number) (count_of table.counts)
+
+abbrev pub run_places : Table → ℕ → List ℕ → ℕ → Option ℕ
+run_places table number = kept_place (goes_on table.number number) (place_of table.places)
+
+-- and what it leaves there, by its number, its place and its reel
+abbrev pub line_counts : Table → ℕ → List ℕ → List ℕ → Count
+line_counts table number reel = with_line (run_counts table number) reel
+
+abbrev pub line_places : Table → ℕ → ℕ → List ℕ → List ℕ → ℕ → Option ℕ
+line_places table number place reel = with_place (run_counts table number) (run_places table number) place reel
+
+-- what a table has with one event line of the open run more
+abbrev pub more_counts : Table → List ℕ → List ℕ → Count
+more_counts table reel = with_line (count_of table.counts) reel
+
+abbrev pub more_places : Table → ℕ → List ℕ → List ℕ → ℕ → Option ℕ
+more_places table place reel = with_place (count_of table.counts) (place_of table.places) place reel
 
 -- with one motion line of a reel more
 abbrev pub with_motion : (List ℕ → Count) → List ℕ → List ℕ → Count

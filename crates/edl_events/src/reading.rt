@@ -1,14 +1,14 @@
 //! One pass over the lines of a text.
-ghost use Rattle.std.specs.Prelude.{◌≡◌, ◌≤◌, ℕ, List, length, slice_get, Some, Ok, unwrap_or, OnOk, IfOk, ◌++◌, ◌∷◌, [], map, nat_abs};
+ghost use Rattle.std.specs.Prelude.{◌≡◌, ◌≤◌, ℕ, length, Ok, unwrap_or, OnOk, IfOk, ◌++◌, map, nat_abs};
 ghost use Rattle.std.specs.Ordering.{nat_cmp};
 ghost use Rattle.std.specs.BTreeMap.{get};
 ghost use Rattle.edl_lines.specs.declared.LineKind.TheVariants.{Motion};
 ghost use Rattle.std.specs.Option.{option_to_list};
 ghost use Rattle.edl_lines.specs.Within.{IsIn, IsSpanIn};
 ghost use Rattle.cf_base.specs.Timing.{CanCount};
-ghost use Rattle.edl_events.specs.Places.{Line, lines_in, head_of_kind};
+ghost use Rattle.edl_events.specs.Places.{lines_in, head_of_kind};
 ghost use Rattle.edl_events.specs.Rounds.{FirstRound, refused_at};
-ghost use Rattle.edl_events.specs.Reads.{IsReading, After, IsPlain, IsAdded, noted, spoken, line_of};
+ghost use Rattle.edl_events.specs.Reads.{ReadsLine, IsPlain, IsAdded, noted, spoken, line_of};
 
 use crate::steps::{State, label_number, next_step};
 use crate::table::Table;
@@ -82,7 +82,7 @@ pub fn read_more(rate: Rate, reading: &mut Reading, line: &[u8]) -> Result<(), F
     requires few { reading.old.state.lines ≤ 4194304 }
     requires few_pictures { reading.old.state.pictures ≤ 10000 }
     requires short { length line.now ≤ 4194304 }
-    ensures { (lines : List Line) → slice_get lines reading.old.state.lines ≡ Some (line_of line.now) → IsReading rate lines reading.old.state.lines reading.old → After rate lines reading.old.state.lines result reading.new }
+    ensures { ReadsLine rate (line_of line.now) reading.old result reading.new }
 {
     match read_line(line) {
         Err(fault) => Err(Fail::Fault(ListKind::Line(fault))),
@@ -102,7 +102,7 @@ fn read_kind(
     requires few { reading.old.state.lines ≤ 4194304 }
     requires few_pictures { reading.old.state.pictures ≤ 10000 }
     requires within { IsIn line.now kind }
-    ensures { (lines : List Line) → slice_get lines reading.old.state.lines ≡ Some (record { bytes = line.now; kind = Ok kind }) → IsReading rate lines reading.old.state.lines reading.old → After rate lines reading.old.state.lines result reading.new }
+    ensures { ReadsLine rate (record { bytes = line.now; kind = Ok kind }) reading.old result reading.new }
 {
     match kind {
         LineKind::Motion {
@@ -127,7 +127,7 @@ fn read_plain(
     requires few_pictures { reading.old.state.pictures ≤ 10000 }
     requires within { IsIn line.now kind }
     requires plain { IsPlain kind }
-    ensures { (lines : List Line) → slice_get lines reading.old.state.lines ≡ Some (record { bytes = line.now; kind = Ok kind }) → IsReading rate lines reading.old.state.lines reading.old → After rate lines reading.old.state.lines result reading.new }
+    ensures { ReadsLine rate (record { bytes = line.now; kind = Ok kind }) reading.old result reading.new }
 {
     match next_step(rate, &reading.state, line, kind) {
         Err(kind) => Err(Fail::Fault(kind)),
@@ -168,7 +168,7 @@ fn read_motion(
     requires few { reading.old.state.lines ≤ 4194304 }
     requires within { IsSpanIn line.now trigger }
     requires bound { nat_abs speed ≤ 999999 }
-    ensures { (lines : List Line) → slice_get lines reading.old.state.lines ≡ Some (record { bytes = line.now; kind = Ok (Motion reel.now speed trigger) }) → IsReading rate lines reading.old.state.lines reading.old → After rate lines reading.old.state.lines result reading.new }
+    ensures { ReadsLine rate (record { bytes = line.now; kind = Ok (Motion reel.now speed trigger) }) reading.old result reading.new }
 {
     if let Err(kind) = label_number(rate, reading.state.mode, line, trigger) {
         return Err(Fail::Fault(kind));

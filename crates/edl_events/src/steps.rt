@@ -1,12 +1,11 @@
 //! One line more, from what the lines before it say.
-ghost use Rattle.std.specs.Prelude.{◌≡◌, ◌≤◌, ◌<◌, ℕ, Bool, length, slice_range, nat_lt, nat_le, IfOk, IfSome, unwrap_or, Some, ◌-◌};
+ghost use Rattle.std.specs.Prelude.{◌≡◌, ◌≤◌, ◌<◌, length, slice_range, IfOk, IfSome, unwrap_or, Some, ◌-◌};
 ghost use Rattle.cf_base.specs.Timing.{CanCount, frames_in_day};
-ghost use Rattle.cf_base.specs.Events.{is_known_wipe};
 ghost use Rattle.edl_lines.specs.Within.{IsSpanIn, AreSpansIn, IsIn};
-ghost use Rattle.edl_events.specs.Made.{AreTimes, IsInDay};
+ghost use Rattle.edl_events.specs.Made.{AreTimes};
 ghost use Rattle.edl_events.specs.Lists.{can_count};
 ghost use Rattle.edl_events.specs.Pictures.{label_number, times_of, is_at, leads, transition_fits};
-ghost use Rattle.edl_events.specs.Steps.{picture_from, step_of};
+ghost use Rattle.edl_events.specs.Steps.{IsInDayOf, picture_from, step_of};
 
 use crate::ListKind;
 use cf_base::{EventRec, Mode, Name, Rate, Span, Transition};
@@ -187,7 +186,7 @@ fn picture(
     requires spans { AreSpansIn line.now spans }
     requires few { state.now.lines ≤ 4194304 }
     ensures value { result ≡ picture_from rate state.now line.now number reel.now transition spans }
-    ensures day { IfOk result (λ e. IsInDay rate state.now.mode (unwrap_or state.now.record_mode state.now.mode) e) }
+    ensures day { IfOk result (IsInDayOf rate state.now) }
 {
     let record_mode = state.record_mode.unwrap_or(state.mode);
     let times = match times_of(rate, state.mode, record_mode, line, spans) {
@@ -225,7 +224,7 @@ pub fn next_step(rate: Rate, state: &State, line: &[u8], kind: LineKind) -> Resu
     requires few { state.now.lines ≤ 4194304 }
     requires few_pictures { state.now.pictures ≤ 10000 }
     ensures value { result ≡ step_of rate state.now line.now kind }
-    ensures day { IfOk result (λ t. IfSome t.event (λ e. IsInDay rate state.now.mode (unwrap_or state.now.record_mode state.now.mode) e)) }
+    ensures day { IfOk result (λ t. IfSome t.event (IsInDayOf rate state.now)) }
 {
     let lines = state.lines + 1;
     match kind {

@@ -1,9 +1,8 @@
 //! The table of open lines: the last run of event lines with one number, by their reels.
 //!
 //! A motion line asks for one reel alone, so that a list is read in time that grows with its length, whatever its runs.
-ghost use Rattle.std.specs.Prelude.{◌≡◌, ℕ, List, OnOk, Some};
-ghost use Rattle.std.specs.BTreeMap.{IsEmpty};
-ghost use Rattle.edl_events.specs.Table.{count_of, place_of, goes_on, kept_count, kept_place, with_line, with_place, with_motion};
+ghost use Rattle.std.specs.Prelude.{◌≡◌, OnOk, Some};
+ghost use Rattle.edl_events.specs.Table.{count_of, place_of, HasCounts, HasPlaces, line_counts, line_places, more_counts, more_places, run_counts, run_places, with_motion};
 
 use cf_base::Name;
 use std::alloc::AllocError;
@@ -113,8 +112,8 @@ impl Table {
     /// A motion line of the reel stands behind the run.
     pub fn take_motion(&mut self, reel: &Name) -> Result<(), AllocError>
         ensures number { OnOk result (self.new.number ≡ self.old.number) }
-        ensures counts { OnOk result ((q : List ℕ) → count_of self.new.counts q ≡ with_motion (count_of self.old.counts) reel.now q) }
-        ensures places { OnOk result ((q : List ℕ) (nth : ℕ) → place_of self.new.places q nth ≡ place_of self.old.places q nth) }
+        ensures counts { OnOk result (HasCounts self.new (with_motion (count_of self.old.counts) reel.now)) }
+        ensures places { OnOk result (HasPlaces self.new (place_of self.old.places)) }
     {
         let Count { lines, moved } = self.count_of(reel);
         // A text has far too few lines for the count to stop.
@@ -129,8 +128,8 @@ impl Table {
     /// An event line goes on with the run of its number, or begins one.
     pub fn add(&mut self, number: u32, place: u32, reel: &Name) -> Result<(), AllocError>
         ensures number { OnOk result (self.new.number ≡ Some number) }
-        ensures counts { OnOk result ((q : List ℕ) → count_of self.new.counts q ≡ with_line (kept_count (goes_on self.old.number number) (count_of self.old.counts)) reel.now q) }
-        ensures places { OnOk result ((q : List ℕ) (nth : ℕ) → place_of self.new.places q nth ≡ with_place (kept_count (goes_on self.old.number number) (count_of self.old.counts)) (kept_place (goes_on self.old.number number) (place_of self.old.places)) place reel.now q nth) }
+        ensures counts { OnOk result (HasCounts self.new (line_counts self.old number reel.now)) }
+        ensures places { OnOk result (HasPlaces self.new (line_places self.old number place reel.now)) }
     {
         self.begin(number);
         self.put(place, reel)?;
@@ -140,8 +139,8 @@ impl Table {
     /// The run of a number: the one that is open, or a new one.
     fn begin(&mut self, number: u32)
         ensures number { self.new.number ≡ Some number }
-        ensures counts { (q : List ℕ) → count_of self.new.counts q ≡ kept_count (goes_on self.old.number number) (count_of self.old.counts) q }
-        ensures places { (q : List ℕ) (nth : ℕ) → place_of self.new.places q nth ≡ kept_place (goes_on self.old.number number) (place_of self.old.places) q nth }
+        ensures counts { HasCounts self.new (run_counts self.old number) }
+        ensures places { HasPlaces self.new (run_places self.old number) }
     {
         if self.number != Some(number) {
             self.counts.clear();
@@ -153,8 +152,8 @@ impl Table {
     /// An event line stands at the run's end.
     fn put(&mut self, place: u32, reel: &Name) -> Result<(), AllocError>
         ensures number { OnOk result (self.new.number ≡ self.old.number) }
-        ensures counts { OnOk result ((q : List ℕ) → count_of self.new.counts q ≡ with_line (count_of self.old.counts) reel.now q) }
-        ensures places { OnOk result ((q : List ℕ) (nth : ℕ) → place_of self.new.places q nth ≡ with_place (count_of self.old.counts) (place_of self.old.places) place reel.now q nth) }
+        ensures counts { OnOk result (HasCounts self.new (more_counts self.old reel.now)) }
+        ensures places { OnOk result (HasPlaces self.new (more_places self.old place reel.now)) }
     {
         let Count { lines, moved } = self.count_of(reel);
         self.places.insert((ReelKey(*reel), lines), place)?;

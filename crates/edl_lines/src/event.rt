@@ -6,9 +6,9 @@ ghost use Rattle.edl_lines.specs.Lines.{event_of, motion_of, picture_of, is_pict
 ghost use Rattle.edl_lines.specs.Within.{IsIn};
 ghost use Rattle.edl_lines.specs.Shapes.{lasting, shape_of, lasting_event};
 
-use crate::numbers::{are_digits, decimal, digits_value, speed_of};
+use crate::numbers::{decimal, speed_of};
 use crate::{LineFault, LineKind};
-use cf_base::{Name, Span, TokenSpan, Transition, token_from};
+use cf_base::{Name, Span, TokenSpan, Transition, are_digits, digits_value, token_from};
 
 /// An event line whose first token is its number.
 pub fn read_event(line: &[u8], first: TokenSpan) -> Result<LineKind, LineFault>

@@ -1,9 +1,9 @@
 //! Numbers in tokens.
-ghost use Rattle.std.specs.Prelude.{◌≡◌, ◌≤◌, ◌<◌, ◌^◌, true, length, IfSome, nat_abs};
-ghost use Rattle.std.specs.Char.{is_ascii_digit};
-ghost use Rattle.std.specs.List.{list_all, position_or_len};
-ghost use Rattle.std.specs.Str.Parse.{digits_value as value_of_digits};
+ghost use Rattle.std.specs.Prelude.{◌≡◌, ◌≤◌, ◌<◌, ◌^◌, length, IfSome, nat_abs};
+ghost use Rattle.std.specs.List.{position_or_len};
 ghost use Rattle.edl_lines.specs.Numbers.{decimal, speed_of, hundredths, fraction, is_point};
+
+use cf_base::{are_digits, digits_value};
 
 /// One to `most` digits, as a number.
 pub fn decimal(most: usize, bytes: &[u8]) -> Option<u32>
@@ -16,27 +16,6 @@ pub fn decimal(most: usize, bytes: &[u8]) -> Option<u32>
     } else {
         None
     }
-}
-
-/// Whether each byte is a digit.
-pub fn are_digits(bytes: &[u8]) -> bool
-    ensures { result ≡ list_all is_ascii_digit bytes.now }
-{
-    bytes.iter().all(|byte| byte.is_ascii_digit())
-}
-
-/// The number of up to nine digits.
-pub fn digits_value(bytes: &[u8]) -> u32
-    requires length { length bytes.now ≤ 9 }
-    requires digits { list_all is_ascii_digit bytes.now ≡ true }
-    ensures value { result ≡ value_of_digits 10 bytes.now }
-    ensures bound { result < 10 ^ length bytes.now }
-{
-    let mut value = 0;
-    for byte in bytes {
-        value = value * 10 + u32::from(*byte - b'0');
-    }
-    value
 }
 
 /// A speed in hundredths.

@@ -1,7 +1,8 @@
 //! The lines that are put for outcomes.
-ghost use Rattle.std.specs.Prelude.{◌≡◌, ◌++◌, IfOk, OnOk, MatchOption};
+ghost use Rattle.std.specs.Prelude.{◌≡◌, ◌++◌, IfOk, OnOk};
 ghost use Rattle.std.specs.Option.{option_copied};
-ghost use Rattle.outcome_line.specs.Output.{plain_line, refused_line, absent_line, numbered_line, timeline_line, reels_line, project_line, cut_line, job_line, source_line, fault_text, line_of, other_job_line, bad_ledger_line, damaged_line, changed_line, old_line, IsMade};
+ghost use Rattle.outcome_line.specs.Made.{HasMadeLine};
+ghost use Rattle.outcome_line.specs.Output.{plain_line, refused_line, absent_line, numbered_line, timeline_line, reels_line, project_line, cut_line, job_line, source_line, fault_text, other_job_line, bad_ledger_line, damaged_line, changed_line, old_line};
 
 use crate::outcome::{
     Outcome, Refused, Which, cube_number, header_number, list_number, project_number, reels_number,
@@ -38,7 +39,7 @@ pub fn plain_line(outcome: &Outcome) -> &'static str
 
 /// The line of an outcome whose line is made, None of another.
 pub fn made_line(alloc: Global, outcome: &Outcome) -> Option<Result<Vec<u8>, AllocError>>
-    ensures { MatchOption result (IsMade outcome.now → ⊥) (λ made. IsMade outcome.now × IfOk made (λ text. text.items ≡ line_of outcome.now)) }
+    ensures { HasMadeLine outcome.now result }
 {
     match outcome {
         Outcome::Refused(refused) => Some(refused_line(alloc, refused)),

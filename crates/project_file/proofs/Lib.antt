@@ -1,3 +1,4 @@
+mod Items
 mod Laws
 mod Projects
 mod RgbLaws

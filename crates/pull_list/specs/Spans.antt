@@ -1,12 +1,17 @@
 -- What a pull list is made of: a span for each needed frame, by reel and start, of which those that touch are joined.
 --     span_at entries margin key      the frames of the reel around one that is needed
+--     spans_of_asks p margin asks      those of the source frames that are asked for
 --     IsSpan span      it holds a frame, and its numbers are those of a reel
 --     AreSorted reel from spans      none starts before the one ahead of it
 --     touches, joined      of one span and the next
-use Rattle.std.specs.Prelude.{◌≡◌, ◌⊎◌, ℕ, ◌+◌, ◌-◌, ◌*◌, ◌<◌, ◌≤◌, ◌==◌, ◌&&◌, Bool, nat_le, min, max, List, [], ◌∷◌, Option, Some, None, slice_get}
+use Rattle.std.specs.Prelude.{◌≡◌, ◌⊎◌, ℕ, ◌+◌, ◌-◌, ◌*◌, ◌<◌, ◌≤◌, ◌==◌, ◌&&◌, Bool, nat_le, min, max, List, [], ◌∷◌, map, Option, Some, None, slice_get}
 use Rattle.cf_base.specs.declared.key.Key.{Key}
 use Rattle.cf_base.specs.declared.reel.ReelEntry.{ReelEntry}
 use Rattle.dpx_header.specs.declared.info.FrameInfo.{FrameInfo}
+use Rattle.conform_job.specs.Asks.{asks_at}
+use Rattle.conform_job.specs.Keys.{keys_of_asks}
+use Rattle.conform_job.specs.declared.frames.Ask.{Ask}
+use Rattle.conform_job.specs.declared.parts.JobParts.{JobParts}
 use Rattle.pull_list.specs.Pull.{HasFrame}
 use Rattle.pull_list.specs.declared.range.PullRange.{PullRange}
 
@@ -23,6 +28,14 @@ span_of margin key (Some e) = span_in margin key e
 
 abbrev pub span_at : List ReelEntry → ℕ → Key → PullRange
 span_at entries margin key = span_of margin key (slice_get entries key.reel)
+
+-- one for each source frame that is asked for, in order
+abbrev pub spans_of_asks : JobParts → ℕ → List Ask → List PullRange
+spans_of_asks p margin asks = map (span_at p.reels margin) (keys_of_asks p.reels p.timeline.events asks)
+
+-- those of record frame i, from 0
+abbrev pub spans_at : JobParts → ℕ → ℕ → List PullRange
+spans_at p margin i = spans_of_asks p margin (asks_at p.timeline i)
 
 -- the span of a side, if it is a source frame
 abbrev pub spans_of_side : List ReelEntry → ℕ → Option (Key × FrameInfo) → List PullRange

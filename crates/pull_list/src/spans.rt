@@ -1,10 +1,9 @@
 //! The spans of what a job needs.
-ghost use Rattle.std.specs.Prelude.{◌≡◌, ◌<◌, ◌≤◌, ◌++◌, All, map, None, IfOk, IfSome, OnOk};
+ghost use Rattle.std.specs.Prelude.{◌≡◌, ◌<◌, ◌≤◌, ◌++◌, All, None, IfOk, IfSome, OnOk};
 ghost use Rattle.record_timeline.specs.Accepted.{frame_count};
-ghost use Rattle.conform_job.specs.Asks.{asks_at, asks_of};
-ghost use Rattle.conform_job.specs.Keys.{keys_of_asks};
+ghost use Rattle.conform_job.specs.Asks.{asks_of};
 ghost use Rattle.source_reels.specs.Reels.{reels_fault};
-ghost use Rattle.pull_list.specs.Spans.{HasKey, IsSpan, span_at, spans_of_side};
+ghost use Rattle.pull_list.specs.Spans.{HasKey, IsSpan, spans_at, spans_of_asks, spans_of_side};
 
 use crate::range::{PullRange, span_at};
 use cf_base::{Key, ReelEntry};
@@ -22,7 +21,7 @@ pub fn spans_of(
     requires margin { margin ≤ 1000 }
     requires entries { entries.now ≡ job.now.parts.reels }
     requires accepted { reels_fault entries.now ≡ None }
-    ensures spans { IfOk result (λ spans. spans.items ≡ map (span_at job.now.parts.reels margin) (keys_of_asks job.now.parts.reels job.now.parts.timeline.events (asks_of job.now.parts.timeline))) }
+    ensures spans { IfOk result (λ spans. spans.items ≡ spans_of_asks job.now.parts margin (asks_of job.now.parts.timeline)) }
     ensures some { IfOk result (λ spans. All IsSpan spans.items) }
 {
     let mut spans = Vec::new(alloc);
@@ -45,7 +44,7 @@ fn put_frame(
     requires accepted { reels_fault entries.now ≡ None }
     requires within { i < frame_count job.now.parts.timeline.events }
     requires some { All IsSpan spans.old.items }
-    ensures spans { OnOk result (spans.new.items ≡ spans.old.items ++ map (span_at job.now.parts.reels margin) (keys_of_asks job.now.parts.reels job.now.parts.timeline.events (asks_at job.now.parts.timeline i))) }
+    ensures spans { OnOk result (spans.new.items ≡ spans.old.items ++ spans_at job.now.parts margin i) }
     ensures some { OnOk result (All IsSpan spans.new.items) }
 {
     let Need { old, new } = job.need(i);

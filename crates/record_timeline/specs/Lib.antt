@@ -1,4 +1,5 @@
 pub mod Accepted
 pub mod Laws
+pub mod Parts
 pub mod Shots
 pub mod Spans

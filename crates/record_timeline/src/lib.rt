@@ -81,6 +81,7 @@ impl Timeline {
     ghost use Rattle.cf_base.specs.Events.{IsWellMade};
     ghost use Rattle.cf_base.specs.Timing.{CanCount, frames_in_day};
     ghost use Rattle.record_timeline.specs.Accepted.{IsAccepted, timeline_of, first_frame, frame_count};
+    ghost use Rattle.record_timeline.specs.Parts.{IsOfList};
     ghost use Rattle.record_timeline.specs.Shots.{shot_of, IsShotIn};
 
     /// The timeline of a list. 7.1 comes before 7.2, and both exactly where their rule says.
@@ -91,7 +92,7 @@ impl Timeline {
     ) -> Result<Timeline, Fail<TimelineFault>>
         requires { IsWellMade rate list.mode list.events }
         ensures timeline { Gives result (timeline_of rate list) }
-        ensures parts { IfOk result (λ timeline. (timeline.rate ≡ rate) × (timeline.mode ≡ list.mode) × (timeline.events ≡ list.events)) }
+        ensures parts { IfOk result (IsOfList rate list) }
     {
         let events = list.events.items();
         let Ok(spans) = sorted_spans(alloc, events) else {

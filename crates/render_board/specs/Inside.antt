@@ -1,5 +1,5 @@
 -- What a board's fields keep.
-use Rattle.std.specs.Prelude.{◌≡◌, ℕ, ◌+◌, ◌-◌, ◌*◌, ◌<◌, ◌≤◌, false, length, vec_capacity, slice_index_or, sum_by}
+use Rattle.std.specs.Prelude.{◌≡◌, ℕ, ◌+◌, ◌-◌, ◌*◌, ◌<◌, ◌≤◌, true, false, length, vec_capacity, slice_index_or, sum_by}
 use Rattle.std.specs.List.{list_any}
 use Rattle.render_board.specs.declared.board.Board.TheInside.{Inside}
 use Rattle.render_board.specs.declared.board.Turn.{Turn}
@@ -8,6 +8,10 @@ use Rattle.render_board.specs.Board.{Log, IsLegal, turn_of, is_free, is_claim_of
 
 abbrev pub log_of : Inside → Log
 log_of a = record { start = a.start.items; workers = a.workers; steps = a.history.items }
+
+-- the frame is free, and none before it is
+abbrev pub IsLeastFree : Log → ℕ → Type 0
+IsLeastFree log i = (i < length log.start) × (is_free log i ≡ true) × ((j : ℕ) → j < i → is_free log j ≡ false)
 
 -- how many steps a worker may still make without a further claim, its stop among them
 abbrev pub steps_left : Turn → ℕ

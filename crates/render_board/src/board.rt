@@ -1,7 +1,8 @@
 //! The board: a cursor behind which no frame is free, one turn for each worker, and the history.
-ghost use Rattle.std.specs.Prelude.{◌≡◌, ◌≢◌, ◌<◌, ◌≤◌, ◌++◌, ◌∷◌, vec_len, vec_capacity, length, [], IfOk, IfSome, ℕ, true, false};
+ghost use Rattle.std.specs.Prelude.{◌≡◌, ◌≢◌, ◌<◌, ◌≤◌, ◌++◌, ◌∷◌, vec_len, vec_capacity, length, [], IfOk, IfSome, true, false};
 ghost use Rattle.render_board.specs.declared.board.Turn.TheVariants as turns;
-ghost use Rattle.render_board.specs.Board.{IsLegal, turn_of, claim_of, least_free, is_free, after_claim, with_step};
+ghost use Rattle.render_board.specs.Board.{IsLegal, turn_of, claim_of, least_free, after_claim, with_step};
+ghost use Rattle.render_board.specs.Inside.{IsLeastFree};
 
 use crate::history::History;
 use crate::step::{Step, Why};
@@ -166,7 +167,7 @@ impl Board {
     /// The least frame that is free.
     fn next_free(&self) -> Option<u32>
         ensures least { result ≡ least_free self.now }
-        ensures found { IfSome result (λ i. (i < length self.now.start) × (is_free self.now i ≡ true) × ((j : ℕ) → j < i → is_free self.now j ≡ false)) }
+        ensures found { IfSome result (IsLeastFree self.now) }
     {
         for at in self.cursor..self.start.len() {
             if !self.start[at] {

@@ -1,6 +1,7 @@
 pub mod Answers
 pub mod Memory
 pub mod Plan
+pub mod Planned
 pub mod Same
 pub mod Turning
 pub mod World

@@ -1,5 +1,6 @@
 -- A scan over files in memory as contracts see it, and what it answers to its next call.
-use Rattle.std.specs.Prelude.{◌≡◌, ◌↔◌, ℕ, List, map, Contains}
+use Rattle.std.specs.Prelude.{◌≡◌, ◌↔◌, ℕ, List, map, Contains, Vec}
+use Rattle.std.specs.declared.alloc.Global.{Global}
 use Rattle.scan_source.specs.declared.memory.MemoryScans.{MemoryScans}
 use Rattle.scan_source.specs.declared.scans.Loaded.{Loaded}
 use Rattle.scan_source.specs.declared.scans.Loaded.TheVariants as loaded
@@ -14,9 +15,13 @@ pub record Memory : Type 0 where
   pub files : World
   pub plan : Plan
 
+-- the files that it has by their paths
+abbrev pub world_in : List (List ℕ × Vec ℕ Global) → World
+world_in files = world_of (map (λ f. (f.0, f.1.items)) files)
+
 abbrev pub memory_of : MemoryScans → Memory
 memory_of scan = record {
-  files = world_of (map (λ f. (f.0, f.1.items)) scan.files.items);
+  files = world_in scan.files.items;
   plan = record { calls = scan.calls; fails = scan.fails.items };
 }
 

@@ -1,9 +1,9 @@
 //! Source files in memory.
-ghost use Rattle.std.specs.Prelude.{◌≡◌, ◌≤◌, ◌↔◌, Some, None, IsTrue, IsFalse, MatchOption, Contains, is_some, map, refl};
+ghost use Rattle.std.specs.Prelude.{◌≡◌, ◌≤◌, ◌↔◌, Some, None, IsTrue, IsFalse, MatchOption, Contains, is_some};
 ghost use Rattle.cf_base.specs.Count.{HasRisen, HasRisenByOne, kept};
-ghost use Rattle.scan_source.specs.Memory.{memory_of};
+ghost use Rattle.scan_source.specs.Memory.{memory_of, world_in};
 ghost use Rattle.scan_source.specs.Plan.{one_more};
-ghost use Rattle.scan_source.specs.World.{world_of, file_at};
+ghost use Rattle.scan_source.specs.World.{file_at};
 
 use crate::{Head, Loaded, Scans, head_of};
 use cf_base::PathText;
@@ -23,7 +23,7 @@ impl MemoryScans {
     /// The files by path, of which the first of two equal paths counts. Calls of both kinds are numbered together from
     /// 1, and those whose numbers are in `fails` fail. Takes no memory.
     pub fn new(files: Vec<(PathText, Vec<u8>)>, fails: Vec<u64>) -> Self
-        ensures world { ⟦<MemoryScans as Scans>⟧.world result ≡ Some (world_of (map (λ f. (f.0, f.1.items)) files.items)) }
+        ensures world { ⟦<MemoryScans as Scans>⟧.world result ≡ Some (world_in files.items) }
         ensures plan { ⟦<MemoryScans as Scans>⟧.plan result ≡ Some (record { calls = 0; fails = fails.items }) }
         ensures faults { ⟦<MemoryScans as Scans>⟧.faults result ≡ 0 }
         ensures loads { ⟦<MemoryScans as Scans>⟧.loads result ≡ 0 }
@@ -66,9 +66,7 @@ impl MemoryScans {
 
 /// The bytes of the first file with this path.
 fn bytes_at<'a>(files: &'a [(PathText, Vec<u8>)], path: &PathText) -> Option<&'a [u8]>
-    ensures { MatchOption result
-        (file_at (world_of (map (λ f. (f.0, f.1.items)) files.now)) path.now ≡ None)
-        (λ bytes. file_at (world_of (map (λ f. (f.0, f.1.items)) files.now)) path.now ≡ Some bytes.now) }
+    ensures { let file = file_at (world_in files.now) path.now in MatchOption result (file ≡ None) (λ bytes. file ≡ Some bytes.now) }
 {
     for file in files {
         if path.bytes() == file.0.bytes() {
@@ -81,7 +79,7 @@ fn bytes_at<'a>(files: &'a [(PathText, Vec<u8>)], path: &PathText) -> Option<&'a
 impl Scans for MemoryScans {
     ghost use Rattle.std.proofs.Common.{arith};
 
-    ghost world = { λ scan. Some (world_of (map (λ f. (f.0, f.1.items)) scan.files.items)) };
+    ghost world = { λ scan. Some (world_in scan.files.items) };
 
     ghost faults = { λ scan. kept scan.faults };
 

@@ -1,8 +1,9 @@
 //! What reads source files.
-ghost use Rattle.std.specs.Prelude.{◌≡◌, ◌≢◌, ◌≤◌, ℕ, Option, None, IfSome, MatchOption};
+ghost use Rattle.std.specs.Prelude.{◌≡◌, ◌≢◌, ◌≤◌, ℕ, Option, None, IfSome};
 ghost use Rattle.cf_base.specs.Count.{HasRisen, HasRisenByOne, IsKept};
 ghost use Rattle.scan_source.specs.Answers.{IsLoaded, Fills, IsHead};
-ghost use Rattle.scan_source.specs.Plan.{Plan, FollowsPlan, one_more};
+ghost use Rattle.scan_source.specs.Plan.{Plan, one_more};
+ghost use Rattle.scan_source.specs.Planned.{FollowsIfTold};
 ghost use Rattle.scan_source.specs.World.{World, file_at};
 
 use cf_base::PathText;
@@ -62,7 +63,7 @@ pub trait Scans: Drop {
         ensures once { result ≡ Loaded.Failed → HasRisenByOne (faults self.old) (faults self.new) }
         ensures steady { result ≢ Loaded.Failed → faults self.new ≡ faults self.old }
         ensures later { faults self.old ≤ faults self.new }
-        ensures plan { MatchOption (plan self.old) (plan self.new ≡ None) (λ p. FollowsPlan p (plan self.new) (result ≡ Loaded.Failed)) }
+        ensures plan { FollowsIfTold (plan self.old) (plan self.new) (result ≡ Loaded.Failed) }
 
         ensures loads { loads self.new ≡ one_more (loads self.old) }
         ensures heads { heads self.new ≡ heads self.old }
@@ -78,7 +79,7 @@ pub trait Scans: Drop {
         ensures once { result ≡ Head.Failed → HasRisenByOne (faults self.old) (faults self.new) }
         ensures steady { result ≢ Head.Failed → faults self.new ≡ faults self.old }
         ensures later { faults self.old ≤ faults self.new }
-        ensures plan { MatchOption (plan self.old) (plan self.new ≡ None) (λ p. FollowsPlan p (plan self.new) (result ≡ Head.Failed)) }
+        ensures plan { FollowsIfTold (plan self.old) (plan self.new) (result ≡ Head.Failed) }
 
         ensures heads { heads self.new ≡ one_more (heads self.old) }
         ensures loads { loads self.new ≡ loads self.old }

@@ -1,5 +1,5 @@
 //! Source files in memory that change between two calls.
-ghost use Rattle.std.specs.Prelude.{◌≡◌, ◌≢◌, ◌≤◌, None, IsTrue, refl};
+ghost use Rattle.std.specs.Prelude.{◌≡◌, ◌≢◌, ◌≤◌, None};
 ghost use Rattle.cf_base.specs.Count.{HasRisen, HasRisenByOne, kept};
 ghost use Rattle.scan_source.specs.Answers.{Fills};
 ghost use Rattle.scan_source.specs.Memory.{memory_of, HasLoaded, HasLooked};
@@ -26,8 +26,8 @@ impl TurningScans {
     /// ones to the second, and each of the two counts and fails those that go to it. Takes no memory.
     pub fn new(first: MemoryScans, then: MemoryScans, at: u64) -> Self
         ensures turning { turning_of result ≡ record { first = memory_of first; later = memory_of then; at = at; calls = 0 } }
-        ensures faults { ⟦<TurningScans as Scans>⟧.faults result
-            ≡ both_counts (⟦<MemoryScans as Scans>⟧.faults first) (⟦<MemoryScans as Scans>⟧.faults then) }
+        ensures faults { let faults = ⟦<MemoryScans as Scans>⟧.faults in
+            ⟦<TurningScans as Scans>⟧.faults result ≡ both_counts (faults first) (faults then) }
         ensures world { ⟦<TurningScans as Scans>⟧.world result ≡ None }
         ensures plan { ⟦<TurningScans as Scans>⟧.plan result ≡ None }
         ensures loads { ⟦<TurningScans as Scans>⟧.loads result ≡ 0 }

@@ -1,7 +1,8 @@
 //! What the head of a source frame's file says.
-ghost use Rattle.std.specs.Prelude.{◌≡◌, ◌≢◌, ◌≤◌, None, IfSome, MatchOption};
+ghost use Rattle.std.specs.Prelude.{◌≡◌, ◌≢◌, ◌≤◌, IfSome};
 ghost use Rattle.cf_base.specs.Count.{HasRisen};
-ghost use Rattle.scan_source.specs.Plan.{FollowsPlan, one_more};
+ghost use Rattle.scan_source.specs.Plan.{one_more};
+ghost use Rattle.scan_source.specs.Planned.{FollowsIfTold};
 ghost use Rattle.scan_source.specs.World.{file_at};
 ghost use Rattle.source_reels.specs.Seen.{IsSeen, IsSeenFrame, IsSeenIn};
 
@@ -30,7 +31,7 @@ pub fn inspect<S: Scans>(scans: &mut S, path: &PathText) -> Seen
     ensures failed { result ≡ Seen.Fault → HasRisen (S.faults scans.old) (S.faults scans.new) }
     ensures steady { result ≢ Seen.Fault → S.faults scans.new ≡ S.faults scans.old }
     ensures later { S.faults scans.old ≤ S.faults scans.new }
-    ensures plan { MatchOption (S.plan scans.old) (S.plan scans.new ≡ None) (λ p. FollowsPlan p (S.plan scans.new) (result ≡ Seen.Fault)) }
+    ensures plan { FollowsIfTold (S.plan scans.old) (S.plan scans.new) (result ≡ Seen.Fault) }
 
     ensures heads { S.heads scans.new ≡ one_more (S.heads scans.old) }
     ensures loads { S.loads scans.new ≡ S.loads scans.old }

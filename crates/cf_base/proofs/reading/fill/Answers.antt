@@ -1,5 +1,5 @@
 -- A read into the rest of the buffer fills its next places.
-use Rattle.std.proofs.Common.{◌≡◌, ◌∙◌, ◌+◌, ◌-◌, ◌≤◌, ◌++◌, ℕ, List, ap, arith, drop_at, le_refl, length, length-take-le, rules, subst, sym, take}
+use Rattle.std.proofs.Common.{◌≡◌, ◌∙◌, ◌+◌, ◌-◌, ◌≤◌, ◌++◌, ℕ, List, ap, drop_at, le_refl, length, length-take-le, rules, subst, sym, take}
 use Rattle.std.specs.Prelude.{drop}
 use Rattle.std.specs.Io.KnownBytes.{Consumes}
 use Rattle.std.proofs.KnownBytes.{Consumes-trans}

@@ -1,6 +1,7 @@
-use Rattle.std.proofs.Common.{arith, ◌<◌, ◌≤◌, ◌^◌, get_or}
-use Rattle.cf_base.proofs.DecimalLaws.{small_value, one_digit_more, digit_here, digit_is}
-use Rattle.cube_reader.proofs.words.digits_value.Goals as goal
+use Rattle.std.proofs.Common.{arith, ◌<◌, ◌≤◌, ◌≡◌, ◌^◌, get_or, length}
+use Rattle.std.proofs.Math.Seq.{take-length}
+use Rattle.cf_base.proofs.DecimalLaws.{small_value, one_digit_more, digit_here, digit_is, value_below}
+use Rattle.cf_base.proofs.digits.digits_value.Goals as goal
 
 small : (c : goal.In-loop-byte) → c.loop-byte.value < 10 ^ 8
 small c =
@@ -19,3 +20,9 @@ overflow_add-value c =
 pub loop-byte-preserved : goal.loop-byte-preserved
 loop-byte-preserved c = one_digit_more c.args.bytes.now c.requires.digits c.loop-byte.byte-index c.loop-byte.value c.from.result c.loop-byte-test.true c.loop-byte.invariant
     (let which = digit_is (get_or c.args.bytes.now c.loop-byte.byte-index 0) (digit_here c.args.bytes.now c.requires.digits c.loop-byte.byte-index c.loop-byte-test.true) in omega (arith, which.0))
+
+pub returns-clause-bound : goal.returns-clause-bound
+returns-clause-bound c =
+    let whole : c.loop-byte.byte-index ≡ length c.args.bytes.now = omega arith in
+    let h = value_below c.args.bytes.now c.requires.digits in
+    rw (c.loop-byte.invariant, whole, take-length) h
