@@ -2,9 +2,10 @@
 --     JobData      what contracts see of it: its parts, and what the file of each needed key says
 --     IsJob p infos      what holds of every job, whatever its scan told
 --     need_at job i      the keys that record frame i needs, with their infos
+--     HasTableKeys p, HasNeeds job      that each needed key is of a reel in the table, and that each record frame has what it needs
 --     file_of job i      the file that record frame i is written to
 --     IsByLines why first      which answers are told without a scan
-use Rattle.std.specs.Prelude.{◌≡◌, ℕ, ◌+◌, ◌≤◌, true, List, [], length, Option, Some, None, IsSome, option_and_then}
+use Rattle.std.specs.Prelude.{◌≡◌, ℕ, ◌+◌, ◌<◌, ◌≤◌, true, List, [], length, Option, Some, None, IsSome, option_and_then}
 use Rattle.std.specs.Option.{option_map}
 use Rattle.std.specs.List.{list_any}
 use Rattle.cf_base.specs.declared.file.FileId.{FileId}
@@ -15,7 +16,7 @@ use Rattle.record_timeline.specs.declared.Side.{Side}
 use Rattle.record_timeline.specs.declared.Side.TheVariants.{Black, Frame}
 use Rattle.record_timeline.specs.declared.Shot.{Shot}
 use Rattle.record_timeline.specs.declared.Shot.TheVariants.{Gap, One, Two}
-use Rattle.record_timeline.specs.Accepted.{first_frame}
+use Rattle.record_timeline.specs.Accepted.{first_frame, frame_count}
 use Rattle.conform_job.specs.Answers.{Grows}
 use Rattle.conform_job.specs.Asks.{asks_of, shot_of_frame}
 use Rattle.conform_job.specs.Cuts.{bad_cut, record_reel}
@@ -56,6 +57,10 @@ file_of job i = FrameFile (record_reel job.parts i) (first_frame job.parts.timel
 abbrev pub IsNeeded : JobParts → Key → Type 0
 IsNeeded p key = list_any (is_key key) (keys_of_asks p.reels p.timeline.events (asks_of p.timeline)) ≡ true
 
+-- each key that a record frame asks for is of a reel in the table
+abbrev pub HasTableKeys : JobParts → Type 0
+HasTableKeys p = (key : Key) → IsNeeded p key → key.reel < length p.reels
+
 -- which of the answers are told by the project and the lines alone
 abbrev pub IsByLines : JobFault → Option JobFault → Type 0
 IsByLines fault.NoMemory first = Unit {0}
@@ -90,3 +95,7 @@ abbrev pub AreMet : Shot → Need → Type 0
 AreMet Gap need = Unit {0}
 AreMet (One side) need = IsMet side need.new
 AreMet (Two old new transition k d) need = IsMet old need.old × IsMet new need.new
+
+-- each record frame has what its sides need
+abbrev pub HasNeeds : JobData → Type 0
+HasNeeds job = (i : ℕ) → i < frame_count job.parts.timeline.events → AreMet (shot_of_frame job.parts.timeline i) (need_at job i)

@@ -61,8 +61,12 @@ ask_refusal p files ask = option_and_then (λ (n : Named). key_refusal p files n
 abbrev pub asks_refusal : JobParts → Files → List Ask → Option JobFault
 asks_refusal p files asks = slice_get (filter_map (ask_refusal p files) asks) 0
 
+-- that of the first source frame that the timeline asks for and that has one
+abbrev pub frames_refusal : JobParts → Files → Option JobFault
+frames_refusal p files = asks_refusal p files (asks_of p.timeline)
+
 abbrev pub told_refusal : JobParts → Option JobFault
 told_refusal p = option_or (bad_cut p) (unknown_of p.reels p.timeline.events)
 
 abbrev pub first_refusal : JobParts → Files → Option JobFault
-first_refusal p files = option_or (told_refusal p) (asks_refusal p files (asks_of p.timeline))
+first_refusal p files = option_or (told_refusal p) (frames_refusal p files)

@@ -1,11 +1,11 @@
 //! The record reels of a job: the frames with which they begin, the reel of a frame, and the frames of a reel.
-ghost use Rattle.std.specs.Prelude.{◌≡◌, ◌+◌, ◌≤◌, ◌<◌, ◌∷◌, ◌++◌, [], length, nat_le, slice_index, true, false, Some, None, IfOk, IfErr, IfSome, IfNone};
+ghost use Rattle.std.specs.Prelude.{◌≡◌, ◌+◌, ◌≤◌, ◌<◌, ◌∷◌, ◌++◌, [], length, nat_le, slice_index, false, Some, None, IfOk, IfErr, IfSome, IfNone};
 ghost use Rattle.std.specs.List.{count_by};
 ghost use Rattle.std.specs.List.Sorted.{IsNonDecreasing};
-ghost use Rattle.record_timeline.specs.Accepted.{first_frame, frame_count};
+ghost use Rattle.record_timeline.specs.Accepted.{frame_count};
 ghost use Rattle.conform_job.specs.Cuts.{bad_cut, cut_number, cut_numbers, is_in_turn, record_end, record_reel, reel_count, reel_span, HasFramesOf, IsWithin};
 ghost use Rattle.conform_job.specs.Job.{ArePlanned};
-ghost use Rattle.conform_job.specs.Lines.{IsCutUnless};
+ghost use Rattle.conform_job.specs.Lines.{IsCutInTurn, IsCutUnless};
 
 use crate::{JobFault, JobParts};
 use cf_base::{PathText, Span};
@@ -47,7 +47,7 @@ fn record_end(parts: &JobParts) -> u32
 /// The frame number of a cut, if its text is a label of the record above `before` and below `end`.
 fn number_in_turn(parts: &JobParts, text: &PathText, before: u32, end: u32) -> Option<u32>
     requires { ArePlanned parts.now }
-    ensures some { IfSome result (λ cut. (cut_number parts.now text.now ≡ Some cut) × (is_in_turn end (Some before) (Some cut) ≡ true)) }
+    ensures some { IfSome result (IsCutInTurn parts.now text.now before end) }
     ensures none { IfNone result (is_in_turn end (Some before) (cut_number parts.now text.now) ≡ false) }
 {
     let Some(cut) = number_of(parts, text) else {

@@ -13,7 +13,7 @@ ghost use Rattle.conform_job.specs.Asks.{asks_of, asks_of_side, asks_of_shot, sh
 ghost use Rattle.conform_job.specs.Infos.{IsSetTo, HasEachOnce};
 ghost use Rattle.conform_job.specs.Keys.{info_at, key_at, key_of_ask};
 ghost use Rattle.conform_job.specs.Lines.{places_of};
-ghost use Rattle.conform_job.specs.Refusals.{asks_refusal, file_of_key, file_refusal, name_of_ask};
+ghost use Rattle.conform_job.specs.Refusals.{asks_refusal, frames_refusal, key_refusal, name_of_ask};
 
 use crate::infos::Infos;
 use crate::{JobFault, JobParts};
@@ -60,7 +60,7 @@ fn inspect_key<S: Scans>(
     scans: &mut S,
 ) -> Result<FrameInfo, JobFault>
     requires { key.reel < length parts.now.reels }
-    ensures told { IfSome (S.world scans.old) (λ world. IsStep result (file_refusal named.now parts.now.project.width parts.now.project.height (file_of_key parts.now.reels (file_at world) key))) }
+    ensures told { IfSome (S.world scans.old) (λ world. IsStep result (key_refusal parts.now (file_at world) named.now (Some key))) }
     ensures info { IfOk result (IsInfoOf parts.now (S.world scans.old) key) }
     ensures of_frames { IfErr result IsOfFrames }
 
@@ -289,7 +289,7 @@ pub fn infos_of<S: Scans>(
     scans: &mut S,
 ) -> Result<Infos, JobFault>
     requires places { places.now ≡ places_of parts.now.reels parts.now.timeline.events }
-    ensures told { IfSome (S.world scans.old) (λ world. IsStep result (asks_refusal parts.now (file_at world) (asks_of parts.now.timeline))) }
+    ensures told { IfSome (S.world scans.old) (λ world. IsStep result (frames_refusal parts.now (file_at world))) }
     ensures grows { IfOk result (Grows parts.now (S.world scans.old) (asks_of parts.now.timeline) []) }
     ensures of_frames { IfErr result IsOfFrames }
 

@@ -1,5 +1,5 @@
 //! A job, and how it is planned.
-ghost use Rattle.std.specs.Prelude.{◌≡◌, ◌≢◌, ◌+◌, ◌<◌, ◌≤◌, [], length, None, Some, Err, IfSome, IfOk, IfErr, MatchResult};
+ghost use Rattle.std.specs.Prelude.{◌≡◌, ◌≢◌, ◌<◌, ◌≤◌, [], length, None, Some, Err, IfSome, IfOk, IfErr, MatchResult};
 ghost use Rattle.cf_base.specs.Count.{HasRisen};
 ghost use Rattle.scan_source.specs.World.{file_at};
 ghost use Rattle.record_timeline.specs.Accepted.{frame_count};
@@ -12,8 +12,8 @@ ghost use Rattle.conform_job.specs.Ended.{HasAsked};
 ghost use Rattle.conform_job.specs.Found.{IsFound};
 ghost use Rattle.conform_job.specs.Infos.{HasEachOnce};
 ghost use Rattle.conform_job.specs.Job.{ArePlanned, IsByLines, IsNeeded, file_of};
-ghost use Rattle.conform_job.specs.Lines.{places_of, IsPlacedUnless};
-ghost use Rattle.conform_job.specs.Refusals.{first_refusal, told_refusal, unknown_of};
+ghost use Rattle.conform_job.specs.Lines.{ArePlaces, IsPlacedUnless};
+ghost use Rattle.conform_job.specs.Refusals.{first_refusal, told_refusal};
 
 use crate::cuts::{cut_numbers, record_reel, reel_span};
 use crate::frames::{events_of, frame_of, infos_of, path_of_key, shot_of};
@@ -42,31 +42,28 @@ pub struct Job {
 }
 
 impl Model for Job {
-    ghost use Rattle.std.specs.Prelude.{◌≡◌};
-    ghost use Rattle.conform_job.specs.Job.{JobData, IsJob};
-    ghost use Rattle.conform_job.specs.Cuts.{cut_numbers};
-    ghost use Rattle.conform_job.specs.Lines.{places_of};
+    ghost use Rattle.conform_job.specs.Job.{JobData};
+    ghost use Rattle.conform_job.specs.Lines.{KeepsJob};
 
     ghost Value = { JobData };
 
     ghost view = { λ j. record { parts = j.parts; infos = j.infos } };
 
-    ghost invariant = { λ j. IsJob j.parts j.infos
-        × (j.places.items ≡ places_of j.parts.reels j.parts.timeline.events)
-        × (j.cuts.items ≡ cut_numbers j.parts) };
+    ghost invariant = { λ j. KeepsJob j.parts j.infos j.places.items j.cuts.items };
 }
 
 impl Job {
     ghost use Rattle.std.specs.Prelude.{Option};
-    ghost use Rattle.conform_job.specs.Job.{need_at, AreMet, IsJob};
+    ghost use Rattle.conform_job.specs.Job.{need_at, AreMet, HasNeeds, HasTableKeys, IsJob};
 
     /// The job of these parts, or the first refusal; the parts are given up on a refusal.
     ///
     /// First comes 15.5, for the first cut that is no label of the record above the cut before it and the record's first
     /// frame, and below the record's end; then 15.1, for the first event whose reel is neither `BL` nor in the table. Then the
-    /// record frames are taken in order, and of a frame the old side before the new. Each source frame is tested where it is first asked for, and
-    /// inspected there, once: 15.2 where the reel doesn't have it or there is no file, 15.3 where the file's header is refused,
-    /// 15.4 where its size isn't the project's. `SourceFault` and `NoMemory` end the plan where they come.
+    /// record frames are taken in order, and of a frame the old side before the new. Each source frame is tested where it is
+    /// first asked for, and inspected there, once: 15.2 where the reel doesn't have it or there is no file, 15.3 where the
+    /// file's header is refused, 15.4 where its size isn't the project's. `SourceFault` and `NoMemory` end the plan where they
+    /// come.
     pub fn plan<S: Scans>(alloc: Global, parts: JobParts, scans: &mut S) -> Result<Job, JobFault>
         requires { ArePlanned parts }
 
@@ -100,6 +97,22 @@ impl Job {
             }),
             Err(fault) => Err(fault),
         }
+    }
+
+    /// Recalls what every job keeps, for the proof of the caller, and does nothing when it runs: the parts are planned and no
+    /// cut or reel of them is refused, there are 1 to 262,144 record frames, the title has at most 199 bytes, each needed key
+    /// is of a reel in the table, and each record frame has what it needs.
+    pub fn recall(&self)
+        ensures job { IsJob self.now.parts self.now.infos }
+        ensures some { 1 ≤ frame_count self.now.parts.timeline.events }
+        ensures most { frame_count self.now.parts.timeline.events ≤ 262144 }
+        ensures title { length self.now.parts.project.title ≤ 199 }
+        ensures keys { HasTableKeys self.now.parts }
+        ensures needs { HasNeeds self.now }
+    {
+        // The parts say so with these values.
+        let _ = self.parts.timeline.count();
+        let _ = self.parts.project.title.bytes();
     }
 
     /// The digest of the texts that the parts were read from. Takes no memory, as all readers.
@@ -290,7 +303,7 @@ fn path_of_needed(parts: &JobParts, key: Key) -> PathText
 
 /// The place of each event's reel.
 fn places_in(alloc: Global, parts: &JobParts) -> Result<Vec<Option<u16>>, JobFault>
-    ensures none { IfOk result (λ places. (unknown_of parts.now.reels parts.now.timeline.events ≡ None) × (places.items ≡ places_of parts.now.reels parts.now.timeline.events)) }
+    ensures none { IfOk result (λ places. ArePlaces parts.now.reels parts.now.timeline.events places.items) }
     ensures refused { IfErr result (IsPlacedUnless parts.now.reels parts.now.timeline.events) }
 {
     places_of(alloc, &parts.reels, events_of(parts))

@@ -1,7 +1,7 @@
 //! The places of the events' reels in the table.
-ghost use Rattle.std.specs.Prelude.{◌≡◌, None, IfOk, IfErr};
+ghost use Rattle.std.specs.Prelude.{◌≡◌, IfOk, IfErr};
 ghost use Rattle.conform_job.specs.Refusals.{is_unknown, unknown_of};
-ghost use Rattle.conform_job.specs.Lines.{places_of, IsPlacedUnless};
+ghost use Rattle.conform_job.specs.Lines.{ArePlaces, IsPlacedUnless};
 
 use crate::JobFault;
 use cf_base::EventRec;
@@ -15,7 +15,7 @@ pub fn places_of(
     table: &ReelTable,
     events: &[EventRec],
 ) -> Result<Vec<Option<u16>>, JobFault>
-    ensures none { IfOk result (λ places. (unknown_of table.now events.now ≡ None) × (places.items ≡ places_of table.now events.now)) }
+    ensures none { IfOk result (λ places. ArePlaces table.now events.now places.items) }
     ensures refused { IfErr result (IsPlacedUnless table.now events.now) }
 {
     if let Some(fault) = unknown_of(table, events) {

@@ -1,15 +1,13 @@
 -- The project comes to its job, or to a refusal.
 use Rattle.std.proofs.Common.{◌≡◌, ℕ, List, refl, ap, ◌∙◌, subst}
 use Rattle.std.specs.Prelude.{Option, Some, IfSome, Ok, Err}
-use Rattle.sha2.specs.Sha256.{sha256}
 use Rattle.scan_source.specs.World.{World, world_of, file_at}
 use Rattle.conform_job.specs.Job.{JobData}
-use Rattle.reel_writer.specs.Reel.{frames_of}
 use Rattle.outcome_line.specs.declared.outcome.Outcome.{Outcome}
 use Rattle.outcome_line.specs.declared.outcome.Outcome.TheVariants as outcome
 use Rattle.project_job.specs.Jobs.{HasPlanned}
 use Rattle.demo_job.specs.Files.{File, project_path, demo_files}
-use Rattle.demo_run.specs.Demo.{demo_world, demo_text, reel_bytes, IsShown, IsInstead}
+use Rattle.demo_run.specs.Demo.{demo_world, reel_text, IsShown, IsInstead}
 
 module _ (events : ℕ) (told : Option World) (files : List File) (tells : told ≡ Some (world_of files)) (made : files ≡ demo_files events) where
   -- the scan tells the files of the demonstration
@@ -42,10 +40,10 @@ module _ (events : ℕ) (told : Option World) (files : List File) (tells : told 
 
     -- what is printed is of the same files, which are still told when the job was planned
     pub is_shown : (job : JobData) (text : List ℕ) (later : Option World) → IfSome told (λ world. HasPlanned (file_at world) path (Ok job)) → later ≡ told
-        → IfSome later (λ world. text ≡ demo_text (frames_of job) (frames_of job) (sha256 (reel_bytes job (file_at world)))) → IsShown (file_at (demo_world events)) text
+        → IfSome later (λ world. text ≡ reel_text job (file_at world)) → IsShown (file_at (demo_world events)) text
     is_shown job text later planned stays shown = record {
       job = job;
       comes = subst (λ (path : List ℕ). HasPlanned (file_at (demo_world events)) path (Ok job)) at (holds (λ world. HasPlanned (file_at world) path (Ok job)) planned);
-      printed = holds (λ world. text ≡ demo_text (frames_of job) (frames_of job) (sha256 (reel_bytes job (file_at world))))
-          (subst (λ (told : Option World). IfSome told (λ world. text ≡ demo_text (frames_of job) (frames_of job) (sha256 (reel_bytes job (file_at world))))) stays shown);
+      printed = holds (λ world. text ≡ reel_text job (file_at world))
+          (subst (λ (told : Option World). IfSome told (λ world. text ≡ reel_text job (file_at world))) stays shown);
     }

@@ -2,6 +2,7 @@
 --     demo_world events      the files of the job
 --     reel_bytes job files      the files of a job's frames, one after another
 --     demo_text frames acknowledged digest      what is printed
+--     reel_digest job files, reel_text job files      the digest of a reel, and what is printed of a whole one
 --     IsShown files text      the text tells of the whole reel of the project in these files
 --     IsInstead files outcome      what may come instead
 use Rattle.std.specs.Prelude.{◌≡◌, ℕ, List, [], ◌∷◌, ◌++◌, codes, decimal, flat_map, Ok, Err}
@@ -26,6 +27,10 @@ demo_world events = world_of (demo_files events)
 unfoldable pub reel_bytes : JobData → Files → List ℕ
 reel_bytes job files = flat_map (frame_file job files) (range_with_len 0 (frames_of job))
 
+-- and SHA-256 (FIPS 180-4) of these files
+abbrev pub reel_digest : JobData → Files → List ℕ
+reel_digest job files = sha256 (reel_bytes job files)
+
 -- how many frames the reel has, how many of them are acknowledged, and a digest in hexadecimal digits
 unfoldable pub demo_text : (frames acknowledged : ℕ) (digest : List ℕ) → List ℕ
 demo_text frames acknowledged digest =
@@ -33,11 +38,15 @@ demo_text frames acknowledged digest =
     ++ spaced_line (codes "acknowledged" ∷ decimal acknowledged ∷ [])
     ++ spaced_line (codes "digest" ∷ encode_lower digest ∷ [])
 
+-- what is printed of a reel whose frames are all acknowledged
+abbrev pub reel_text : JobData → Files → List ℕ
+reel_text job files = demo_text (frames_of job) (frames_of job) (reel_digest job files)
+
 -- The project comes to a job. Each of its frames is acknowledged, and the digest is SHA-256 (FIPS 180-4) of its reel.
 pub record IsShown (files : Files) (text : List ℕ) : Type 0 where
   pub job : JobData
   pub comes : ComesTo files project_path (Ok job.parts)
-  pub printed : text ≡ demo_text (frames_of job) (frames_of job) (sha256 (reel_bytes job files))
+  pub printed : text ≡ reel_text job files
 
 -- the refusal that the project comes to, or want of memory
 abbrev pub IsInstead : Files → Outcome → Type 0

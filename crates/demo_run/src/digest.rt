@@ -1,13 +1,11 @@
 //! The digest of a reel.
 ghost use Rattle.std.specs.Prelude.{◌≡◌, ◌<◌, ℕ, Some, IsSome, IfOk, OnOk};
 ghost use Rattle.conform_job.specs.Job.{file_of};
-ghost use Rattle.scan_source.specs.World.{World, file_at};
-ghost use Rattle.sha2.specs.Sha256.{sha256};
-ghost use Rattle.reel_disk.specs.Disk.{moment_of, view_of};
+ghost use Rattle.scan_source.specs.World.{World};
+ghost use Rattle.reel_disk.specs.Disk.{view_of};
 ghost use Rattle.reel_disk.specs.MemoryDisk.{history_in};
 ghost use Rattle.reel_writer.specs.Reel.{frames_of};
-ghost use Rattle.single_run.specs.Run.{IsWhole};
-ghost use Rattle.demo_run.specs.Demo.{reel_bytes};
+ghost use Rattle.demo_run.specs.Whole.{IsReelDigest, IsWholeOn};
 
 use cf_base::{Fail, FileId, Never};
 use conform_job::Job;
@@ -22,7 +20,7 @@ pub(crate) fn digest_of(
     disk: &mut MemoryDisk,
 ) -> Result<[u8; 32], Fail<Never>>
     requires there { (i : ℕ) → i < frames_of job.now → IsSome (view_of (history_in disk.old) (file_of job.now i)) }
-    ensures { (world : World) → IsWhole job.now world (moment_of (history_in disk.old)) → IfOk result (λ digest. digest ≡ sha256 (reel_bytes job.now (file_at world))) }
+    ensures { (world : World) → IsWholeOn disk.old job.now world → IfOk result (IsReelDigest job.now world) }
 {
     let mut hasher = Sha256::new();
     let mut file = Vec::new(alloc);

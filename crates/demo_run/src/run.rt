@@ -1,10 +1,10 @@
 //! A run of the job over an empty disk.
 ghost use Rattle.std.specs.Prelude.{◌≡◌, None, IfOk, OnOk, IfSome};
 ghost use Rattle.conform_job.specs.Answers.{AreInfosOf};
-ghost use Rattle.reel_disk.specs.Disk.{IsNewDisk, moment_of};
+ghost use Rattle.reel_disk.specs.Disk.{IsNewDisk};
 ghost use Rattle.reel_disk.specs.MemoryDisk.{history_in, faults_in};
 ghost use Rattle.reel_writer.specs.Reel.{frames_of};
-ghost use Rattle.single_run.specs.Run.{IsWhole};
+ghost use Rattle.demo_run.specs.Whole.{IsWholeOn};
 
 use crate::scans::UnfailingScans;
 use cf_base::{Fail, Never};
@@ -28,7 +28,7 @@ pub(crate) fn run(
     requires infos { AreInfosOf job.now.parts (⟦<UnfailingScans as Scans>⟧.world scan.old) job.now.infos }
     requires empty { IsNewDisk (λ id. None) (history_in disk.old) (faults_in disk.old) }
     ensures acknowledged { IfOk result (λ acknowledged. acknowledged ≡ frames_of job.now) }
-    ensures whole { OnOk result (IfSome (⟦<UnfailingScans as Scans>⟧.world scan.old) (λ world. IsWhole job.now world (moment_of (history_in disk.new)))) }
+    ensures whole { OnOk result (IfSome (⟦<UnfailingScans as Scans>⟧.world scan.old) (IsWholeOn disk.new job.now)) }
 {
     let (end, report, _) = run_alone::<Brand, UnfailingScans, MemoryDisk>(
         alloc, job, scan, disk, SHARE,

@@ -1,10 +1,9 @@
 //! What the demonstration shows.
 ghost use Rattle.std.specs.Prelude.{◌≡◌, ◌≤◌, IfOk, IfSome, MatchResult};
 ghost use Rattle.conform_job.specs.Answers.{AreInfosOf};
-ghost use Rattle.reel_writer.specs.Reel.{frames_of};
 ghost use Rattle.scan_source.specs.World.{file_at};
-ghost use Rattle.sha2.specs.Sha256.{sha256};
-ghost use Rattle.demo_run.specs.Demo.{demo_world, demo_text, reel_bytes, IsShown, IsInstead};
+ghost use Rattle.demo_run.specs.Demo.{demo_world, demo_text, IsShown, IsInstead};
+ghost use Rattle.demo_run.specs.Whole.{IsReelText};
 
 use crate::digest::digest_of;
 use crate::run::run;
@@ -54,7 +53,7 @@ pub fn demo(alloc: Global, events: u32) -> Result<Vec<u8>, Outcome>
 /// What is printed of a job that is run over an empty disk.
 fn shown(alloc: Global, job: &Job, scan: &mut UnfailingScans) -> Result<Vec<u8>, Fail<Never>>
     requires infos { AreInfosOf job.now.parts (⟦<UnfailingScans as Scans>⟧.world scan.old) job.now.infos }
-    ensures { IfSome (⟦<UnfailingScans as Scans>⟧.world scan.old) (λ world. IfOk result (λ text. text.items ≡ demo_text (frames_of job.now) (frames_of job.now) (sha256 (reel_bytes job.now (file_at world))))) }
+    ensures { IfSome (⟦<UnfailingScans as Scans>⟧.world scan.old) (λ world. IfOk result (IsReelText job.now world)) }
 {
     let mut disk = MemoryDisk::new(alloc)?;
     let acknowledged = run(alloc, job, scan, &mut disk)?;

@@ -1,5 +1,5 @@
 -- What a load of a file comes to.
-use Rattle.std.specs.Prelude.{◌≡◌, ℕ, List, length, take, Option, None, IsSomeAnd}
+use Rattle.std.specs.Prelude.{◌≡◌, ℕ, List, length, take, Option, None, IsSomeAnd, Result, MatchResult}
 use Rattle.project_job.specs.declared.loads.Front.{Front}
 use Rattle.outcome_line.specs.declared.outcome.Outcome.{Outcome}
 use Rattle.outcome_line.specs.declared.outcome.Outcome.TheVariants.{Refused as IsRefused, SourceFault, NoMemory}
@@ -16,6 +16,10 @@ IsMissing absent file (IsRefused (NoFile which)) = (which ≡ absent) × (file �
 IsMissing absent file SourceFault = Unit {0}
 IsMissing absent file NoMemory = Unit {0}
 IsMissing absent file other = ⊥
+
+-- the one or the other
+abbrev pub IsLoadOf : Which → ℕ → Option (List ℕ) → Result Front Outcome → Type 0
+IsLoadOf absent most file answer = MatchResult answer (IsFront file most) (IsMissing absent file)
 
 -- the same where the scan tells nothing
 abbrev pub IsOfLoad : Which → Outcome → Type 0

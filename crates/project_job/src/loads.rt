@@ -1,9 +1,9 @@
 //! Loads of files.
-ghost use Rattle.std.specs.Prelude.{◌≡◌, ◌≢◌, ◌≤◌, min, length, Err, IfSome, IfOk, IfErr, MatchResult};
+ghost use Rattle.std.specs.Prelude.{◌≡◌, ◌≢◌, ◌≤◌, min, length, Err, IfSome, IfOk, IfErr};
 ghost use Rattle.cf_base.specs.Count.{HasRisen};
 ghost use Rattle.scan_source.specs.Plan.{one_more};
 ghost use Rattle.scan_source.specs.World.{file_at};
-ghost use Rattle.project_job.specs.Load.{IsFront, IsMissing, IsOfLoad};
+ghost use Rattle.project_job.specs.Load.{IsLoadOf, IsOfLoad};
 
 use cf_base::PathText;
 use outcome_line::{Outcome, Refused, Which};
@@ -27,7 +27,7 @@ pub fn load<S: Scans>(
     absent: Which,
     scan: &mut S,
 ) -> Result<Front, Outcome>
-    ensures told { IfSome (S.world scan.old) (λ world. MatchResult result (IsFront (file_at world path.now) most) (IsMissing absent (file_at world path.now))) }
+    ensures told { IfSome (S.world scan.old) (λ world. IsLoadOf absent most (file_at world path.now) result) }
     ensures fills { IfOk result (λ front. length front.bytes.items ≡ min front.len most) }
     ensures kind { IfErr result (IsOfLoad absent) }
 
