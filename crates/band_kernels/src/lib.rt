@@ -9,6 +9,6 @@ mod plain;
 mod wipe;
 
 pub use blend::blend_band;
-pub use look::look_band;
+pub use look::{look_band, seen_band};
 pub use plain::{copy_band, fill_band};
 pub use wipe::wipe_band;

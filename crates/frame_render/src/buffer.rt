@@ -27,8 +27,7 @@ impl FrameBuf {
     pub fn new(alloc: Global, job: &Job) -> Result<FrameBuf, Fail<Never>>
         ensures room { IfOk result (λ buf. length buf ≡ frame_size job.now) }
     {
-        // What holds of every job, with the bounds of its size, is said of its count.
-        let _ = job.count();
+        job.recall();
         match vec![in alloc; 0; 2048 + 4 * (job.width() as usize * job.height() as usize)] {
             Ok(bytes) => Ok(FrameBuf { bytes }),
             Err(_) => Err(Fail::NoMemory),
@@ -55,8 +54,7 @@ impl WordBuf {
     pub fn new(alloc: Global, job: &Job) -> Result<WordBuf, Fail<Never>>
         ensures room { IfOk result (λ buf. length buf ≡ pixel_count job.now) }
     {
-        // As in `FrameBuf::new`.
-        let _ = job.count();
+        job.recall();
         match vec![in alloc; 0; job.width() as usize * job.height() as usize] {
             Ok(words) => Ok(WordBuf { words }),
             Err(_) => Err(Fail::NoMemory),

@@ -34,8 +34,7 @@ pub fn render<N: Work>(
     requires room { length buf ≡ frame_size N.job }
     ensures index { result.index ≡ i }
 {
-    // The job says of its needs that each side that is a source frame has one.
-    let _ = job.need(i);
+    job.recall();
     let FrameBuf { mut bytes } = buf;
     render_file(job, i, words_of(old), words_of(new), &mut bytes);
     Rendered {
@@ -65,8 +64,7 @@ pub fn render_forked<N: Work, R: Threads + Sync>(
     requires room { length buf ≡ frame_size N.job }
     ensures index { result.index ≡ i }
 {
-    // As in `render`.
-    let _ = job.need(i);
+    job.recall();
     let FrameBuf { mut bytes } = buf;
     render_file_forked(
         rt,
@@ -153,8 +151,7 @@ fn out_head(job: &Job, i: u32) -> OutHead
     ensures valid { IsOutHead result }
     ensures planned { ArePlanned job.now.parts }
 {
-    // The job says with its count what holds of every job.
-    let _ = job.count();
+    job.recall();
     let number = job.timeline().first().0 + i;
     let reel = job.reel_of(i);
     let span = job.reel_span(reel);

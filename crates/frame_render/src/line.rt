@@ -9,7 +9,7 @@ ghost use Rattle.conform_job.specs.Job.{ArePlanned};
 ghost use Rattle.frame_render.specs.Frame.{HasWords, black_of, line_of, line_words, seen_word, side_colour, transition_colour};
 ghost use Rattle.frame_render.specs.Lines.{HasColours};
 
-use band_kernels::{blend_band, copy_band, fill_band, look_band, wipe_band};
+use band_kernels::{blend_band, copy_band, fill_band, look_band, seen_band, wipe_band};
 use cf_base::{Rgb, Transition};
 use conform_job::Job;
 use dpx_pack::word_of;
@@ -80,10 +80,7 @@ fn fill_side(job: &Job, words: Option<&[u32]>, y: u32, out: &mut [u32])
 {
     match words {
         None => fill_black(job, out),
-        Some(words) => {
-            copy_band(line_at(job, words, y), out);
-            look_band(job.look(), out);
-        }
+        Some(words) => seen_band(job.look(), line_at(job, words, y), out),
     }
 }
 

@@ -5,6 +5,7 @@ pub mod Mapped
 pub mod OrderLemmas
 pub mod Pushed
 pub mod Sets
+pub mod Shaded
 pub mod SpotLemmas
 pub mod StepLemmas
 pub mod WayLemmas

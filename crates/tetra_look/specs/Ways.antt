@@ -3,11 +3,12 @@
 --     IsStart l colour start      where the colour's way starts, and its part on each channel
 --     IsWay green blue r g b way      the way of these parts, where the entries of neighbours are so far apart
 --     way_entries green blue place way      the four entries on a way from a place
+--     way_colour l place way      the codes of the colour on it
 use Rattle.std.specs.Prelude.{◌≡◌, ℕ, ◌+◌, ◌≤◌, List, [], ◌∷◌, map, take, slice_index}
 use Rattle.tetra_look.specs.declared.spot.Spot.{Spot}
 use Rattle.tetra_look.specs.declared.way.Way.{Way}
 use Rattle.tetra_look.specs.declared.grid.Start.{Start}
-use Rattle.tetra_look.specs.Look.{Lattice, path}
+use Rattle.tetra_look.specs.Look.{Lattice, channels, path, way_code}
 use Rattle.tetra_look.specs.Grid.{IsSpotOn, green_step, blue_step, steps_along}
 
 pub record IsStart (l : Lattice) (colour : List ℕ) (start : Start) : Type 0 where
@@ -36,3 +37,7 @@ way_entries green blue place way = place ∷ (place + way.first) ∷ (place + wa
 
 abbrev pub way_parts : Way → List ℕ
 way_parts way = way.most ∷ way.middle ∷ way.least ∷ []
+
+-- the codes of the colour on a way from a place
+abbrev pub way_colour : Lattice → (place : ℕ) → Way → List ℕ
+way_colour l place way = map (way_code l (way_entries (green_step l) (blue_step l) place way) (way_parts way)) channels

@@ -1,10 +1,10 @@
 //! A table of lattice values, with where each code lies in it.
-ghost use Rattle.std.specs.Prelude.{◌≡◌, ℕ, ◌+◌, ◌-◌, ◌*◌, ◌≤◌, ◌<◌, true, false, map, length, slice_index, IfOk, ◌≤ℤ◌, pos};
+ghost use Rattle.std.specs.Prelude.{◌≡◌, ◌+◌, ◌-◌, ◌*◌, ◌≤◌, ◌<◌, true, false, map, length, slice_index, IfOk};
 ghost use Rattle.cf_base.specs.Rgb.{codes_of};
-ghost use Rattle.cube_reader.specs.Table.{units};
-ghost use Rattle.tetra_look.specs.Look.{IsLattice, channels, look_code, line_code, cube_code, value_at, way_code, code_of_sum, lattice_value, lattice_of};
-ghost use Rattle.tetra_look.specs.Grid.{IsSpotOn, AreSpotsOn, green_step, blue_step};
-ghost use Rattle.tetra_look.specs.Ways.{IsStart, way_entries, way_parts};
+ghost use Rattle.cube_reader.specs.Entry.{AreClamped};
+ghost use Rattle.tetra_look.specs.Look.{IsLattice, channels, look_code, line_code, cube_code, value_at, way_code, lattice_value, lattice_of};
+ghost use Rattle.tetra_look.specs.Grid.{IsSpotOn, AreSpotsOn, green_step, blue_step, code_behind};
+ghost use Rattle.tetra_look.specs.Ways.{IsStart, way_colour};
 
 mod sixteen;
 
@@ -42,11 +42,11 @@ impl Model for Grid {
 
     ghost Value = { Lattice };
 
-    ghost view = { λ a. record { is_3d = a.is_3d; size = a.size; low = a.low; high = a.high; entries = a.entries.items } };
+    ghost use Rattle.tetra_look.specs.Inside.{lattice_in, IsOfLattice};
 
-    ghost use Rattle.tetra_look.specs.Grid.{IsGrid};
+    ghost view = { lattice_in };
 
-    ghost invariant = { λ a. IsGrid (record { is_3d = a.is_3d; size = a.size; low = a.low; high = a.high; entries = a.entries.items }) a.green_step a.blue_step a.reds.items a.greens.items a.blues.items };
+    ghost invariant = { IsOfLattice };
 }
 
 /// Where the way of a colour starts in a table of three dimensions, and its parts by channel, of 65536.
@@ -122,7 +122,7 @@ impl Grid {
         requires small { spot.place ≤ 65536 }
         requires part { spot.part ≤ 65536 }
         requires channel { channel < 3 }
-        ensures code { result ≡ code_of_sum (value_at self.now spot.place channel * (65536 - spot.part) + value_at self.now (spot.place + 1) channel * spot.part) }
+        ensures code { result ≡ code_behind self.now spot.place spot.part channel }
         ensures most { result ≤ 1023 }
     {
         let before = self.value(spot.place, channel);
@@ -165,9 +165,7 @@ impl Grid {
         requires small { way.most ≤ 65536 }
         requires falls { way.middle ≤ way.most }
         requires falls_on { way.least ≤ way.middle }
-        ensures { codes_of result
-            ≡ map (way_code self.now
-            (way_entries (green_step self.now) (blue_step self.now) place way) (way_parts way)) channels }
+        ensures { codes_of result ≡ way_colour self.now place way }
     {
         let entries = [
             place,
@@ -292,7 +290,7 @@ fn lattice_entries(alloc: Global, cube: &Cube) -> Result<Vec<[u16; 3]>, AllocErr
 
 /// The lattice values of an entry.
 fn lattice_entry(entry: &[Fixed; 3]) -> [u16; 3]
-    requires { (channel : ℕ) → channel < 3 → (pos 0 ≤ℤ units entry.now channel) × (units entry.now channel ≤ℤ pos 1000000000) }
+    requires { AreClamped entry.now }
     ensures { result ≡ map lattice_value entry.now }
 {
     [

@@ -11,7 +11,8 @@ invariant_of-result g c =
     let room : length c.buf.inside.bytes.items ≡ c.buf.inside.bytes.len = search rules in
     let kept : length c.render_file_forked.new.out ≡ c.buf.inside.bytes.len = search rules in
     let same = refilled c.buf.inside.bytes.len c.render_file_forked.new.out c.buf.inside.bytes.items room kept in
-    let met = rw (c.need.ensures.need, c.requires.job) at c.need.ensures.met in
+    let needs = rw c.requires.job at c.recall.ensures.needs in
+    let met = needs c.args.i c.requires.index in
     let bytes = rw c.requires.job at c.render_file_forked.ensures in
     let size : length c.render_file_forked.new.out ≡ frame_size g.N.Work.job = search rules in (
       c.requires.index,
