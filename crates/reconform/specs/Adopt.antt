@@ -137,3 +137,9 @@ abbrev pub AsOpened : {D : Type 0} → JobData → JobData → (old_tells tells 
     → Result Adopted AdoptFault → Type 0
 AsOpened new old old_tells tells view files opened after (Ok done) = HasServed new old old_tells tells view files opened after done
 AsOpened new old old_tells tells view files opened after (Err fault) = IsStop fault
+
+-- the same of what an adoption answers: its result and the disk
+abbrev pub AsOpenedFor : {E : Type 0} → JobData → JobData → Bool → ViewState → History → Bool → (E → History) → ReelView E
+    → Result Adopted AdoptFault × E → Type 0
+AsOpenedFor new old old_tells view held tells history opened answer =
+    AsOpened new old old_tells tells view (view_of held) opened (view_of (history answer.1)) answer.0

@@ -8,7 +8,7 @@ ghost use Rattle.resume_ledger.specs.Sound.{WritesOnly};
 ghost use Rattle.reel_writer.specs.Changes.{IsOwnFile, IsRunFile, MayWrite};
 ghost use Rattle.reel_writer.specs.Reel.{frames_of, HasFrameFiles, IsReelRun, IsSoundReel, KeepsReel};
 ghost use Rattle.scan_source.specs.World.{World};
-ghost use Rattle.reconform.specs.Adopt.{AsOpened, CanServe, HasAnswered, IsCaused, IsOfOld, by_new, by_old};
+ghost use Rattle.reconform.specs.Adopt.{AsOpenedFor, CanServe, HasAnswered, IsCaused, IsOfOld, by_new, by_old};
 
 use crate::frames::adopt_alike;
 use conform_job::{Job, Work};
@@ -88,7 +88,8 @@ pub fn adopt<N: Work, O: Work, D: Disk>(
     // What the old folder holds stays as it is, at every moment and whatever the answer is.
     ensures still { D.tells ≡ true → IsStill (D.history old.old) (D.history old.new) }
 
-    ensures same_old { D.same old.old old.new }
+    ensures same_old { D.loans old.new ≡ D.loans old.old }
+    ensures same_disk { D.loans disk.new ≡ D.loans disk.old }
     ensures cause { IsCaused (D.faults old.old) (D.faults old.new) (D.faults disk.old) (D.faults disk.new)
         (IsErrOf result AdoptFault.DiskFault) }
     ensures steady_old { result ≢ Err AdoptFault.DiskFault → D.faults old.new ≡ D.faults old.old }
@@ -122,15 +123,14 @@ fn adopt_into<N: Work, O: Work, D: Disk, E: Disk>(
     ensures writes { E.tells ≡ true
         → WritesOnly (E.history disk) (E.history result.1) (MayWrite N.job (view_of (E.history disk))) }
     ensures still { D.tells ≡ true → IsStill (D.history old.old) (D.history old.new) }
-    ensures same_old { D.same old.old old.new }
-    ensures same_disk { E.same disk result.1 }
+    ensures same_old { D.loans old.new ≡ D.loans old.old }
+    ensures same_disk { E.loans result.1 ≡ E.loans disk }
     ensures cause { IsCaused (D.faults old.old) (D.faults old.new) (E.faults disk) (E.faults result.1)
         (IsErrOf result.0 AdoptFault.DiskFault) }
     ensures steady_old { result.0 ≢ Err AdoptFault.DiskFault → D.faults old.new ≡ D.faults old.old }
     ensures steady { result.0 ≢ Err AdoptFault.DiskFault → E.faults result.1 ≡ E.faults disk }
 {
-    // How long a title may be is said of its bytes.
-    let _ = new_job.project().title.bytes();
+    new_job.recall();
     match Ledger::look(alloc, old, old_job.digest(), old_job.timeline().count()) {
         Ok(view) => adopt_owned::<N, O, D, E>(alloc, new_job, old_job, old, &view, disk),
         Err(fault) => (Err(of_old(fault)), disk),
@@ -164,8 +164,8 @@ fn adopt_owned<N: Work, O: Work, D: Disk, E: Disk>(
     ensures writes { E.tells ≡ true
         → WritesOnly (E.history disk) (E.history result.1) (MayWrite N.job (view_of (E.history disk))) }
     ensures still { D.tells ≡ true → IsStill (D.history old.old) (D.history old.new) }
-    ensures same_old { D.same old.old old.new }
-    ensures same_disk { E.same disk result.1 }
+    ensures same_old { D.loans old.new ≡ D.loans old.old }
+    ensures same_disk { E.loans result.1 ≡ E.loans disk }
     ensures cause { IsCaused (D.faults old.old) (D.faults old.new) (E.faults disk) (E.faults result.1)
         (IsErrOf result.0 AdoptFault.DiskFault) }
     ensures steady_old { result.0 ≢ Err AdoptFault.DiskFault → D.faults old.new ≡ D.faults old.old }
@@ -217,14 +217,14 @@ fn adopt_opened<N: Work, O: Work, D: Disk, E: Disk>(
     requires flags { length view.now.gates ≡ frames_of O.job }
     requires is_open { reel.ledger.closed ≡ false }
     requires size { length reel.ledger.gates ≡ frames_of N.job }
-    ensures answer { AsOpened N.job O.job D.tells E.tells view.now (view_of (D.history old.old)) reel (view_of (E.history result.1)) result.0 }
+    ensures answer { AsOpenedFor N.job O.job D.tells view.now (D.history old.old) E.tells E.history reel result }
     ensures run { E.tells ≡ true → IsReelRun N.job N.files (E.history reel.disk) (E.history result.1) }
     ensures none_lost { E.tells ≡ true → KeepsReel N.job (E.history reel.disk) (E.history result.1) }
     ensures sealed { IfOk result.0 (λ done. E.tells ≡ true → IsInForce Version.Two (view_of (E.history result.1))) }
     ensures spares { E.tells ≡ true → Spares (E.history reel.disk) (E.history result.1) (IsRunFile N.job reel.ledger.gates) }
     ensures still { D.tells ≡ true → IsStill (D.history old.old) (D.history old.new) }
-    ensures same_old { D.same old.old old.new }
-    ensures same_disk { E.same reel.disk result.1 }
+    ensures same_old { D.loans old.new ≡ D.loans old.old }
+    ensures same_disk { E.loans result.1 ≡ E.loans reel.disk }
     ensures cause { IsCaused (D.faults old.old) (D.faults old.new) (E.faults reel.disk) (E.faults result.1)
         (IsErrOf result.0 AdoptFault.DiskFault) }
     ensures steady_old { result.0 ≢ Err AdoptFault.DiskFault → D.faults old.new ≡ D.faults old.old }

@@ -51,7 +51,7 @@ fn read_donor<N: Work, O: Work, D: Disk>(
         drop 2048 file.new ≡ drop 2048 (frame_file N.job (file_at world) i))) }
     ensures file { length file.new ≡ frame_size O.job }
     ensures still { D.tells ≡ true → IsStill (D.history old.old) (D.history old.new) }
-    ensures same { D.same old.old old.new }
+    ensures same { D.loans old.new ≡ D.loans old.old }
     ensures cause { HasCause (D.faults old.old) (D.faults old.new) (IsErr result) }
     ensures steady { OnOk result (D.faults old.new ≡ D.faults old.old) }
 {
@@ -96,7 +96,7 @@ fn finish_frame<N: Work, E: Disk>(
     ensures spares { E.tells ≡ true
         → Spares (E.history reel.old.disk) (E.history reel.new.disk)
         (IsRunFile N.job reel.old.ledger.gates) }
-    ensures same { E.same reel.old.disk reel.new.disk }
+    ensures same { E.loans reel.new.disk ≡ E.loans reel.old.disk }
     ensures cause { HasCause (E.faults reel.old.disk) (E.faults reel.new.disk) (IsErr result) }
     ensures steady { OnOk result (E.faults reel.new.disk ≡ E.faults reel.old.disk) }
 {
@@ -147,8 +147,8 @@ fn adopt_frame<N: Work, O: Work, D: Disk, E: Disk>(
         → Spares (E.history reel.old.disk) (E.history reel.new.disk)
         (IsRunFile N.job reel.old.ledger.gates) }
     ensures still { D.tells ≡ true → IsStill (D.history old.old) (D.history old.new) }
-    ensures same_old { D.same old.old old.new }
-    ensures same_disk { E.same reel.old.disk reel.new.disk }
+    ensures same_old { D.loans old.new ≡ D.loans old.old }
+    ensures same_disk { E.loans reel.new.disk ≡ E.loans reel.old.disk }
     ensures cause { IsCaused (D.faults old.old) (D.faults old.new) (E.faults reel.old.disk) (E.faults reel.new.disk) (IsErr result) }
     ensures steady_old { OnOk result (D.faults old.new ≡ D.faults old.old) }
     ensures steady { OnOk result (E.faults reel.new.disk ≡ E.faults reel.old.disk) }
@@ -200,8 +200,8 @@ fn adopt_frames<N: Work, O: Work, D: Disk, E: Disk>(
         → Spares (E.history reel.old.disk) (E.history reel.new.disk)
         (IsRunFile N.job reel.old.ledger.gates) }
     ensures still { D.tells ≡ true → IsStill (D.history old.old) (D.history old.new) }
-    ensures same_old { D.same old.old old.new }
-    ensures same_disk { E.same reel.old.disk reel.new.disk }
+    ensures same_old { D.loans old.new ≡ D.loans old.old }
+    ensures same_disk { E.loans reel.new.disk ≡ E.loans reel.old.disk }
     ensures cause { IsCaused (D.faults old.old) (D.faults old.new) (E.faults reel.old.disk) (E.faults reel.new.disk)
         (IsErrOf result AdoptFault.DiskFault) }
     ensures steady_old { result ≢ Err AdoptFault.DiskFault → D.faults old.new ≡ D.faults old.old }
@@ -239,8 +239,7 @@ fn room_for(alloc: Global, new_job: &Job, old_job: &Job) -> Result<(FrameBuf, Ve
 fn frame_len(job: &Job) -> usize
     ensures { result ≡ frame_size job.now }
 {
-    // The bounds of the size are among what holds of every job, which is said of its count.
-    let _ = job.count();
+    job.recall();
     2048 + 4 * (job.width() as usize * job.height() as usize)
 }
 
@@ -274,8 +273,8 @@ pub(crate) fn adopt_alike<N: Work, O: Work, D: Disk, E: Disk>(
         → Spares (E.history reel.old.disk) (E.history reel.new.disk)
         (IsRunFile N.job reel.old.ledger.gates) }
     ensures still { D.tells ≡ true → IsStill (D.history old.old) (D.history old.new) }
-    ensures same_old { D.same old.old old.new }
-    ensures same_disk { E.same reel.old.disk reel.new.disk }
+    ensures same_old { D.loans old.new ≡ D.loans old.old }
+    ensures same_disk { E.loans reel.new.disk ≡ E.loans reel.old.disk }
     ensures cause { IsCaused (D.faults old.old) (D.faults old.new) (E.faults reel.old.disk) (E.faults reel.new.disk)
         (IsErrOf result AdoptFault.DiskFault) }
     ensures steady_old { result ≢ Err AdoptFault.DiskFault → D.faults old.new ≡ D.faults old.old }

@@ -32,7 +32,7 @@ pub(crate) fn read_intact<D: Disk>(
         → view_of (D.history disk.old) (file_of job.now j) ≡ Some into.new) }
     ensures room { length into.new ≡ frame_size job.now }
     ensures still { D.tells ≡ true → IsStill (D.history disk.old) (D.history disk.new) }
-    ensures same { D.same disk.old disk.new }
+    ensures same { D.loans disk.new ≡ D.loans disk.old }
     ensures cause { HasCause (D.faults disk.old) (D.faults disk.new) (IsErr result) }
     ensures steady { OnOk result (D.faults disk.new ≡ D.faults disk.old) }
 {
@@ -51,7 +51,7 @@ fn read_whole<D: Disk>(disk: &mut D, id: FileId, into: &mut [u8]) -> Result<bool
         → view_of (D.history disk.old) id ≡ Some into.new) }
     ensures room { length into.new ≡ length into.old }
     ensures still { D.tells ≡ true → IsStill (D.history disk.old) (D.history disk.new) }
-    ensures same { D.same disk.old disk.new }
+    ensures same { D.loans disk.new ≡ D.loans disk.old }
     ensures cause { HasCause (D.faults disk.old) (D.faults disk.new) (IsErr result) }
     ensures steady { OnOk result (D.faults disk.new ≡ D.faults disk.old) }
 {

@@ -110,9 +110,8 @@ pub fn are_alike(a: &Job, b: &Job) -> bool
     ensures alike { (result ≡ true) ↔ AreAlike a.now b.now }
     ensures titles { HasTitle a.now × HasTitle b.now }
 {
-    // How long a title may be is said of its bytes.
-    let _ = a.project().title.bytes();
-    let _ = b.project().title.bytes();
+    a.recall();
+    b.recall();
     same_size(a, b) && same_colours(a, b)
 }
 
@@ -156,8 +155,7 @@ pub fn plan_at(job: &Job, i: u32) -> FramePlan
     requires { i < frames_of job.now }
     ensures { result ≡ plan_at job.now i }
 {
-    // What holds of every job is said of its count.
-    let _ = job.count();
+    job.recall();
     let need = job.need(i);
     match job.shot(i) {
         Shot::Gap => FramePlan::Solid,

@@ -94,6 +94,10 @@ pub record IsLeftLoose (old new : History) (place : Place) : Type 0 where
   pub same : SameBut (file_of place) (view_of old) (view_of new)
   pub outside : IsImage (record { view = view_of old; loose = place ∷ [] }) (view_of new)
 
+-- a write that failed: nothing came of it, or its place is loose
+abbrev pub HasFailedAt : History → History → Place → Type 0
+HasFailedAt old new place = IsStill old new ⊎ IsLeftLoose old new place
+
 -- a write that was done
 pub record IsWritten (old new : History) (place : Place) (content : Option (List ℕ)) : Type 0 where
   pub passes : Passes old new (loosened (moment_of old) place)
@@ -116,11 +120,11 @@ with_range (Some old) start bytes = Some (overwritten old start bytes)
 
 abbrev pub HasWrittenWhole : History → History → FileId → List ℕ → d.Did → Type 0
 HasWrittenWhole old new id bytes d.TheVariants.Done = IsWritten old new (Whole id) (Some bytes)
-HasWrittenWhole old new id bytes d.TheVariants.Failed = IsStill old new ⊎ IsLeftLoose old new (Whole id)
+HasWrittenWhole old new id bytes d.TheVariants.Failed = HasFailedAt old new (Whole id)
 
 abbrev pub HasWrittenAt : History → History → FileId → ℕ → List ℕ → d.Did → Type 0
 HasWrittenAt old new id start bytes d.TheVariants.Done = IsWritten old new (Range id start (length bytes)) (with_range (view_of old id) start bytes)
-HasWrittenAt old new id start bytes d.TheVariants.Failed = IsStill old new ⊎ IsLeftLoose old new (Range id start (length bytes))
+HasWrittenAt old new id start bytes d.TheVariants.Failed = HasFailedAt old new (Range id start (length bytes))
 
 -- the places but those of one file
 pub record IsSettled (id : FileId) (old new : List Place) : Type 0 where

@@ -1,5 +1,6 @@
 pub mod Crash
 pub mod Disk
+pub mod Loan
 pub mod Memory
 pub mod MemoryDisk
 pub mod Names

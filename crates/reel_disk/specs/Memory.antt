@@ -1,5 +1,5 @@
 -- What a disk in memory holds, and held: its files now, and what it takes to go back from each step.
-use Rattle.std.specs.Prelude.{ℕ, zero, suc, ◌-◌, Bool, false, ◌&&◌, nat_le, nat_lt, List, [], ◌∷◌, length, drop, slice_get, Option, Some, None, Vec}
+use Rattle.std.specs.Prelude.{◌≡◌, ◌⊎◌, ℕ, zero, suc, ◌-◌, ◌<◌, Bool, false, ◌&&◌, nat_le, nat_lt, List, [], ◌∷◌, length, drop, slice_get, Option, Some, None, Vec, vec_len, vec_capacity}
 use Rattle.std.specs.declared.alloc.Global.{Global}
 use Rattle.std.specs.BTreeMap.{BTreeMap, get, is_at}
 use Rattle.std.specs.Map.{lookup}
@@ -12,7 +12,7 @@ use Rattle.reel_disk.specs.declared.disk.Place.TheVariants.{Whole, Range}
 use Rattle.reel_disk.specs.declared.store.Step.{Step}
 use Rattle.reel_disk.specs.declared.store.Step.TheVariants.{Wrote, Patched, Synced}
 use Rattle.reel_disk.specs.declared.store.Store.{Store}
-use Rattle.reel_disk.specs.Disk.{Files, Moment, History, file_of, with_file}
+use Rattle.reel_disk.specs.Disk.{Files, Moment, History, file_of, view_of, with_file, with_range}
 
 abbrev pub file_of_place : Place → FileId
 file_of_place = file_of
@@ -44,6 +44,10 @@ abbrev pub put_back : Option (List ℕ) → ℕ → List ℕ → Option (List �
 put_back None start others = None
 put_back (Some bytes) start others = Some (laid_over bytes start others)
 
+-- these bytes, put back at the range that was written over, give the file as it was
+abbrev pub GivesBack : Option (List ℕ) → ℕ → (bytes before : List ℕ) → Type 0
+GivesBack content start bytes before = put_back (with_range content start bytes) start before ≡ content
+
 -- the loose places before a step
 abbrev pub loose_before : Step → List Place → List Place
 loose_before (Synced before) places = before.items
@@ -69,6 +73,21 @@ history_from files loose steps = record { now = length steps; past = λ m. undo_
 
 abbrev pub history_of : Store → History
 history_of s = history_from (find_file s.files) s.loose.items s.steps.items
+
+-- the store holds the same, and has room for one more loose place and one more step
+abbrev pub IsSameStore : Store → Store → Type 0
+IsSameStore old new = (new.files ≡ old.files) × (new.loose.items ≡ old.loose.items) × (new.steps.items ≡ old.steps.items)
+
+abbrev pub HasRoom : Store → Type 0
+HasRoom s = (vec_len s.loose < vec_capacity s.loose) × (vec_len s.steps < vec_capacity s.steps)
+
+-- what a read answers of a file
+abbrev pub stored : Store → FileId → Option (List ℕ)
+stored s id = view_of (history_of s) id
+
+-- a file is what is left of it, and stays where nothing is left
+abbrev pub IsLeft : (left old new : Option (List ℕ)) → Type 0
+IsLeft left old new = (new ≡ left) ⊎ ((left ≡ None) × (new ≡ old))
 
 -- the place is the whole of this file
 abbrev pub is_whole_of : FileId → Place → Bool

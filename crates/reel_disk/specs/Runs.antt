@@ -2,7 +2,7 @@
 use Rattle.std.specs.Prelude.{◌≡◌, ℕ, ◌≤◌}
 use Rattle.cf_base.specs.declared.file.FileId.{FileId}
 use Rattle.reel_disk.specs.declared.disk.Place.{Place}
-use Rattle.reel_disk.specs.Disk.{Files, Moment, IsImage, History, moment_of, view_of, loose_of, loosened, file_of, IsLoose}
+use Rattle.reel_disk.specs.Disk.{Files, Moment, IsImage, IsFirm, History, moment_of, view_of, loose_of, loosened, file_of, IsLoose}
 
 -- Time went on: none of the past changed.
 pub record Extends (old new : History) : Type 0 where
@@ -24,6 +24,10 @@ NeverForgets old new P = (m later : ℕ) → old.now ≤ m → m ≤ later → l
 -- what a crash may leave at one moment, it may leave at the other
 abbrev pub IsWithin : Moment → Moment → Type 0
 IsWithin a b = (files : Files) → IsImage a files → IsImage b files
+
+-- what was firm is firm
+abbrev pub StaysFirm : History → History → Type 0
+StaysFirm old new = (q : FileId) → IsFirm (loose_of old) q → IsFirm (loose_of new) q
 
 -- Nothing became possible: each moment's images are among those of each earlier moment since the old one.
 pub record Narrows (old new : History) : Type 0 where

@@ -1,8 +1,8 @@
 //! What a crash leaves of a disk in memory.
-ghost use Rattle.std.specs.Prelude.{◌≡◌, ◌⊎◌, ℕ, ◌-◌, List, Option, Some, None, IfOk, OnOk};
+ghost use Rattle.std.specs.Prelude.{◌≡◌, ℕ, ◌-◌, List, Option, Some, None, IfOk, OnOk};
 ghost use Rattle.reel_disk.specs.Disk.{Files, SameBut, IsLooseAt, view_of};
-ghost use Rattle.reel_disk.specs.Crash.{IsLastFirm, IsEach, IsEarlier, IsTurned, IsPicked, IsCrash};
-ghost use Rattle.reel_disk.specs.Memory.{history_of, history_from, find_file, content_of, put_back, loose_before, view_before, is_whole_of, has_byte, is_whole_loose, is_byte_loose, byte_of};
+ghost use Rattle.reel_disk.specs.Crash.{IsEach, IsEarlier, IsTurned, IsPicked, IsCrash, WasFirm};
+ghost use Rattle.reel_disk.specs.Memory.{IsLeft, history_of, history_from, find_file, content_of, put_back, loose_before, view_before, is_whole_of, has_byte, is_whole_loose, is_byte_loose, byte_of};
 
 use crate::Place;
 use crate::store::{Step, Store, bytes_of, put};
@@ -118,7 +118,7 @@ fn byte_before(
     k: usize,
     byte: Option<u8>,
 ) -> Option<u8>
-    ensures { (files : Files) → byte ≡ byte_of (files id) k → (m : ℕ) × IsLastFirm (history_from files loose.now steps.now) id k m × (result ≡ byte_of (((history_from files loose.now steps.now).past m).view id) k) }
+    ensures { (files : Files) → byte ≡ byte_of (files id) k → WasFirm (history_from files loose.now steps.now) id k result }
 {
     let mut i = steps.len();
     let mut places = loose;
@@ -235,7 +235,7 @@ fn put_left(
     left: Option<Vec<u8>>,
 ) -> Result<(), AllocError>
     ensures same { OnOk result (SameBut id (find_file files.old) (find_file files.new)) }
-    ensures there { OnOk result ((find_file files.new id ≡ content_of left) ⊎ ((content_of left ≡ None) × (find_file files.new id ≡ find_file files.old id))) }
+    ensures there { OnOk result (IsLeft (content_of left) (find_file files.old id) (find_file files.new id)) }
 {
     match left {
         Some(bytes) => match put(files, id, bytes) {

@@ -1,7 +1,8 @@
 //! A disk as the layers above see it: what a read answers, what a crash may still change, and each moment so far.
-ghost use Rattle.std.specs.Prelude.{◌≡◌, ◌≢◌, ℕ, ◌+◌, ◌≤◌, Bool, true, length};
+ghost use Rattle.std.specs.Prelude.{◌≡◌, ◌≢◌, ℕ, Bool, true, List, [], ◌∷◌, length};
 ghost use Rattle.cf_base.specs.Count.{HasCause, HasRisenByOne, IsKept};
 ghost use Rattle.reel_disk.specs.Disk.{History, view_of, HasLength, HasRead, IsStill, IsWithin, HasWrittenWhole, HasWrittenAt, HasSynced, IsInFile};
+ghost use Rattle.reel_disk.specs.Loan.{Loan};
 
 use cf_base::FileId;
 
@@ -64,14 +65,14 @@ pub trait Disk {
     /// How often the disk has failed. The count never falls, and stays at 2^64 - 1 once it is there.
     ghost faults: { Self → ℕ };
 
-    /// A disk that is lent stays the same loan in each call. It holds of any two disks that are not lent.
-    ghost same: { Self → Self → Type 0 };
+    /// The loans by which a disk is lent, the outermost first; there are none where it isn't. They stay so in each call.
+    ghost loans: { Self → List Loan } = { λ _. [] };
 
     /// The length of a file in bytes. `Absent` exactly where the view has no such file and the call did not fail.
     fn length(&mut self, id: FileId) -> Length
         ensures answer { tells ≡ true → HasLength (view_of (history self.old) id) result }
         ensures time { tells ≡ true → IsStill (history self.old) (history self.new) }
-        ensures same { same self.old self.new }
+        ensures same { loans self.new ≡ loans self.old }
         ensures cause { HasCause (faults self.old) (faults self.new) (result ≡ Length.Failed) }
         ensures once { result ≡ Length.Failed → HasRisenByOne (faults self.old) (faults self.new) }
         ensures steady { result ≢ Length.Failed → faults self.new ≡ faults self.old };
@@ -82,7 +83,7 @@ pub trait Disk {
         ensures bound { IsWithin (length into.old) result }
         ensures answer { tells ≡ true → HasRead (view_of (history self.old) id) start into.new result }
         ensures time { tells ≡ true → IsStill (history self.old) (history self.new) }
-        ensures same { same self.old self.new }
+        ensures same { loans self.new ≡ loans self.old }
         ensures cause { HasCause (faults self.old) (faults self.new) (result ≡ Got.Failed) }
         ensures once { result ≡ Got.Failed → HasRisenByOne (faults self.old) (faults self.new) }
         ensures steady { result ≢ Got.Failed → faults self.new ≡ faults self.old };
@@ -90,7 +91,7 @@ pub trait Disk {
     /// Gives a file these bytes and no others. Until a sync of the file, a crash may leave anything there.
     fn write_whole(&mut self, id: FileId, bytes: &[u8]) -> Did
         ensures told { tells ≡ true → HasWrittenWhole (history self.old) (history self.new) id bytes.now result }
-        ensures same { same self.old self.new }
+        ensures same { loans self.new ≡ loans self.old }
         ensures cause { HasCause (faults self.old) (faults self.new) (result ≡ Did.Failed) }
         ensures once { result ≡ Did.Failed → HasRisenByOne (faults self.old) (faults self.new) }
         ensures steady { result ≡ Did.Done → faults self.new ≡ faults self.old };
@@ -100,7 +101,7 @@ pub trait Disk {
     fn write_at(&mut self, id: FileId, start: u64, bytes: &[u8]) -> Did
         requires { tells ≡ true → IsInFile (view_of (history self.old) id) start (length bytes.now) }
         ensures told { tells ≡ true → HasWrittenAt (history self.old) (history self.new) id start bytes.now result }
-        ensures same { same self.old self.new }
+        ensures same { loans self.new ≡ loans self.old }
         ensures cause { HasCause (faults self.old) (faults self.new) (result ≡ Did.Failed) }
         ensures once { result ≡ Did.Failed → HasRisenByOne (faults self.old) (faults self.new) }
         ensures steady { result ≡ Did.Done → faults self.new ≡ faults self.old };
@@ -108,14 +109,10 @@ pub trait Disk {
     /// After it a crash leaves the file, or its absence, as a read answers it.
     fn sync(&mut self, id: FileId) -> Did
         ensures told { tells ≡ true → HasSynced (history self.old) (history self.new) id result }
-        ensures same { same self.old self.new }
+        ensures same { loans self.new ≡ loans self.old }
         ensures cause { HasCause (faults self.old) (faults self.new) (result ≡ Did.Failed) }
         ensures once { result ≡ Did.Failed → HasRisenByOne (faults self.old) (faults self.new) }
         ensures steady { result ≡ Did.Done → faults self.new ≡ faults self.old };
-
-    ghost same_itself: { (d : Self) → same d d };
-
-    ghost same_along: { (a b c : Self) → same a b → same b c → same a c };
 
     /// The count is never past 2^64 - 1.
     ghost bounded: { (d : Self) → IsKept (faults d) };
@@ -123,19 +120,13 @@ pub trait Disk {
 
 /// A disk that is lent: the calls of the lender are those of the disk.
 impl<D: Disk> Disk for &mut D {
-    ghost use Rattle.std.proofs.Common.{refl, ◌∙◌};
-
     ghost tells = { D.tells };
 
     ghost history = { λ d. D.history d.now };
 
     ghost faults = { λ d. D.faults d.now };
 
-    ghost same = { λ d e. (e.ghost_name ≡ d.ghost_name) × (e.ref_ptr ≡ d.ref_ptr) };
-
-    ghost same_itself = { λ d. (refl, refl) };
-
-    ghost same_along = { λ a b c first second. (second.0 ∙ first.0, second.1 ∙ first.1) };
+    ghost loans = { λ d. record { name = d.ghost_name; place = d.ref_ptr } ∷ D.loans d.now };
 
     ghost bounded = { λ d. D.bounded d.now };
 

@@ -229,12 +229,6 @@ impl<R: Files + Drop> Disk for FolderDisk<R> {
 
     ghost faults = { λ d. kept d.faults };
 
-    ghost same = { λ a b. Unit {0} };
-
-    ghost same_itself = { λ a. tt };
-
-    ghost same_along = { λ a b c first second. tt };
-
     ghost bounded = { λ _. Prim.omega arith };
 
     fn length(&mut self, id: FileId) -> Length {

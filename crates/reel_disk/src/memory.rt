@@ -1,10 +1,10 @@
 //! A disk in memory, whose calls fail by number.
-ghost use Rattle.std.specs.Prelude.{◌≡◌, ◌≢◌, ◌↔◌, ℕ, true, false, length, OnOk, IfOk, ⊤};
+ghost use Rattle.std.specs.Prelude.{◌≡◌, ◌≢◌, ◌↔◌, true, false, length, IfOk, ⊤};
 ghost use Rattle.cf_base.specs.Count.{HasCause, HasRisenByOne};
 ghost use Rattle.cf_base.specs.declared.file.FileId.{FileId};
 ghost use Rattle.reel_disk.specs.Crash.{IsCrash};
-ghost use Rattle.reel_disk.specs.Disk.{History, view_of, moment_of, HasLength, HasRead, IsStill, IsWithin, HasWrittenWhole, HasWrittenAt, HasSynced, IsInFile, IsImage, IsNewDisk};
-ghost use Rattle.reel_disk.specs.Memory.{history_of, find_file};
+ghost use Rattle.reel_disk.specs.Disk.{view_of, moment_of, HasLength, HasRead, IsStill, IsWithin, HasWrittenWhole, HasWrittenAt, HasSynced, IsInFile, IsImage, IsNewDisk};
+ghost use Rattle.reel_disk.specs.Memory.{find_file};
 ghost use Rattle.reel_disk.specs.MemoryDisk.{history_in, faults_in, script_in, calls_in, no_fault, fails_at, is_stopped, next_call, IsNextCall};
 
 use crate::crash::files_left;
@@ -147,12 +147,6 @@ impl Disk for MemoryDisk {
     ghost history = { history_in };
 
     ghost faults = { faults_in };
-
-    ghost same = { λ a b. Unit {0} };
-
-    ghost same_itself = { λ a. tt };
-
-    ghost same_along = { λ a b c first second. tt };
 
     ghost bounded = { λ _. Prim.omega arith };
 

@@ -1,19 +1,25 @@
-//! The name of what a disk held when a run began.
+//! The name of a disk on which a run began: what it held, and how it is lent.
 use std::marker::Brand;
 
-/// Names what a disk held when a run began, where the disk tells it. A value that stands behind a lock is known by its
-/// type alone, so its type has such a name as a parameter. A name has no call and no constant, and its meanings never
-/// change; the caller of a function that has a name picks them.
+/// Names what a disk held when a run began, where the disk tells it, and the loans by which the disk is lent. A value that
+/// stands behind a lock is known by its type alone, so its type has such a name as a parameter. A name has no call and no
+/// constant, and its meanings never change; the caller of a function that has a name picks them.
 pub trait Start {
-    ghost use Rattle.std.specs.Prelude.{Option};
+    ghost use Rattle.std.specs.Prelude.{List, Option};
     ghost use Rattle.reel_disk.specs.Disk.{Moment};
+    ghost use Rattle.reel_disk.specs.Loan.{Loan};
 
     /// What a read answered at the start, and what was loose: both are told, or neither is.
     ghost start: { Option Moment };
+
+    /// The loans of the disk.
+    ghost loans: { List Loan };
 }
 
 impl Start for Brand {
-    ghost use Rattle.std.specs.Prelude.{None};
+    ghost use Rattle.std.specs.Prelude.{[], None};
 
     ghost start = { None };
+
+    ghost loans = { [] };
 }

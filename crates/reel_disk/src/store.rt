@@ -1,9 +1,9 @@
 //! The files of a disk in memory, its loose places, and each step so far with what it takes to go back.
-ghost use Rattle.std.specs.Prelude.{◌≡◌, ◌≢◌, ◌⊎◌, ℕ, ◌+◌, ◌-◌, ◌<◌, ◌≤◌, true, false, length, take, drop, min, ◌++◌, ◌∷◌, [], OnOk, OnErr, IfOk, IsOk, MatchOption, Some, None, vec_len, vec_capacity, filter, not};
-ghost use Rattle.reel_disk.specs.Disk.{Files, view_of, HasLength, SameBut, IsStill, IsLeftLoose, IsWritten, IsSynced, IsInFile, with_range, overwritten};
-ghost use Rattle.reel_disk.specs.Memory.{history_of, find_file, file_of_place, content_of, put_back};
+ghost use Rattle.std.specs.Prelude.{◌≡◌, ◌+◌, ◌-◌, ◌<◌, ◌≤◌, length, take, drop, min, ◌++◌, ◌∷◌, [], OnOk, OnErr, IfOk, MatchOption, Some, None, vec_len, vec_capacity, filter, not};
+ghost use Rattle.reel_disk.specs.Disk.{view_of, HasFailedAt, HasLength, HasWrittenAt, HasWrittenWhole, SameBut, IsStill, IsSynced, IsInFile, with_range, overwritten};
+ghost use Rattle.reel_disk.specs.Memory.{GivesBack, HasRoom, IsSameStore, history_of, find_file, file_of_place, content_of, stored};
 ghost use Rattle.cf_base.specs.FileId.{same_id};
-ghost use Rattle.reel_disk.specs.declared.disk.Place.TheVariants.{Whole, Range};
+ghost use Rattle.reel_disk.specs.declared.disk.Did.TheVariants.{Done};
 ghost use Rattle.reel_disk.specs.declared.disk.Length.TheVariants.{There};
 ghost use Rattle.cf_base.specs.declared.file.FileId.{FileId};
 
@@ -87,7 +87,7 @@ fn patch(
     bytes: &[u8],
 ) -> Result<Vec<u8>, AllocError>
     requires { IsInFile (find_file files.old id) start (length bytes.now) }
-    ensures before { IfOk result (λ before. put_back (with_range (find_file files.old id) start bytes.now) start before.items ≡ find_file files.old id) }
+    ensures before { IfOk result (λ before. GivesBack (find_file files.old id) start bytes.now before.items) }
     ensures there { OnOk result (find_file files.new id ≡ with_range (find_file files.old id) start bytes.now) }
     ensures same { OnOk result (SameBut id (find_file files.old) (find_file files.new)) }
     ensures err { OnErr result ((q : FileId) → find_file files.new q ≡ find_file files.old q) }
@@ -118,8 +118,8 @@ fn loosen_place(loose: &mut Vec<Place>, place: Place)
 
 /// Room for one more loose place and one more step.
 fn make_room(store: &mut Store) -> Result<(), AllocError>
-    ensures same { (store.new.files ≡ store.old.files) × (store.new.loose.items ≡ store.old.loose.items) × (store.new.steps.items ≡ store.old.steps.items) }
-    ensures room { OnOk result ((vec_len store.new.loose < vec_capacity store.new.loose) × (vec_len store.new.steps < vec_capacity store.new.steps)) }
+    ensures same { IsSameStore store.old store.new }
+    ensures room { OnOk result (HasRoom store.new) }
 {
     store.loose.reserve(1)?;
     store.steps.reserve(1)?;
@@ -128,7 +128,7 @@ fn make_room(store: &mut Store) -> Result<(), AllocError>
 
 /// A write that fails leaves its place loose, where there is room to say so.
 pub(crate) fn loosen(store: &mut Store, place: Place)
-    ensures time { IsStill (history_of store.old) (history_of store.new) ⊎ IsLeftLoose (history_of store.old) (history_of store.new) place }
+    ensures time { HasFailedAt (history_of store.old) (history_of store.new) place }
     ensures files { (q : FileId) → view_of (history_of store.new) q ≡ view_of (history_of store.old) q }
 {
     if make_room(store).is_ok() {
@@ -144,7 +144,7 @@ pub(crate) fn write_file(
     id: FileId,
     bytes: &[u8],
 ) -> Result<(), AllocError>
-    ensures ok { OnOk result (IsWritten (history_of store.old) (history_of store.new) (Whole id) (Some bytes.now)) }
+    ensures ok { OnOk result (HasWrittenWhole (history_of store.old) (history_of store.new) id bytes.now Done) }
     ensures err { OnErr result (IsStill (history_of store.old) (history_of store.new)) }
 {
     let copy = bytes.to_vec(alloc)?;
@@ -167,7 +167,7 @@ pub(crate) fn write_part(
     bytes: &[u8],
 ) -> Result<(), AllocError>
     requires { IsInFile (view_of (history_of store.old) id) start (length bytes.now) }
-    ensures ok { OnOk result (IsWritten (history_of store.old) (history_of store.new) (Range id start (length bytes.now)) (with_range (view_of (history_of store.old) id) start bytes.now)) }
+    ensures ok { OnOk result (HasWrittenAt (history_of store.old) (history_of store.new) id start bytes.now Done) }
     ensures err { OnErr result (IsStill (history_of store.old) (history_of store.new)) }
 {
     make_room(store)?;
@@ -223,7 +223,7 @@ pub(crate) fn settle(alloc: Global, store: &mut Store, id: FileId) -> Result<(),
 
 /// The bytes of a file.
 pub(crate) fn bytes_of(store: &Store, id: FileId) -> Option<&[u8]>
-    ensures { MatchOption result (view_of (history_of store.now) id ≡ None) (λ bytes. view_of (history_of store.now) id ≡ Some bytes.now) }
+    ensures { MatchOption result (stored store.now id ≡ None) (λ bytes. stored store.now id ≡ Some bytes.now) }
 {
     match store.files.get(&id) {
         Some(bytes) => Some(bytes),
@@ -233,7 +233,7 @@ pub(crate) fn bytes_of(store: &Store, id: FileId) -> Option<&[u8]>
 
 /// How long a file is.
 pub(crate) fn length_of(store: &Store, id: FileId) -> Option<u64>
-    ensures { MatchOption result (view_of (history_of store.now) id ≡ None) (λ n. HasLength (view_of (history_of store.now) id) (There n)) }
+    ensures { MatchOption result (stored store.now id ≡ None) (λ n. HasLength (stored store.now id) (There n)) }
 {
     match bytes_of(store, id) {
         Some(bytes) => Some(bytes.len() as u64),

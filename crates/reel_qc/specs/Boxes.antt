@@ -2,13 +2,17 @@
 --     HasPicture job picture cell      the sums of all boxes of a picture
 --     AreCells job pictures cells      those of several pictures
 --     HasDrawn tone Told exact old new before after      these colours were drawn
-use Rattle.std.specs.Prelude.{◌≡◌, ℕ, ◌+◌, ◌*◌, ◌/◌, ◌%◌, ◌^◌, ◌<◌, ◌≤◌, max, min, All, List, [], ◌∷◌, ◌++◌, length, map, slice_index, slice_index_or, Option, Some, None}
+use Rattle.std.specs.Prelude.{◌≡◌, ℕ, ◌+◌, ◌*◌, ◌/◌, ◌%◌, ◌^◌, ◌<◌, ◌≤◌, max, min, All, Bool, true, List, [], ◌∷◌, ◌++◌, length, map, slice_index, slice_index_or, Option, Some, None}
 use Rattle.std.specs.List.{flat_map, fold, range_with_len, sum_by}
 use Rattle.conform_job.specs.Job.{JobData}
 use Rattle.frame_render.specs.Frame.{pixel_count}
 use Rattle.reel_qc.specs.Counts.{blue_of, green_of, red_of}
-use Rattle.reel_qc.specs.Sheet.{box_colour, box_pixels, cell_height, cell_width, rounded_mean, sheet_width, toned_bytes}
+use Rattle.reel_disk.specs.Disk.{History, view_of}
+use Rattle.dpx_header.specs.Writing.{header_of}
+use Rattle.resume_ledger.specs.Look.{ViewState}
+use Rattle.reel_qc.specs.Sheet.{box_colour, box_pixels, cell_height, cell_width, rounded_mean, row_colours, sheet_colours, sheet_head, sheet_width, toned_bytes}
 use Rattle.reel_qc.specs.declared.boxes.Boxes.{Boxes}
+use Rattle.reel_qc.specs.declared.drawing.Drawing.{Drawing}
 
 -- for each box, line by line, what its pixels among the first n of a picture of this width add up to
 pub record AreSums (code : ℕ → ℕ) (width n columns lines : ℕ) (sums : List ℕ) : Type 0 where
@@ -82,11 +86,19 @@ pub record HasPictures (job : JobData) (Told : Type 0) (exact : ℕ → Option (
   pub told : Told → pictures ≡ map exact (range_with_len 0 (length cells))
   pub are : AreCells job pictures cells
 
--- line y of a row of cells
+-- the colour at column x of line y of a row of cells, also as a list; the line; and all lines of that row
+abbrev pub pictured_colour : JobData → List (Option (List ℕ)) → (x y : ℕ) → List ℕ
+pictured_colour job pictures x y =
+    box_colour job (slice_index_or pictures (x / cell_width job) None) (x % cell_width job) (y % cell_height job)
+
+abbrev pub at_pixel : JobData → List (Option (List ℕ)) → (x y : ℕ) → List (List ℕ)
+at_pixel job pictures x y = pictured_colour job pictures x y ∷ []
+
 abbrev pub pictured_line : JobData → List (Option (List ℕ)) → ℕ → List (List ℕ)
-pictured_line job pictures y =
-    map (λ x. box_colour job (slice_index_or pictures (x / cell_width job) None) (x % cell_width job) (y % cell_height job))
-    (range_with_len 0 (sheet_width job))
+pictured_line job pictures y = map (λ x. pictured_colour job pictures x y) (range_with_len 0 (sheet_width job))
+
+abbrev pub pictured_row : JobData → List (Option (List ℕ)) → ℕ → List (List ℕ)
+pictured_row job pictures row = flat_map (pictured_line job pictures) (range_with_len (row * cell_height job) (cell_height job))
 
 -- These colours, with codes to 1023, were drawn behind the bytes; and the greatest code before and after.
 pub record IsDrawn (tone : List ℕ) (colours : List (List ℕ)) (old new : List ℕ) (before after : ℕ) : Type 0 where
@@ -94,8 +106,22 @@ pub record IsDrawn (tone : List ℕ) (colours : List (List ℕ)) (old new : List
   pub greatest : after ≡ fold max before (flat_map (λ colour. colour) colours)
   pub codes : All (λ code. code ≤ 1023) (flat_map (λ colour. colour) colours)
 
+-- What a row of cells shows was drawn, whatever pictures they have: some colours of these pictures.
+abbrev pub DrawsCells : List ℕ → JobData → List (Option Boxes) → (List (Option (List ℕ)) → List (List ℕ)) → Drawing → Drawing → Type 0
+DrawsCells tone job cells colours old new = (pictures : List (Option (List ℕ))) → AreCells job pictures cells
+    → IsDrawn tone (colours pictures) old.bytes.items new.bytes.items old.greatest new.greatest
+
 -- Some colours were. Where the files are told, they are these.
 pub record HasDrawn (tone : List ℕ) (Told : Type 0) (exact : List (List ℕ)) (old new : List ℕ) (before after : ℕ) : Type 0 where
   pub colours : List (List ℕ)
   pub told : Told → colours ≡ exact
   pub drawn : IsDrawn tone colours old new before after
+
+-- A row of the sheet was drawn, and the whole sheet behind its header, by what the disk tells.
+abbrev pub DrawsRow : List ℕ → JobData → ViewState → Bool → History → ℕ → Drawing → Drawing → Type 0
+DrawsRow tone job view tells history row old new =
+    HasDrawn tone (tells ≡ true) (row_colours job view (view_of history) row) old.bytes.items new.bytes.items old.greatest new.greatest
+
+abbrev pub DrawsSheet : List ℕ → JobData → ViewState → Bool → History → Drawing → Type 0
+DrawsSheet tone job view tells history drawing =
+    HasDrawn tone (tells ≡ true) (sheet_colours job view (view_of history)) (header_of (sheet_head job)) drawing.bytes.items 0 drawing.greatest

@@ -1,8 +1,12 @@
 -- What is counted over a picture's words (10-bit RGB, filled by method A: R in bits 31 to 22, G in 21 to 12, B in 11 to 2).
-use Rattle.std.specs.Prelude.{ℕ, ◌+◌, ◌/◌, ◌%◌, ◌^◌, Bool, List, map, max, min, nat_le}
+use Rattle.std.specs.Prelude.{ℕ, ◌+◌, ◌/◌, ◌%◌, ◌^◌, ◌≤◌, Bool, List, length, map, max, min, nat_le}
 use Rattle.std.specs.List.{count_by, sum_by}
 use Rattle.reel_qc.specs.declared.probe.ProbeKind.{ProbeKind}
 use Rattle.reel_qc.specs.declared.probe.ProbeKind.TheVariants.{High, Low, Sum}
+
+-- as many words as a frame of the largest size has, or fewer
+abbrev pub AreFrameWords : List ℕ → Type 0
+AreFrameWords words = length words ≤ 16777216
 
 abbrev pub red_of : ℕ → ℕ
 red_of word = word / 2 ^ 22

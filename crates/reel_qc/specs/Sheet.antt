@@ -36,9 +36,11 @@ most_cells job = 8 * (4096 / cell_height job)
 
 -- The record frame of the record in of each line of positive record length. It is counted from 0 through the whole record, as the
 -- job's frames and the view's gates are, also where the record is cut into reels.
+abbrev pub frames_in : List EventRec → List ℕ
+frames_in events = map (λ (e : EventRec). e.rec_in - first_frame events) (filter (λ (e : EventRec). nat_lt 0 (record_length e)) events)
+
 abbrev pub first_frames : JobData → List ℕ
-first_frames job = map (λ (e : EventRec). e.rec_in - first_frame job.parts.timeline.events)
-    (filter (λ (e : EventRec). nat_lt 0 (record_length e)) job.parts.timeline.events)
+first_frames job = frames_in job.parts.timeline.events
 
 abbrev pub cell_frames : JobData → List ℕ
 cell_frames job = take (most_cells job) (first_frames job)
@@ -92,9 +94,12 @@ sheet_colour job view files x y =
     box_colour job (picture_at job view files (y / cell_height job * 8 + x / cell_width job))
     (x % cell_width job) (y % cell_height job)
 
--- a line from the left, and all lines from the top
+-- a line from the left, those of a row of cells, and all lines from the top
 abbrev pub line_colours : JobData → ViewState → Files → ℕ → List (List ℕ)
 line_colours job view files y = map (λ x. sheet_colour job view files x y) (range_with_len 0 (sheet_width job))
+
+abbrev pub row_colours : JobData → ViewState → Files → ℕ → List (List ℕ)
+row_colours job view files row = flat_map (line_colours job view files) (range_with_len (row * cell_height job) (cell_height job))
 
 abbrev pub sheet_colours : JobData → ViewState → Files → List (List ℕ)
 sheet_colours job view files = flat_map (line_colours job view files) (range_with_len 0 (sheet_height job))

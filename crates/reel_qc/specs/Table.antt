@@ -2,11 +2,12 @@
 --     quality_table kinds job view files      the table of what a view acknowledges, over these files
 --     defined_table kinds job world view      the same over the definition's files
 --     IsTable kinds view text      a table of some words for each of these frames: what is known over a disk that doesn't tell
-use Rattle.std.specs.Prelude.{◌≡◌, ℕ, false, List, [], ◌∷◌, ◌++◌, length, map, filter, slice_index_or, codes, decimal, Some}
+use Rattle.std.specs.Prelude.{◌≡◌, ℕ, Bool, true, false, Vec, List, [], ◌∷◌, ◌++◌, length, map, filter, slice_index_or, codes, decimal, Some}
 use Rattle.std.specs.List.{flat_map, range_with_len}
 use Rattle.conform_job.specs.Job.{JobData, file_of}
 use Rattle.printed_text.specs.Text.{spaced_line}
-use Rattle.reel_disk.specs.Disk.{Files}
+use Rattle.std.specs.declared.alloc.Global.{Global}
+use Rattle.reel_disk.specs.Disk.{Files, History, view_of}
 use Rattle.scan_source.specs.World.{World, file_at}
 use Rattle.frame_render.specs.Frame.{frame_file}
 use Rattle.resume_ledger.specs.Look.{ViewState}
@@ -71,3 +72,12 @@ pub record HasRows (kinds : List ProbeKind) (job : JobData) (Told : Type 0) (fil
   pub rows_are : Told → rows ≡ map (row_of job files) frames
   pub text : new ≡ old ++ flat_map (row_line kinds) rows
   pub number_is : number ≡ length rows
+
+-- the lines of all frames that a view acknowledges, and that of one frame where it does, by what the disk tells
+abbrev pub AddsRows : List ProbeKind → JobData → ViewState → Bool → History → (old new : Vec ℕ Global) → ℕ → Type 0
+AddsRows kinds job view tells history old new number =
+    HasRows kinds job (tells ≡ true) (view_of history) (acked_frames view) old.items new.items number
+
+abbrev pub AddsRow : List ProbeKind → JobData → ViewState → ℕ → Bool → History → (old new : Vec ℕ Global) → ℕ → Type 0
+AddsRow kinds job view i tells history old new number =
+    HasRows kinds job (tells ≡ true) (view_of history) (acked_of view (i ∷ [])) old.items new.items number

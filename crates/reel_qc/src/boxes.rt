@@ -1,5 +1,5 @@
 //! The boxes of a picture: what their pixels add up to, and their mean colours.
-ghost use Rattle.std.specs.Prelude.{◌≡◌, ◌+◌, ◌*◌, ◌/◌, ◌^◌, ◌<◌, ◌≤◌, ℕ, List, Option, Some, set, length, slice_index, IfOk};
+ghost use Rattle.std.specs.Prelude.{◌≡◌, ◌+◌, ◌*◌, ◌/◌, ◌<◌, ◌≤◌, ℕ, List, Option, Some, set, length, slice_index, IfOk};
 ghost use Rattle.std.specs.List.{sum_by};
 ghost use Rattle.cf_base.specs.Rgb.{codes_of};
 ghost use Rattle.reel_qc.specs.Boxes.{HasPicture, HasRoomAt, HasSums, IsBoxAt, mean_at, run_start};
@@ -252,7 +252,6 @@ fn mean_in(job: &Job, boxes: &Boxes, u: u32, v: u32) -> Rgb
     ensures { (words : List ℕ) → HasPicture job.now (Some words) (Some boxes.now)
         → codes_of result ≡ box_colour job.now (Some words) u v }
 {
-    // The bounds of the size are among what holds of every job, which is said of its count.
-    let _ = job.count();
+    job.recall();
     boxes.mean(place_of(boxes_of(job.width()), u, v))
 }

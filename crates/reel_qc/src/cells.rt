@@ -1,14 +1,13 @@
 //! The cells of the sheet: which record frames they show, and the sums over the frames' files.
-ghost use Rattle.std.specs.Prelude.{◌≡◌, ◌≢◌, ◌+◌, ◌-◌, ◌*◌, ◌<◌, ◌≤◌, All, true, nat_lt, filter, length, map, slice_get, IfOk, IfSome, IsErrOf, Err};
+ghost use Rattle.std.specs.Prelude.{◌≡◌, ◌≢◌, ◌+◌, ◌-◌, ◌*◌, ◌<◌, ◌≤◌, All, true, length, slice_get, IfOk, IfSome, IsErrOf, Err};
 ghost use Rattle.cf_base.specs.declared.event.EventRec.{EventRec};
-ghost use Rattle.cf_base.specs.Events.{record_length};
 ghost use Rattle.frame_render.specs.Frame.{pixel_count};
 ghost use Rattle.record_timeline.specs.Accepted.{first_frame, frame_count};
 ghost use Rattle.cf_base.specs.Count.{HasCause};
 ghost use Rattle.reel_disk.specs.Disk.{view_of, IsStill};
 ghost use Rattle.reel_writer.specs.Reel.{frames_of};
 ghost use Rattle.reel_qc.specs.Boxes.{HasPicture, HasPictures, IsCell};
-ghost use Rattle.reel_qc.specs.Sheet.{cell_frames, cell_picture, first_frames, most_cells, picture_at, place_picture, whole_picture};
+ghost use Rattle.reel_qc.specs.Sheet.{cell_frames, cell_picture, first_frames, frames_in, most_cells, picture_at, place_picture, whole_picture};
 
 use crate::boxes::{Boxes, boxes_of};
 use crate::sheet::SheetFault;
@@ -38,8 +37,7 @@ fn most_cells(job: &Job) -> usize
     ensures some { 8 ≤ result }
     ensures few { result ≤ 32768 }
 {
-    // The bounds of the size are among what holds of every job, which is said of its count.
-    let _ = job.count();
+    job.recall();
     8 * (4096 / boxes_of(job.height()) as usize)
 }
 
@@ -57,8 +55,7 @@ fn first_frames(alloc: Global, job: &Job) -> Result<Vec<u32>, AllocError>
 /// The same of a list whose reel begins with this record frame.
 fn frames_from(alloc: Global, events: &[EventRec], first: u32) -> Result<Vec<u32>, AllocError>
     requires first { first ≡ first_frame events.now }
-    ensures frames { IfOk result (λ frames. frames.items
-        ≡ map (λ (e : EventRec). e.rec_in - first_frame events.now) (filter (λ (e : EventRec). nat_lt 0 (record_length e)) events.now)) }
+    ensures frames { IfOk result (λ frames. frames.items ≡ frames_in events.now) }
     ensures within { IfOk result (λ frames. All (λ i. i < frame_count events.now) frames.items) }
 {
     let mut frames = Vec::new(alloc);
@@ -90,7 +87,7 @@ pub(crate) fn load_row<D: Disk>(
         (λ c. picture_at job.now view.now (view_of (D.history disk.old)) (row * 8 + c)) cells.items) }
     ensures piece { length buffers.new.piece.items ≡ 65536 }
     ensures still { D.tells ≡ true → IsStill (D.history disk.old) (D.history disk.new) }
-    ensures same { D.same disk.old disk.new }
+    ensures same { D.loans disk.new ≡ D.loans disk.old }
     ensures cause { HasCause (D.faults disk.old) (D.faults disk.new)
         (IsErrOf result SheetFault.DiskFault) }
     ensures steady { result ≢ Err SheetFault.DiskFault → D.faults disk.new ≡ D.faults disk.old }
@@ -131,7 +128,7 @@ fn load_cell<D: Disk>(
     ensures cell { IfOk result (IsCell job.now (D.tells ≡ true) (place_picture job.now view.now (view_of (D.history disk.old)) frame)) }
     ensures piece { length buffers.new.piece.items ≡ 65536 }
     ensures still { D.tells ≡ true → IsStill (D.history disk.old) (D.history disk.new) }
-    ensures same { D.same disk.old disk.new }
+    ensures same { D.loans disk.new ≡ D.loans disk.old }
     ensures cause { HasCause (D.faults disk.old) (D.faults disk.new)
         (IsErrOf result SheetFault.DiskFault) }
     ensures steady { result ≢ Err SheetFault.DiskFault → D.faults disk.new ≡ D.faults disk.old }
@@ -157,7 +154,7 @@ fn load_frame<D: Disk>(
     ensures cell { IfOk result (IsCell job.now (D.tells ≡ true) (cell_picture job.now view.now (view_of (D.history disk.old)) i)) }
     ensures piece { length buffers.new.piece.items ≡ 65536 }
     ensures still { D.tells ≡ true → IsStill (D.history disk.old) (D.history disk.new) }
-    ensures same { D.same disk.old disk.new }
+    ensures same { D.loans disk.new ≡ D.loans disk.old }
     ensures cause { HasCause (D.faults disk.old) (D.faults disk.new)
         (IsErrOf result SheetFault.DiskFault) }
     ensures steady { result ≢ Err SheetFault.DiskFault → D.faults disk.new ≡ D.faults disk.old }
@@ -180,8 +177,7 @@ fn sums_of(alloc: Global, job: &Job, words: &[u32]) -> Result<Option<Boxes>, All
     requires few { length words.now ≤ pixel_count job.now }
     ensures { IfOk result (HasPicture job.now (whole_picture job.now words.now)) }
 {
-    // The bounds of the size are said of the count.
-    let _ = job.count();
+    job.recall();
     if words.len() < pixels_of(job) {
         return Ok(None);
     }

@@ -1,8 +1,8 @@
 //! The pixels of the sheet, drawn line by line from the top.
-ghost use Rattle.std.specs.Prelude.{◌≡◌, [], ◌∷◌, ◌++◌, ◌+◌, ◌*◌, ◌/◌, ◌%◌, ◌<◌, ◌≤◌, ℕ, List, Option, None, flat_map, length, max, slice_index, slice_index_or, OnOk};
-ghost use Rattle.std.specs.List.{fold, range_with_len};
+ghost use Rattle.std.specs.Prelude.{◌≡◌, ◌++◌, ◌+◌, ◌*◌, ◌/◌, ◌%◌, ◌<◌, ◌≤◌, ℕ, List, Option, None, length, max, slice_index, slice_index_or, OnOk};
+ghost use Rattle.std.specs.List.{fold};
 ghost use Rattle.cf_base.specs.Rgb.{codes_of};
-ghost use Rattle.reel_qc.specs.Boxes.{AreCells, IsDrawn, pictured_line};
+ghost use Rattle.reel_qc.specs.Boxes.{AreCells, DrawsCells, at_pixel, pictured_line, pictured_row};
 ghost use Rattle.reel_qc.specs.Sheet.{box_colour, cell_height, cell_width, sheet_width, toned, toned_bytes};
 
 use crate::boxes::{Boxes, boxes_of, cell_colour};
@@ -32,12 +32,9 @@ pub(crate) fn draw_cells(
     requires row { row ≤ 4096 }
     requires cells { length cells.now ≡ 8 }
     requires pictures { (pictures : List (Option (List ℕ))) × AreCells job.now pictures cells.now }
-    ensures { OnOk result ((pictures : List (Option (List ℕ))) → AreCells job.now pictures cells.now
-        → IsDrawn tone.now.table (flat_map (pictured_line job.now pictures) (range_with_len (row * cell_height job.now) (cell_height job.now)))
-        drawing.old.bytes.items drawing.new.bytes.items drawing.old.greatest drawing.new.greatest) }
+    ensures { OnOk result (DrawsCells tone.now.table job.now cells.now (λ ps. pictured_row job.now ps row) drawing.old drawing.new) }
 {
-    // The bounds of the size are among what holds of every job, which is said of its count.
-    let _ = job.count();
+    job.recall();
     let lines = boxes_of(job.height());
     let first = row * lines;
     for v in 0..lines {
@@ -56,12 +53,9 @@ fn draw_line(
 ) -> Result<(), AllocError>
     requires cells { length cells.now ≡ 8 }
     requires pictures { (pictures : List (Option (List ℕ))) × AreCells job.now pictures cells.now }
-    ensures { OnOk result ((pictures : List (Option (List ℕ))) → AreCells job.now pictures cells.now
-        → IsDrawn tone.now.table (pictured_line job.now pictures y)
-        drawing.old.bytes.items drawing.new.bytes.items drawing.old.greatest drawing.new.greatest) }
+    ensures { OnOk result (DrawsCells tone.now.table job.now cells.now (λ ps. pictured_line job.now ps y) drawing.old drawing.new) }
 {
-    // As above.
-    let _ = job.count();
+    job.recall();
     let columns = boxes_of(job.width());
     for x in 0..8 * columns {
         draw_pixel(job, tone, cells, x, y, drawing)?;
@@ -81,10 +75,7 @@ fn draw_pixel(
     requires column { x < sheet_width job.now }
     requires cells { length cells.now ≡ 8 }
     requires pictures { (pictures : List (Option (List ℕ))) × AreCells job.now pictures cells.now }
-    ensures { OnOk result ((pictures : List (Option (List ℕ))) → AreCells job.now pictures cells.now
-        → IsDrawn tone.now.table
-        (box_colour job.now (slice_index_or pictures (x / cell_width job.now) None) (x % cell_width job.now) (y % cell_height job.now) ∷ [])
-        drawing.old.bytes.items drawing.new.bytes.items drawing.old.greatest drawing.new.greatest) }
+    ensures { OnOk result (DrawsCells tone.now.table job.now cells.now (λ ps. at_pixel job.now ps x y) drawing.old drawing.new) }
 {
     let colour = pixel_colour(job, cells, x, y);
     draw_colour(tone, colour, drawing)?;
@@ -100,8 +91,7 @@ fn pixel_colour(job: &Job, cells: &[Option<Boxes>], x: u32, y: u32) -> Rgb
         → codes_of result
         ≡ box_colour job.now (slice_index_or pictures (x / cell_width job.now) None) (x % cell_width job.now) (y % cell_height job.now) }
 {
-    // As above.
-    let _ = job.count();
+    job.recall();
     let columns = boxes_of(job.width());
     let lines = boxes_of(job.height());
     cell_colour(job, &cells[(x / columns) as usize], x % columns, y % lines)

@@ -1,5 +1,5 @@
 //! Functions that count, as a house hands them in.
-ghost use Rattle.reel_qc.specs.Counts.{count_of};
+ghost use Rattle.reel_qc.specs.Counts.{AreFrameWords, count_of};
 ghost use Rattle.std.specs.Prelude.{◌≡◌, ℕ, ◌≤◌, length};
 
 /// What a probe counts over the words of a frame.
@@ -22,17 +22,17 @@ pub struct Probe {
     kind: ProbeKind,
     count: Count,
     // it may be called on the words of every frame
-    ghost callable: { (words : _) → length words.now ≤ 16777216 → Count.pre count words },
+    ghost callable: { (words : _) → AreFrameWords words.now → Count.pre count words },
     // and then it answers the count of its kind
-    ghost counts: { (words : _) (n : ℕ) → length words.now ≤ 16777216 → Count.post count words n → n ≡ count_of kind words.now },
+    ghost counts: { (words : _) (n : ℕ) → AreFrameWords words.now → Count.post count words n → n ≡ count_of kind words.now },
 }
 
 impl Probe {
     /// Keeps a function that may be called on any list of at most 16,777,216 words, and answers the count of the kind there.
     /// Takes no memory, as all here.
     pub fn new(kind: ProbeKind, count: fn(&[u32]) -> u64) -> Probe
-        requires callable { (words : _) → length words.now ≤ 16777216 → Count.pre count words }
-        requires counts { (words : _) (n : ℕ) → length words.now ≤ 16777216 → Count.post count words n → n ≡ count_of kind words.now }
+        requires callable { (words : _) → AreFrameWords words.now → Count.pre count words }
+        requires counts { (words : _) (n : ℕ) → AreFrameWords words.now → Count.post count words n → n ≡ count_of kind words.now }
         ensures { result.kind ≡ kind }
     {
         Probe { kind, count }

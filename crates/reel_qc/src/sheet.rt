@@ -1,6 +1,5 @@
 //! The contact sheet, as a file of the reel folder.
-ghost use Rattle.std.specs.Prelude.{◌≡◌, ◌≢◌, ◌+◌, ◌*◌, ◌/◌, ◌<◌, ◌≤◌, All, ℕ, Option, Some, true, length, OnOk, IfOk, IsErrOf, Err};
-ghost use Rattle.std.specs.List.{flat_map, range_with_len};
+ghost use Rattle.std.specs.Prelude.{◌≡◌, ◌≢◌, ◌+◌, ◌*◌, ◌/◌, ◌<◌, ◌≤◌, All, ℕ, Some, true, length, OnOk, IfOk, IsErrOf, Err};
 ghost use Rattle.cf_base.specs.Count.{HasCause};
 ghost use Rattle.cf_base.specs.declared.file.FileId.TheVariants.{Sheet};
 ghost use Rattle.dpx_header.specs.Writing.{IsOutHead, header_of};
@@ -9,8 +8,8 @@ ghost use Rattle.reel_disk.specs.Runs.{Extends, LeavesOnly, Spares, Surely};
 ghost use Rattle.reel_writer.specs.Reel.{frames_of, HasAcked, IsSoundReel};
 ghost use Rattle.resume_ledger.specs.Steps.{IsFirmly};
 ghost use Rattle.scan_source.specs.World.{World};
-ghost use Rattle.reel_qc.specs.Boxes.{HasDrawn};
-ghost use Rattle.reel_qc.specs.Sheet.{cell_frames, cell_height, line_colours, most_cells, sheet_colours, sheet_file, sheet_head, sheet_peak, sheet_rows};
+ghost use Rattle.reel_qc.specs.Boxes.{DrawsRow, DrawsSheet};
+ghost use Rattle.reel_qc.specs.Sheet.{cell_frames, cell_height, sheet_file, sheet_head, sheet_peak, sheet_rows};
 
 use crate::boxes::boxes_of;
 use crate::cells::{cell_frames, load_row};
@@ -76,7 +75,7 @@ pub fn make_sheet<D: Disk>(
 
     // Where memory was missing, nothing was written.
     ensures still { result ≡ Err SheetFault.NoMemory → D.tells ≡ true → IsStill (D.history disk.old) (D.history disk.new) }
-    ensures same { D.same disk.old disk.new }
+    ensures same { D.loans disk.new ≡ D.loans disk.old }
     ensures cause { HasCause (D.faults disk.old) (D.faults disk.new)
         (IsErrOf result SheetFault.DiskFault) }
     ensures steady { result ≢ Err SheetFault.DiskFault → D.faults disk.new ≡ D.faults disk.old }
@@ -102,7 +101,7 @@ fn write_sheet<D: Disk>(
     ensures past { D.tells ≡ true → Extends (D.history disk.old) (D.history disk.new) }
     ensures spares { D.tells ≡ true → Spares (D.history disk.old) (D.history disk.new) (λ q. q ≡ Sheet) }
     ensures still { result ≡ Err SheetFault.NoMemory → D.tells ≡ true → IsStill (D.history disk.old) (D.history disk.new) }
-    ensures same { D.same disk.old disk.new }
+    ensures same { D.loans disk.new ≡ D.loans disk.old }
     ensures cause { HasCause (D.faults disk.old) (D.faults disk.new)
         (IsErrOf result SheetFault.DiskFault) }
     ensures steady { result ≢ Err SheetFault.DiskFault → D.faults disk.new ≡ D.faults disk.old }
@@ -140,13 +139,12 @@ fn sheet_of<D: Disk>(
         → sheet.done.peak ≡ sheet_peak tone.now.table job.now view.now (view_of (D.history disk.old))) }
     ensures code { IfOk result (λ sheet. sheet.done.peak ≤ 1023) }
     ensures still { D.tells ≡ true → IsStill (D.history disk.old) (D.history disk.new) }
-    ensures same { D.same disk.old disk.new }
+    ensures same { D.loans disk.new ≡ D.loans disk.old }
     ensures cause { HasCause (D.faults disk.old) (D.faults disk.new)
         (IsErrOf result SheetFault.DiskFault) }
     ensures steady { result ≢ Err SheetFault.DiskFault → D.faults disk.new ≡ D.faults disk.old }
 {
-    // The bounds of the size are among what holds of every job, which is said of its count.
-    let _ = job.count();
+    job.recall();
     let Ok(frames) = cell_frames(alloc, job) else {
         return Err(SheetFault::NoMemory);
     };
@@ -177,10 +175,9 @@ fn draw_sheet<D: Disk>(
     requires frames { frames.now ≡ cell_frames job.now }
     requires within { All (λ i. i < frames_of job.now) frames.now }
     requires some { 0 < length frames.now }
-    ensures drawn { IfOk result (λ drawing. HasDrawn tone.now.table (D.tells ≡ true)
-        (sheet_colours job.now view.now (view_of (D.history disk.old))) (header_of (sheet_head job.now)) drawing.bytes.items 0 drawing.greatest) }
+    ensures drawn { IfOk result (λ drawing. DrawsSheet tone.now.table job.now view.now D.tells (D.history disk.old) drawing) }
     ensures still { D.tells ≡ true → IsStill (D.history disk.old) (D.history disk.new) }
-    ensures same { D.same disk.old disk.new }
+    ensures same { D.loans disk.new ≡ D.loans disk.old }
     ensures cause { HasCause (D.faults disk.old) (D.faults disk.new)
         (IsErrOf result SheetFault.DiskFault) }
     ensures steady { result ≢ Err SheetFault.DiskFault → D.faults disk.new ≡ D.faults disk.old }
@@ -219,8 +216,7 @@ fn rows_of(job: &Job, frames: &[u32]) -> u32
     ensures some { 1 ≤ result }
     ensures fit { result * cell_height job.now ≤ 4096 }
 {
-    // As above.
-    let _ = job.count();
+    job.recall();
     ((frames.len() + 7) / 8) as u32
 }
 
@@ -251,8 +247,7 @@ fn sheet_head(job: &Job, rows: u32) -> OutHead
     ensures head { result ≡ sheet_head job.now }
     ensures valid { IsOutHead result }
 {
-    // As above.
-    let _ = job.count();
+    job.recall();
     OutHead {
         width: 8 * boxes_of(job.width()),
         height: height_of(rows, boxes_of(job.height())),
@@ -293,18 +288,15 @@ fn draw_row<D: Disk>(
     requires within { All (λ i. i < frames_of job.now) frames.now }
     requires row { row ≤ 4096 }
     requires piece { length buffers.old.piece.items ≡ 65536 }
-    ensures drawn { OnOk result (HasDrawn tone.now.table (D.tells ≡ true)
-        (flat_map (line_colours job.now view.now (view_of (D.history disk.old))) (range_with_len (row * cell_height job.now) (cell_height job.now)))
-        drawing.old.bytes.items drawing.new.bytes.items drawing.old.greatest drawing.new.greatest) }
+    ensures drawn { OnOk result (DrawsRow tone.now.table job.now view.now D.tells (D.history disk.old) row drawing.old drawing.new) }
     ensures piece { length buffers.new.piece.items ≡ 65536 }
     ensures still { D.tells ≡ true → IsStill (D.history disk.old) (D.history disk.new) }
-    ensures same { D.same disk.old disk.new }
+    ensures same { D.loans disk.new ≡ D.loans disk.old }
     ensures cause { HasCause (D.faults disk.old) (D.faults disk.new)
         (IsErrOf result SheetFault.DiskFault) }
     ensures steady { result ≢ Err SheetFault.DiskFault → D.faults disk.new ≡ D.faults disk.old }
 {
-    // As above.
-    let _ = job.count();
+    job.recall();
     let cells = match load_row(alloc, disk, job, view, frames, row, buffers) {
         Ok(cells) => cells,
         Err(fault) => return Err(fault),

@@ -1,12 +1,12 @@
 //! The quality table, as text.
-ghost use Rattle.std.specs.Prelude.{◌≡◌, ◌≢◌, ◌∷◌, [], ◌++◌, ◌<◌, ◌≤◌, true, length, map, codes, decimal, OnOk, IfOk, MatchResult, IsErrOf, Err};
+ghost use Rattle.std.specs.Prelude.{◌≡◌, ◌≢◌, ◌∷◌, [], ◌++◌, ◌<◌, ◌≤◌, true, length, map, codes, decimal, OnOk, IfOk, IsErrOf, Err};
 ghost use Rattle.cf_base.specs.Count.{HasCause};
 ghost use Rattle.printed_text.specs.Text.{spaced_line};
 ghost use Rattle.reel_disk.specs.Disk.{view_of, IsStill};
 ghost use Rattle.reel_writer.specs.Reel.{frames_of, IsSoundReel};
 ghost use Rattle.resume_ledger.specs.Look.{IsViewOf};
 ghost use Rattle.scan_source.specs.World.{World};
-ghost use Rattle.reel_qc.specs.Table.{HasRows, IsTable, acked_frames, acked_of, defined_table, kind_word, quality_table, row_line};
+ghost use Rattle.reel_qc.specs.Table.{AddsRow, AddsRows, IsTable, defined_table, kind_word, quality_table, row_line};
 
 use crate::counter::Counter;
 use crate::probe::{Probe, ProbeKind};
@@ -55,7 +55,7 @@ pub fn quality_table<D: Disk, C: Counter>(
 
     // What the disk holds stays as it is, at every moment and whatever the answer is.
     ensures still { D.tells ≡ true → IsStill (D.history disk.old) (D.history disk.new) }
-    ensures same { D.same disk.old disk.new }
+    ensures same { D.loans disk.new ≡ D.loans disk.old }
     ensures cause { HasCause (D.faults disk.old) (D.faults disk.new)
         (IsErrOf result QcFault.DiskFault) }
     ensures steady { result ≢ Err QcFault.DiskFault → D.faults disk.new ≡ D.faults disk.old }
@@ -140,9 +140,9 @@ fn put_rows<D: Disk, C: Counter>(
     requires ready { C.ready }
     requires size { length view.now.gates ≡ frames_of job.now }
     requires piece { length buffers.old.piece.items ≡ 65536 }
-    ensures rows { IfOk result (HasRows (map (λ p. p.kind) probes.now) job.now (D.tells ≡ true) (view_of (D.history disk.old)) (acked_frames view.now) text.old.items text.new.items) }
+    ensures rows { IfOk result (AddsRows (map (λ p. p.kind) probes.now) job.now view.now D.tells (D.history disk.old) text.old text.new) }
     ensures still { D.tells ≡ true → IsStill (D.history disk.old) (D.history disk.new) }
-    ensures same { D.same disk.old disk.new }
+    ensures same { D.loans disk.new ≡ D.loans disk.old }
     ensures cause { HasCause (D.faults disk.old) (D.faults disk.new)
         (IsErrOf result QcFault.DiskFault) }
     ensures steady { result ≢ Err QcFault.DiskFault → D.faults disk.new ≡ D.faults disk.old }
@@ -172,11 +172,11 @@ fn put_frame<D: Disk, C: Counter>(
     requires size { length view.now.gates ≡ frames_of job.now }
     requires within { i < frames_of job.now }
     requires piece { length buffers.old.piece.items ≡ 65536 }
-    ensures rows { IfOk result (HasRows (map (λ p. p.kind) probes.now) job.now (D.tells ≡ true) (view_of (D.history disk.old)) (acked_of view.now (i ∷ [])) text.old.items text.new.items) }
+    ensures rows { IfOk result (AddsRow (map (λ p. p.kind) probes.now) job.now view.now i D.tells (D.history disk.old) text.old text.new) }
     ensures few { IfOk result (λ more. more ≤ 1) }
     ensures piece { length buffers.new.piece.items ≡ 65536 }
     ensures still { D.tells ≡ true → IsStill (D.history disk.old) (D.history disk.new) }
-    ensures same { D.same disk.old disk.new }
+    ensures same { D.loans disk.new ≡ D.loans disk.old }
     ensures cause { HasCause (D.faults disk.old) (D.faults disk.new)
         (IsErrOf result QcFault.DiskFault) }
     ensures steady { result ≢ Err QcFault.DiskFault → D.faults disk.new ≡ D.faults disk.old }

@@ -36,8 +36,7 @@ pub(crate) fn pixels_of(job: &Job) -> usize
     ensures count { result ≡ pixel_count job.now }
     ensures most { result ≤ 16777216 }
 {
-    // The bounds of the size are among what holds of every job, which is said of its count.
-    let _ = job.count();
+    job.recall();
     job.width() as usize * job.height() as usize
 }
 
@@ -102,7 +101,7 @@ pub(crate) fn read_frame<D: Disk>(
     ensures most { OnOk result (length buffers.new.words.items ≤ pixel_count job.now) }
     ensures piece { length buffers.new.piece.items ≡ 65536 }
     ensures still { D.tells ≡ true → IsStill (D.history disk.old) (D.history disk.new) }
-    ensures same { D.same disk.old disk.new }
+    ensures same { D.loans disk.new ≡ D.loans disk.old }
     ensures cause { HasCause (D.faults disk.old) (D.faults disk.new)
         (IsErrOf result QcFault.DiskFault) }
     ensures steady { result ≢ Err QcFault.DiskFault → D.faults disk.new ≡ D.faults disk.old }
@@ -133,7 +132,7 @@ fn read_words<D: Disk>(
     ensures size { OnOk result (length out.new.items ≤ length out.old.items + most) }
     ensures piece { length piece.new ≡ 65536 }
     ensures still { D.tells ≡ true → IsStill (D.history disk.old) (D.history disk.new) }
-    ensures same { D.same disk.old disk.new }
+    ensures same { D.loans disk.new ≡ D.loans disk.old }
     ensures cause { HasCause (D.faults disk.old) (D.faults disk.new)
         (IsErrOf result QcFault.DiskFault) }
     ensures steady { result ≢ Err QcFault.DiskFault → D.faults disk.new ≡ D.faults disk.old }
@@ -167,7 +166,7 @@ fn read_piece<D: Disk>(
     ensures size { OnOk result (length out.new.items ≤ length out.old.items + count) }
     ensures piece { length piece.new ≡ 65536 }
     ensures still { D.tells ≡ true → IsStill (D.history disk.old) (D.history disk.new) }
-    ensures same { D.same disk.old disk.new }
+    ensures same { D.loans disk.new ≡ D.loans disk.old }
     ensures cause { HasCause (D.faults disk.old) (D.faults disk.new)
         (IsErrOf result QcFault.DiskFault) }
     ensures steady { result ≢ Err QcFault.DiskFault → D.faults disk.new ≡ D.faults disk.old }

@@ -1,9 +1,9 @@
 //! A check of a reel's files against the ledger's records.
-ghost use Rattle.std.specs.Prelude.{◌≡◌, ◌≢◌, ◌+◌, ◌<◌, ◌≤◌, true, length, IsErrOf, Err};
+ghost use Rattle.std.specs.Prelude.{◌≡◌, ◌≢◌, ◌+◌, ◌<◌, true, length, IsErrOf, Err};
 ghost use Rattle.cf_base.specs.Count.{HasCause};
 ghost use Rattle.scan_source.specs.World.{World};
 ghost use Rattle.reel_disk.specs.Disk.{view_of, IsStill};
-ghost use Rattle.resume_ledger.specs.Look.{hash_at, IsViewOf};
+ghost use Rattle.resume_ledger.specs.Look.{IsViewOf};
 ghost use Rattle.reel_writer.specs.Reel.{frames_of, IsSoundReel};
 ghost use Rattle.reel_writer.specs.Damage.{AreIntact, HasChecked, IsCheckFor, HasCheckedOne, IsCheckOneFor};
 
@@ -55,7 +55,7 @@ pub fn check<D: Disk>(
 
     // The number of records, and which frame is damaged, are known over every disk.
     ensures known { IsCheckFor job.now view.now result }
-    ensures same { D.same disk.old disk.new }
+    ensures same { D.loans disk.new ≡ D.loans disk.old }
     ensures cause { HasCause (D.faults disk.old) (D.faults disk.new)
         (IsErrOf result CheckFault.DiskFault) }
     ensures steady { result ≢ Err CheckFault.DiskFault
@@ -80,7 +80,7 @@ fn check_all<D: Disk>(
         → HasChecked job.now view.now (view_of (D.history disk.old)) result }
     ensures still { D.tells ≡ true → IsStill (D.history disk.old) (D.history disk.new) }
     ensures known { IsCheckFor job.now view.now result }
-    ensures same { D.same disk.old disk.new }
+    ensures same { D.loans disk.new ≡ D.loans disk.old }
     ensures cause { HasCause (D.faults disk.old) (D.faults disk.new)
         (IsErrOf result CheckFault.DiskFault) }
     ensures steady { result ≢ Err CheckFault.DiskFault
@@ -112,7 +112,7 @@ fn check_one<D: Disk>(
     ensures still { D.tells ≡ true → IsStill (D.history disk.old) (D.history disk.new) }
     ensures known { IsCheckOneFor view.now i result }
     ensures piece { length piece.new ≡ 65536 }
-    ensures same { D.same disk.old disk.new }
+    ensures same { D.loans disk.new ≡ D.loans disk.old }
     ensures cause { HasCause (D.faults disk.old) (D.faults disk.new)
         (IsErrOf result CheckFault.DiskFault) }
     ensures steady { result ≢ Err CheckFault.DiskFault

@@ -55,7 +55,7 @@ pub(crate) fn attach_for<D: Disk>(
     ensures spares { D.tells ≡ true
         → Spares (D.history disk.old) (D.history disk.new) IsLedgerFile }
     ensures known { IsAnswerTo job.now.parts.digest (frames_of job.now) result }
-    ensures same { D.same disk.old disk.new }
+    ensures same { D.loans disk.new ≡ D.loans disk.old }
     ensures cause { HasCause (D.faults disk.old) (D.faults disk.new)
         (IsErrOf result OpenFault.DiskFault) }
     ensures steady { result ≢ Err OpenFault.DiskFault → D.faults disk.new ≡ D.faults disk.old }
@@ -71,9 +71,6 @@ pub(crate) fn frame_len(job: &Job) -> u64
     ensures size { result ≡ frame_size job.now }
     ensures each { (sources : Sources) (i : ℕ) → length (frame_file job.now sources i) ≡ frame_size job.now }
 {
-    // What holds of every job, with the bounds of its size, is said of its count, and how long its
-    // title may be, of the title's bytes.
-    let _ = job.count();
-    let _ = job.project().title.bytes();
+    job.recall();
     2048 + 4 * (job.width() as u64 * job.height() as u64)
 }

@@ -1,5 +1,5 @@
 //! The reel of a job.
-ghost use Rattle.std.specs.Prelude.{◌≡◌, ◌≢◌, ℕ, ◌+◌, ◌<◌, ◌++◌, ◌∷◌, [], true, false, Some, Err, length, slice_index_or, vec_len, vec_capacity, OnOk, OnErr, IfOk, IsErr, IsErrOf};
+ghost use Rattle.std.specs.Prelude.{◌≡◌, ◌≢◌, ◌+◌, ◌<◌, ◌++◌, ◌∷◌, [], true, false, Some, Err, length, slice_index_or, vec_len, vec_capacity, OnOk, OnErr, IfOk, IsErr, IsErrOf};
 ghost use Rattle.cf_base.specs.Count.{HasCause};
 ghost use Rattle.conform_job.specs.Job.{file_of};
 ghost use Rattle.reel_disk.specs.Disk.{Files, moment_of, view_of};
@@ -110,7 +110,7 @@ impl<D: Disk, N: Work> Reel<D, N> {
         ensures known { IsAnswerTo N.job.parts.digest (frames_of N.job) (ledger_in result) }
         ensures opening { IfOk result IsOpening }
 
-        ensures same { D.same disk (disk_in result) }
+        ensures same { D.loans (disk_in result) ≡ D.loans disk }
         ensures cause { HasCause (D.faults disk) (D.faults (disk_in result))
             (IsErrOf (ledger_in result) OpenFault.DiskFault) }
         ensures steady { ledger_in result ≢ Err OpenFault.DiskFault
@@ -176,7 +176,7 @@ impl<D: Disk, N: Work> Reel<D, N> {
             ≡ after_finish self.old frame.now.index self.new.disk) }
         ensures closed { OnErr result (self.new ≡ after_fault self.old self.new.disk) }
 
-        ensures same { D.same self.old.disk self.new.disk }
+        ensures same { D.loans self.new.disk ≡ D.loans self.old.disk }
         ensures cause { HasCause (D.faults self.old.disk) (D.faults self.new.disk) (IsErr result) }
         ensures steady { OnOk result (D.faults self.new.disk ≡ D.faults self.old.disk) }
     {

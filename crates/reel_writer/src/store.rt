@@ -47,7 +47,7 @@ pub(crate) fn store<D: Disk>(
     ensures digest { OnErr result (ledger.new.digest ≡ ledger.old.digest) }
     ensures gates { OnErr result (ledger.new.gates ≡ ledger.old.gates) }
 
-    ensures same { D.same disk.old disk.new }
+    ensures same { D.loans disk.new ≡ D.loans disk.old }
     ensures cause { HasCause (D.faults disk.old) (D.faults disk.new) (IsErr result) }
     ensures steady { OnOk result (D.faults disk.new ≡ D.faults disk.old) }
 {

@@ -11,7 +11,7 @@ use Rattle.resume_ledger.specs.declared.layout.Version.{Version}
 use Rattle.resume_ledger.specs.declared.layout.Version.TheVariants.{One, Two}
 use Rattle.resume_ledger.specs.Body.{Layout, layout_of, IsWellFormed, closed_body, digest_of}
 use Rattle.resume_ledger.specs.Ledger.{LedgerState, IsInForce, IsSealed, IsFit, HasRecord, Agrees, Acks}
-use Rattle.resume_ledger.specs.Sound.{HasSize}
+use Rattle.resume_ledger.specs.Sound.{HasSize, file_at}
 use Rattle.resume_ledger.specs.declared.attach.OpenFault.{OpenFault}
 use Rattle.resume_ledger.specs.declared.attach.OpenFault.TheVariants.{OtherJob, BadLedger, DiskFault, NoMemory}
 
@@ -87,6 +87,14 @@ IsRefused digest count old new NoMemory = IsUnwritten old new
 abbrev pub HasAttached : List ℕ → ℕ → (ℕ → FileId) → ℕ → History → History → Result LedgerState OpenFault → Type 0
 HasAttached digest count name size old new (Ok ledger) = IsOpened digest count name size (view_of old) new ledger
 HasAttached digest count name size old new (Err fault) = IsRefused digest count old new fault
+
+-- the same, of the files of the frames in their order
+abbrev pub HasAttachedTo : List ℕ → List FileId → ℕ → History → History → Result LedgerState OpenFault → Type 0
+HasAttachedTo digest files size old new result = HasAttached digest (length files) (file_at files) size old new result
+
+-- the same, whatever files the frames have, as where version 2 counts
+abbrev pub HasAttachedSecond : List ℕ → ℕ → History → History → Result LedgerState OpenFault → Type 0
+HasAttachedSecond digest count old new result = (name : ℕ → FileId) (size : ℕ) → HasAttached digest count name size old new result
 
 -- What a refusal says of the job, also over a disk that does not tell.
 abbrev pub IsRefusalFor : List ℕ → OpenFault → Type 0

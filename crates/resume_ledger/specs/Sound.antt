@@ -5,9 +5,9 @@ use Rattle.cf_base.specs.declared.file.FileId.TheVariants.{Frame, Seal}
 use Rattle.sha2.specs.Sha256.{sha256}
 use Rattle.reel_disk.specs.declared.disk.Place.{Place}
 use Rattle.reel_disk.specs.Disk.{Files, Moment, IsImage, IsFirm, IsLoose, file_of, History, moment_of, view_of, loose_of}
-use Rattle.reel_disk.specs.Runs.{Extends, LeavesOnly, Surely, NeverForgets}
+use Rattle.reel_disk.specs.Runs.{Extends, LeavesOnly, Narrows, Surely, NeverForgets}
 use Rattle.resume_ledger.specs.declared.layout.Version.TheVariants.{One, Two}
-use Rattle.resume_ledger.specs.Ledger.{IsInForce, Acks, IsFit, HasRecord}
+use Rattle.resume_ledger.specs.Ledger.{IsInForce, LedgerState, Acks, IsFit, HasRecord}
 
 -- for each frame a file and its bytes
 abbrev pub Reel : Type 0
@@ -71,6 +71,20 @@ AddsNothing digest count old new = (k : ℕ) → LeavesOnly old new (λ files. A
 abbrev pub AddsAtMost : ℕ → List ℕ → ℕ → History → History → Type 0
 AddsAtMost i digest count old new = (k : ℕ) → k ≢ i → LeavesOnly old new (λ files. Acks digest count k files ↔ Acks digest count k (view_of old))
 
+-- The same of a ledger's job: no acknowledgement is lost; none is made; none but that of frame i is made; and a crash now leaves
+-- frame i acknowledged.
+abbrev pub LosesNone : LedgerState → History → History → Type 0
+LosesNone ledger old new = KeepsAcks ledger.digest (length ledger.gates) old new
+
+abbrev pub OpensNone : LedgerState → History → History → Type 0
+OpensNone ledger old new = AddsNothing ledger.digest (length ledger.gates) old new
+
+abbrev pub OpensAtMost : ℕ → LedgerState → History → History → Type 0
+OpensAtMost i ledger old new = AddsAtMost i ledger.digest (length ledger.gates) old new
+
+abbrev pub SurelyAcks : ℕ → LedgerState → History → Type 0
+SurelyAcks i ledger new = Surely (moment_of new) (Acks ledger.digest (length ledger.gates) i)
+
 -- The rest is said of an opening, which may take over a folder of version 1.
 
 -- the file of frame i among these
@@ -99,6 +113,14 @@ pub record IsOpeningRun (digest : List ℕ) (count : ℕ) (name : ℕ → FileId
   pub extends : Extends old new
   pub sound : (reel : Reel) → IsNamed count name reel → StaysSound digest count reel old new
   pub keeps : HasItsFiles digest count name size (view_of old) → KeepsAcks digest count old new
+
+-- the same, of the files of the frames in their order
+abbrev pub IsOpeningRunOf : List ℕ → List FileId → ℕ → History → History → Type 0
+IsOpeningRunOf digest files size old new = IsOpeningRun digest (length files) (file_at files) size old new
+
+-- where version 2 counts, nothing is written
+abbrev pub OnlyReadsSecond : History → History → Type 0
+OnlyReadsSecond old new = IsInForce Two (view_of old) → Narrows old new
 
 -- No file was written but those that are `Mine`: any other of which nothing was loose is as it was, and no place of another
 -- became loose.

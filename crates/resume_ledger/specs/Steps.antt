@@ -1,17 +1,17 @@
 -- What is said of parts of the ledger's calls.
-use Rattle.std.specs.Prelude.{◌≡◌, ◌≢◌, ◌↔◌, ℕ, ◌<◌, ◌≤◌, Bool, true, false, List, length, take, slice_index, slice_index_or, Option, Some, None, Result, Ok, Err, Vec}
+use Rattle.std.specs.Prelude.{◌≡◌, ◌≢◌, ◌↔◌, ℕ, ◌<◌, ◌≤◌, Bool, true, false, List, [], ◌∷◌, length, take, slice_index, slice_index_or, Option, Some, None, Result, Ok, Err, Vec}
 use Rattle.std.specs.declared.alloc.Global.{Global}
 use Rattle.cf_base.specs.declared.file.FileId.{FileId}
-use Rattle.cf_base.specs.declared.file.FileId.TheVariants.{Seal, Seal2}
+use Rattle.cf_base.specs.declared.file.FileId.TheVariants.{Seal, Seal2, Body2}
 use Rattle.sha2.specs.Sha256.{sha256}
 use Rattle.reel_disk.specs.declared.disk.Place.{Place}
-use Rattle.reel_disk.specs.Disk.{Files, Moment, History, moment_of, view_of, loose_of, IsFirm, SameBut}
-use Rattle.reel_disk.specs.Runs.{Loosens, Narrows, Spares}
+use Rattle.reel_disk.specs.Disk.{Files, Moment, History, moment_of, view_of, loose_of, IsFirm, SameBut, with_range}
+use Rattle.reel_disk.specs.Runs.{Loosens, Narrows, Spares, StaysFirm}
 use Rattle.resume_ledger.specs.declared.layout.Version.{Version}
 use Rattle.resume_ledger.specs.declared.layout.Version.TheVariants.{One, Two}
-use Rattle.resume_ledger.specs.Body.{Layout, layout_of, IsOwn, closed_body, record_of}
+use Rattle.resume_ledger.specs.Body.{Layout, layout_of, IsOwn, closed_body, record_of, record_place}
 use Rattle.resume_ledger.specs.Ledger.{IsLedgerFile, IsWrittenLedgerFile, IsInForce, IsSealed, HasOwn, IsFit, AreFlagsOf, AreGatesOf}
-use Rattle.resume_ledger.specs.Sound.{HasSize, AddsNone, IsOpeningRun, WritesOnly}
+use Rattle.resume_ledger.specs.Sound.{HasSize, file_at, AddsNone, IsOpeningRun, WritesOnly}
 use Rattle.resume_ledger.specs.Attach.{IsKept, IsOthers, IsBad, IsRefused, IsRefusalFor, size_of}
 use Rattle.resume_ledger.specs.declared.attach.OpenFault.{OpenFault}
 use Rattle.resume_ledger.specs.declared.attach.OpenFault.TheVariants.{OtherJob, BadLedger, DiskFault, NoMemory}
@@ -27,7 +27,18 @@ pub record IsFirmly (old new : History) (id : FileId) (content : Option (List �
   pub there : view_of new id ≡ content
   pub same : SameBut id (view_of old) (view_of new)
   pub firm : IsFirm (loose_of new) id
-  pub others : (q : FileId) → IsFirm (loose_of old) q → IsFirm (loose_of new) q
+  pub others : StaysFirm old new
+
+-- these bytes stand over a file's from a place on, and a crash keeps them so
+abbrev pub IsPatchedFirmly : History → History → FileId → ℕ → List ℕ → Type 0
+IsPatchedFirmly old new id start bytes = IsFirmly old new id (with_range (view_of old id) start bytes)
+
+-- the body of version 2 has this record of frame i, and its gate is open
+abbrev pub HasWrittenRecord : ℕ → List ℕ → History → History → Type 0
+HasWrittenRecord i hash old new = view_of new Body2 ≡ with_range (view_of old Body2) (record_place i) hash
+
+abbrev pub HasWrittenGate : ℕ → History → History → Type 0
+HasWrittenGate i old new = view_of new Body2 ≡ with_range (view_of old Body2) ((layout_of Two).gate i) (65 ∷ [])
 
 -- calls that sync the ledger's files and read any
 pub record IsReading (old new : History) : Type 0 where
@@ -39,7 +50,11 @@ pub record IsReading (old new : History) : Type 0 where
 pub record IsReadFirmly (id : FileId) (old new : History) : Type 0 where
   pub view : view_of new ≡ view_of old
   pub firm : IsFirm (loose_of new) id
-  pub others : (q : FileId) → IsFirm (loose_of old) q → IsFirm (loose_of new) q
+  pub others : StaysFirm old new
+
+-- the body of a version was read, after a sync of it
+abbrev pub ReadsBody : Version → History → History → Type 0
+ReadsBody version old new = IsReadFirmly (layout_of version).body old new
 
 -- what a read of a body finds
 abbrev pub HasBody : Layout → Option (List ℕ) → Result (Vec ℕ Global) OpenFault → Type 0
@@ -110,6 +125,10 @@ abbrev pub HasFirstBody : List ℕ → ℕ → (ℕ → FileId) → ℕ → Hist
 HasFirstBody digest count name size old new (Ok body) = IsReadyFor digest count name size old new body.items
 HasFirstBody digest count name size old new (Err fault) = IsRefused digest count old new fault
 
+-- the same, of the files of the frames in their order
+abbrev pub HasFirstBodyOf : List ℕ → List FileId → ℕ → History → History → Result (Vec ℕ Global) OpenFault → Type 0
+HasFirstBodyOf digest files size old new result = HasFirstBody digest (length files) (file_at files) size old new result
+
 abbrev pub IsFirstFor : List ℕ → ℕ → Result (Vec ℕ Global) OpenFault → Type 0
 IsFirstFor digest count (Ok body) = length body.items ≡ (layout_of Two).size count
 IsFirstFor digest count (Err fault) = IsRefusalFor digest fault
@@ -131,6 +150,10 @@ pub record AreRecorded (gates : List Bool) (count : ℕ) (name : ℕ → FileId)
   pub head : take 64 new ≡ take 64 old
   pub each : (i : ℕ) → i < count → IsRecorded (slice_index_or gates i false) (view (name i)) size new i
 
+-- the same, of the files of the frames in their order
+abbrev pub AreNoted : List Bool → List FileId → ℕ → History → (old new : List ℕ) → Type 0
+AreNoted gates files size history old new = AreRecorded gates (length files) (file_at files) size (view_of history) old new
+
 -- version 2 is in force, with this body, and a crash keeps it so
 pub record IsBegun (body : List ℕ) (moment : Moment) : Type 0 where
   pub sealed : IsInForce Two moment.view
@@ -149,3 +172,7 @@ pub record IsOpeningPart (digest : List ℕ) (count : ℕ) (name : ℕ → FileI
   pub adds_none : AddsNone digest count old new
   pub spares : Spares old new IsLedgerFile
   pub writes : WritesOnly old new IsWrittenLedgerFile
+
+-- the same, of the files of the frames in their order
+abbrev pub IsOpeningPartOf : List ℕ → List FileId → ℕ → History → History → Type 0
+IsOpeningPartOf digest files size old new = IsOpeningPart digest (length files) (file_at files) size old new

@@ -1,11 +1,10 @@
 //! Opening a reel's folder for a job.
 ghost use Rattle.std.specs.Prelude.{◌≡◌, ◌≢◌, ◌<◌, ◌≤◌, ℕ, true, length, IsErrOf, Err};
 ghost use Rattle.cf_base.specs.Count.{HasCause};
-ghost use Rattle.reel_disk.specs.Disk.{view_of};
-ghost use Rattle.reel_disk.specs.Runs.{Narrows, Spares};
-ghost use Rattle.resume_ledger.specs.Ledger.{IsInForce, IsLedgerFile, IsWrittenLedgerFile};
-ghost use Rattle.resume_ledger.specs.Sound.{IsFrameFile, file_at, IsOpeningRun, AddsNone, WritesOnly};
-ghost use Rattle.resume_ledger.specs.Attach.{HasAttached, IsAnswerTo};
+ghost use Rattle.reel_disk.specs.Runs.{Spares};
+ghost use Rattle.resume_ledger.specs.Ledger.{IsLedgerFile, IsWrittenLedgerFile};
+ghost use Rattle.resume_ledger.specs.Sound.{IsFrameFile, file_at, IsOpeningRunOf, AddsNone, OnlyReadsSecond, WritesOnly};
+ghost use Rattle.resume_ledger.specs.Attach.{HasAttachedTo, IsAnswerTo};
 
 use crate::Ledger;
 use crate::layout::Version;
@@ -55,22 +54,22 @@ impl Ledger {
         requires frames { (i : ℕ) → i < length files.now → IsFrameFile (file_at files.now i) }
 
         // By the view at the start: which answer comes, and what the disk holds then.
-        ensures answer { D.tells ≡ true → HasAttached digest (length files.now) (file_at files.now) size (D.history disk.old) (D.history disk.new) result }
+        ensures answer { D.tells ≡ true → HasAttachedTo digest files.now size (D.history disk.old) (D.history disk.new) result }
 
         // A crash at any moment of the call leaves a folder whose acknowledged frames are the reel's. No acknowledgement is
         // lost, where each frame that version 1 acknowledges has a file of a frame's length; and none is made.
-        ensures run { D.tells ≡ true → IsOpeningRun digest (length files.now) (file_at files.now) size (D.history disk.old) (D.history disk.new) }
+        ensures run { D.tells ≡ true → IsOpeningRunOf digest files.now size (D.history disk.old) (D.history disk.new) }
         ensures adds_none { D.tells ≡ true → AddsNone digest (length files.now) (D.history disk.old) (D.history disk.new) }
 
         // In a folder of version 2 nothing is written, whatever the answer is, in any other no file but those of version 2,
         // and in no folder is a file changed that isn't the ledger's.
-        ensures only_reads { D.tells ≡ true → IsInForce Version.Two (view_of (D.history disk.old)) → Narrows (D.history disk.old) (D.history disk.new) }
+        ensures only_reads { D.tells ≡ true → OnlyReadsSecond (D.history disk.old) (D.history disk.new) }
         ensures writes { D.tells ≡ true → WritesOnly (D.history disk.old) (D.history disk.new) IsWrittenLedgerFile }
         ensures spares { D.tells ≡ true → Spares (D.history disk.old) (D.history disk.new) IsLedgerFile }
 
         // The job's digest, the size of the ledger and that it is open are known over every disk.
         ensures known { IsAnswerTo digest (length files.now) result }
-        ensures same { D.same disk.old disk.new }
+        ensures same { D.loans disk.new ≡ D.loans disk.old }
         ensures cause { HasCause (D.faults disk.old) (D.faults disk.new) (IsErrOf result OpenFault.DiskFault) }
         ensures steady { result ≢ Err OpenFault.DiskFault → D.faults disk.new ≡ D.faults disk.old }
     {

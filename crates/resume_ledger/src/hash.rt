@@ -1,5 +1,5 @@
 //! The SHA-256 of a file of a reel folder, read in pieces.
-ghost use Rattle.std.specs.Prelude.{◌≡◌, ◌≤◌, true, length, IfOk, OnOk, IsErr};
+ghost use Rattle.std.specs.Prelude.{◌≡◌, true, length, IfOk, OnOk, IsErr};
 ghost use Rattle.cf_base.specs.Count.{HasCause};
 ghost use Rattle.reel_disk.specs.Disk.{view_of, IsStill};
 ghost use Rattle.resume_ledger.specs.Sound.{HasSize};
@@ -23,7 +23,7 @@ pub fn hash_of_file<D: Disk>(
     ensures still { D.tells ≡ true → IsStill (D.history disk.old) (D.history disk.new) }
     ensures hash { IfOk result (λ hash. D.tells ≡ true → IsHashOf (view_of (D.history disk.old) id) size hash) }
     ensures piece { length piece.new ≡ 65536 }
-    ensures same { D.same disk.old disk.new }
+    ensures same { D.loans disk.new ≡ D.loans disk.old }
     ensures cause { HasCause (D.faults disk.old) (D.faults disk.new) (IsErr result) }
     ensures steady { OnOk result (D.faults disk.new ≡ D.faults disk.old) }
 {
@@ -47,7 +47,7 @@ pub fn digest_of_file<D: Disk>(
     ensures still { D.tells ≡ true → IsStill (D.history disk.old) (D.history disk.new) }
     ensures digest { IfOk result (λ digest. D.tells ≡ true → digest ≡ digest_of_file (view_of (D.history disk.old) id)) }
     ensures piece { length piece.new ≡ 65536 }
-    ensures same { D.same disk.old disk.new }
+    ensures same { D.loans disk.new ≡ D.loans disk.old }
     ensures cause { HasCause (D.faults disk.old) (D.faults disk.new) (IsErr result) }
     ensures steady { OnOk result (D.faults disk.new ≡ D.faults disk.old) }
 {
@@ -75,7 +75,7 @@ fn read_pieces<D: Disk>(
     ensures still { D.tells ≡ true → IsStill (D.history disk.old) (D.history disk.new) }
     ensures hash { IfOk result (λ hash. D.tells ≡ true → IsHashOf (view_of (D.history disk.old) id) size hash) }
     ensures piece { length piece.new ≡ 65536 }
-    ensures same { D.same disk.old disk.new }
+    ensures same { D.loans disk.new ≡ D.loans disk.old }
     ensures cause { HasCause (D.faults disk.old) (D.faults disk.new) (IsErr result) }
     ensures steady { OnOk result (D.faults disk.new ≡ D.faults disk.old) }
 {

@@ -1,6 +1,6 @@
 //! The two versions of the ledger, and what they differ in.
-ghost use Rattle.std.specs.Prelude.{◌≡◌, ◌≤◌, ℕ, IfSome, MatchOption};
-ghost use Rattle.resume_ledger.specs.Body.{layout_of};
+ghost use Rattle.std.specs.Prelude.{◌≡◌, ◌≤◌, IfSome};
+ghost use Rattle.resume_ledger.specs.Body.{IsCountFor, layout_of};
 
 use cf_base::FileId;
 
@@ -77,7 +77,7 @@ impl Version {
     /// How many frames a body of that many bytes is for.
     pub(crate) fn frames(self, len: usize) -> Option<u32>
         requires { len ≤ (layout_of self).most }
-        ensures exact { MatchOption result ((frames : ℕ) → len ≡ (layout_of self).size frames → ⊥) (λ frames. len ≡ (layout_of self).size frames) }
+        ensures exact { IsCountFor (layout_of self) len result }
         ensures behind { IfSome result (λ frames. 64 ≤ len) }
     {
         if len < 64 {

@@ -1,14 +1,14 @@
 //! The ledger of a job: one gate for each frame.
-ghost use Rattle.std.specs.Prelude.{◌≡◌, ◌<◌, ◌≤◌, ℕ, [], ◌∷◌, true, false, length, set, slice_index_or, OnOk, OnErr, IsErr, count_by};
+ghost use Rattle.std.specs.Prelude.{◌≡◌, ◌<◌, ◌≤◌, true, false, length, set, slice_index_or, OnOk, OnErr, IsErr, count_by};
 ghost use Rattle.cf_base.specs.Count.{HasCause};
 ghost use Rattle.cf_base.specs.declared.file.FileId.{FileId as Id};
 ghost use Rattle.cf_base.specs.declared.file.FileId.TheVariants.{Body2};
-ghost use Rattle.reel_disk.specs.Disk.{moment_of, view_of, loose_of, IsFirm, with_range};
-ghost use Rattle.reel_disk.specs.Runs.{Extends, Surely, Spares};
+ghost use Rattle.reel_disk.specs.Disk.{moment_of, view_of};
+ghost use Rattle.reel_disk.specs.Runs.{Extends, Spares, StaysFirm};
 ghost use Rattle.resume_ledger.specs.declared.layout.Version.TheVariants.{Two};
-ghost use Rattle.resume_ledger.specs.Body.{layout_of, record_place};
-ghost use Rattle.resume_ledger.specs.Ledger.{Acks, Agrees, IsLedger, HasRecord};
-ghost use Rattle.resume_ledger.specs.Sound.{Reel, IsReel, IsStored, IsRun, KeepsAcks, AddsNothing, AddsAtMost};
+ghost use Rattle.resume_ledger.specs.Ledger.{Agrees, IsLedger, HasRecord};
+ghost use Rattle.resume_ledger.specs.Sound.{Reel, IsReel, IsStored, IsRun, LosesNone, OpensNone, OpensAtMost, SurelyAcks};
+ghost use Rattle.resume_ledger.specs.Steps.{HasWrittenGate, HasWrittenRecord};
 
 use crate::body::OPEN;
 use crate::layout::Version;
@@ -90,20 +90,20 @@ impl Ledger {
         // no acknowledgement is lost, whatever the reel is.
         ensures run { D.tells ≡ true → (reel : Reel) → IsReel (length self.old.gates) reel
             → IsRun self.old.digest (length self.old.gates) reel (D.history disk.old) (D.history disk.new) }
-        ensures none_lost { D.tells ≡ true → KeepsAcks self.old.digest (length self.old.gates) (D.history disk.old) (D.history disk.new) }
+        ensures none_lost { D.tells ≡ true → LosesNone self.old (D.history disk.old) (D.history disk.new) }
 
         // No frame is acknowledged, and no file but the second body is written, also after a fault.
-        ensures others { D.tells ≡ true → AddsNothing self.old.digest (length self.old.gates) (D.history disk.old) (D.history disk.new) }
+        ensures others { D.tells ≡ true → OpensNone self.old (D.history disk.old) (D.history disk.new) }
         ensures spares { D.tells ≡ true → Spares (D.history disk.old) (D.history disk.new) (λ q. q ≡ Body2) }
 
         ensures noted { OnOk result (D.tells ≡ true → HasRecord i hash (view_of (D.history disk.new))) }
-        ensures firm { OnOk result (D.tells ≡ true → (q : Id) → IsFirm (loose_of (D.history disk.old)) q → IsFirm (loose_of (D.history disk.new)) q) }
-        ensures written { OnOk result (D.tells ≡ true → view_of (D.history disk.new) Body2 ≡ with_range (view_of (D.history disk.old) Body2) (record_place i) hash) }
+        ensures firm { OnOk result (D.tells ≡ true → StaysFirm (D.history disk.old) (D.history disk.new)) }
+        ensures written { OnOk result (D.tells ≡ true → HasWrittenRecord i hash (D.history disk.old) (D.history disk.new)) }
         ensures agrees { OnOk result (D.tells ≡ true → Agrees (moment_of (D.history disk.new)) self.new) }
         ensures ledger { OnOk result (self.new ≡ self.old) }
         ensures closed { OnErr result (self.new ≡ record self.old { closed = true }) }
 
-        ensures same { D.same disk.old disk.new }
+        ensures same { D.loans disk.new ≡ D.loans disk.old }
         ensures cause { HasCause (D.faults disk.old) (D.faults disk.new) (IsErr result) }
         ensures steady { OnOk result (D.faults disk.new ≡ D.faults disk.old) }
     {
@@ -134,19 +134,19 @@ impl Ledger {
             → IsRun self.old.digest (length self.old.gates) reel (D.history disk.old) (D.history disk.new) }
 
         // No acknowledgement is lost, whatever the reel is.
-        ensures none_lost { D.tells ≡ true → KeepsAcks self.old.digest (length self.old.gates) (D.history disk.old) (D.history disk.new) }
+        ensures none_lost { D.tells ≡ true → LosesNone self.old (D.history disk.old) (D.history disk.new) }
 
         // All other frames stay as they were, also after a fault.
-        ensures others { D.tells ≡ true → AddsAtMost i self.old.digest (length self.old.gates) (D.history disk.old) (D.history disk.new) }
+        ensures others { D.tells ≡ true → OpensAtMost i self.old (D.history disk.old) (D.history disk.new) }
         ensures spares { D.tells ≡ true → Spares (D.history disk.old) (D.history disk.new) (λ q. q ≡ Body2) }
 
-        ensures acked { OnOk result (D.tells ≡ true → Surely (moment_of (D.history disk.new)) (Acks self.old.digest (length self.old.gates) i)) }
-        ensures written { OnOk result (D.tells ≡ true → view_of (D.history disk.new) Body2 ≡ with_range (view_of (D.history disk.old) Body2) ((layout_of Two).gate i) (65 ∷ [])) }
+        ensures acked { OnOk result (D.tells ≡ true → SurelyAcks i self.old (D.history disk.new)) }
+        ensures written { OnOk result (D.tells ≡ true → HasWrittenGate i (D.history disk.old) (D.history disk.new)) }
         ensures agrees { OnOk result (D.tells ≡ true → Agrees (moment_of (D.history disk.new)) self.new) }
         ensures ledger { OnOk result (self.new ≡ record self.old { gates = set self.old.gates i true }) }
         ensures closed { OnErr result (self.new ≡ record self.old { closed = true }) }
 
-        ensures same { D.same disk.old disk.new }
+        ensures same { D.loans disk.new ≡ D.loans disk.old }
         ensures cause { HasCause (D.faults disk.old) (D.faults disk.new) (IsErr result) }
         ensures steady { OnOk result (D.faults disk.new ≡ D.faults disk.old) }
     {

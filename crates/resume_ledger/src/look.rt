@@ -96,7 +96,7 @@ impl Ledger {
 
         // The job's digest and the number of frames are known over every disk.
         ensures known { IsLookFor digest count result }
-        ensures same { D.same disk.old disk.new }
+        ensures same { D.loans disk.new ≡ D.loans disk.old }
         ensures cause { HasCause (D.faults disk.old) (D.faults disk.new) (IsErrOf result OpenFault.DiskFault) }
         ensures steady { result ≢ Err OpenFault.DiskFault → D.faults disk.new ≡ D.faults disk.old }
     {
@@ -127,7 +127,7 @@ impl Ledger {
 
         // The job's digest and the size of the ledger are known over every disk.
         ensures known { IsPeekFor digest count result }
-        ensures same { D.same disk.old disk.new }
+        ensures same { D.loans disk.new ≡ D.loans disk.old }
         ensures cause { HasCause (D.faults disk.old) (D.faults disk.new) (IsErrOf result OpenFault.DiskFault) }
         ensures steady { result ≢ Err OpenFault.DiskFault → D.faults disk.new ≡ D.faults disk.old }
     {
@@ -151,7 +151,7 @@ fn look_sealed<D: Disk>(
     ensures answer { D.tells ≡ true → HasLooked digest count (D.history disk.old) (D.history disk.new) result }
     ensures still { D.tells ≡ true → IsStill (D.history disk.old) (D.history disk.new) }
     ensures known { IsLookFor digest count result }
-    ensures same { D.same disk.old disk.new }
+    ensures same { D.loans disk.new ≡ D.loans disk.old }
     ensures cause { HasCause (D.faults disk.old) (D.faults disk.new) (IsErrOf result OpenFault.DiskFault) }
     ensures steady { result ≢ Err OpenFault.DiskFault → D.faults disk.new ≡ D.faults disk.old }
 {

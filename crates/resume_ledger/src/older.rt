@@ -1,14 +1,13 @@
 //! Opening a folder that is not sealed by version 2: an unsealed one, or one of version 1, which is taken over.
-ghost use Rattle.std.specs.Prelude.{◌≡◌, ◌≢◌, ◌+◌, ◌*◌, ◌<◌, ◌≤◌, ℕ, List, true, length, slice_index, slice_index_or, OnOk, IsErr, IsErrOf, Err};
+ghost use Rattle.std.specs.Prelude.{◌≡◌, ◌≢◌, ◌+◌, ◌*◌, ◌<◌, ◌≤◌, ℕ, List, true, length, slice_index, OnOk, IsErr, IsErrOf, Err};
 ghost use Rattle.cf_base.specs.Count.{HasCause};
 ghost use Rattle.cf_base.specs.declared.file.FileId.{FileId as Id};
 ghost use Rattle.reel_disk.specs.Disk.{view_of, moment_of, loose_of, IsFirm, IsStill};
-ghost use Rattle.reel_disk.specs.Runs.{Spares};
-ghost use Rattle.resume_ledger.specs.Body.{layout_of, closed_body};
-ghost use Rattle.resume_ledger.specs.Ledger.{IsInForce, IsWrittenLedgerFile};
+ghost use Rattle.resume_ledger.specs.Body.{closed_body};
+ghost use Rattle.resume_ledger.specs.Ledger.{IsInForce};
 ghost use Rattle.resume_ledger.specs.Sound.{IsFrameFile, file_at};
-ghost use Rattle.resume_ledger.specs.Attach.{HasAttached, IsAnswerTo};
-ghost use Rattle.resume_ledger.specs.Steps.{IsReading, IsOlder, IsFirstBody, HasAcked, IsAckedFor, HasFirstBody, IsFirstFor, IsRecorded, OthersKept, AreRecorded, IsOpeningPart, IsBegun};
+ghost use Rattle.resume_ledger.specs.Attach.{HasAttachedTo, IsAnswerTo};
+ghost use Rattle.resume_ledger.specs.Steps.{IsReading, IsOlder, IsFirstBody, HasAcked, IsAckedFor, HasFirstBodyOf, IsFirstFor, IsRecorded, OthersKept, AreNoted, IsOpeningPart, IsOpeningPartOf, IsBegun};
 
 use crate::body::{closed, gates, judge, set_record};
 use crate::hash::hash_of_file;
@@ -33,10 +32,10 @@ pub(crate) fn open_older<D: Disk>(
     requires frames { (i : ℕ) → i < length files.now → IsFrameFile (file_at files.now i) }
     requires unsealed { D.tells ≡ true → IsInForce Version.Two (view_of (D.history disk.old)) → ⊥ }
     requires firm { D.tells ≡ true → IsFirm (loose_of (D.history disk.old)) FileId.Seal2 }
-    ensures part { D.tells ≡ true → IsOpeningPart digest (length files.now) (file_at files.now) size (D.history disk.old) (D.history disk.new) }
-    ensures answer { D.tells ≡ true → HasAttached digest (length files.now) (file_at files.now) size (D.history disk.old) (D.history disk.new) result }
+    ensures part { D.tells ≡ true → IsOpeningPartOf digest files.now size (D.history disk.old) (D.history disk.new) }
+    ensures answer { D.tells ≡ true → HasAttachedTo digest files.now size (D.history disk.old) (D.history disk.new) result }
     ensures known { IsAnswerTo digest (length files.now) result }
-    ensures same { D.same disk.old disk.new }
+    ensures same { D.loans disk.new ≡ D.loans disk.old }
     ensures cause { HasCause (D.faults disk.old) (D.faults disk.new) (IsErrOf result OpenFault.DiskFault) }
     ensures steady { result ≢ Err OpenFault.DiskFault → D.faults disk.new ≡ D.faults disk.old }
 {
@@ -67,9 +66,9 @@ fn first_body<D: Disk>(
     requires unsealed { D.tells ≡ true → IsInForce Version.Two (view_of (D.history disk.old)) → ⊥ }
     requires firm { D.tells ≡ true → IsFirm (loose_of (D.history disk.old)) FileId.Seal2 }
     ensures reading { D.tells ≡ true → IsReading (D.history disk.old) (D.history disk.new) }
-    ensures body { D.tells ≡ true → HasFirstBody digest (length files.now) (file_at files.now) size (D.history disk.old) (D.history disk.new) result }
+    ensures body { D.tells ≡ true → HasFirstBodyOf digest files.now size (D.history disk.old) (D.history disk.new) result }
     ensures known { IsFirstFor digest (length files.now) result }
-    ensures same { D.same disk.old disk.new }
+    ensures same { D.loans disk.new ≡ D.loans disk.old }
     ensures cause { HasCause (D.faults disk.old) (D.faults disk.new) (IsErrOf result OpenFault.DiskFault) }
     ensures steady { result ≢ Err OpenFault.DiskFault → D.faults disk.new ≡ D.faults disk.old }
 {
@@ -100,9 +99,9 @@ fn taken_body<D: Disk>(
     requires firm { D.tells ≡ true → IsFirm (loose_of (D.history disk.old)) FileId.Seal2 }
     requires firm_first { D.tells ≡ true → IsFirm (loose_of (D.history disk.old)) FileId.Seal }
     ensures reading { D.tells ≡ true → IsReading (D.history disk.old) (D.history disk.new) }
-    ensures body { D.tells ≡ true → HasFirstBody digest (length files.now) (file_at files.now) size (D.history disk.old) (D.history disk.new) result }
+    ensures body { D.tells ≡ true → HasFirstBodyOf digest files.now size (D.history disk.old) (D.history disk.new) result }
     ensures known { IsFirstFor digest (length files.now) result }
-    ensures same { D.same disk.old disk.new }
+    ensures same { D.loans disk.new ≡ D.loans disk.old }
     ensures cause { HasCause (D.faults disk.old) (D.faults disk.new) (IsErrOf result OpenFault.DiskFault) }
     ensures steady { result ≢ Err OpenFault.DiskFault → D.faults disk.new ≡ D.faults disk.old }
 {
@@ -132,7 +131,7 @@ fn acked_before<D: Disk>(
     ensures reading { D.tells ≡ true → IsReading (D.history disk.old) (D.history disk.new) }
     ensures acked { D.tells ≡ true → HasAcked digest count (D.history disk.old) (D.history disk.new) result }
     ensures known { IsAckedFor digest count result }
-    ensures same { D.same disk.old disk.new }
+    ensures same { D.loans disk.new ≡ D.loans disk.old }
     ensures cause { HasCause (D.faults disk.old) (D.faults disk.new) (IsErrOf result OpenFault.DiskFault) }
     ensures steady { result ≢ Err OpenFault.DiskFault → D.faults disk.new ≡ D.faults disk.old }
 {
@@ -160,7 +159,7 @@ fn record_one<D: Disk>(
     ensures recorded { OnOk result (D.tells ≡ true → IsRecorded was_open (view_of (D.history disk.old) id) size body.new i) }
     ensures others { OthersKept body.old body.new i }
     ensures piece { length piece.new ≡ 65536 }
-    ensures same { D.same disk.old disk.new }
+    ensures same { D.loans disk.new ≡ D.loans disk.old }
     ensures cause { HasCause (D.faults disk.old) (D.faults disk.new) (IsErr result) }
     ensures steady { OnOk result (D.faults disk.new ≡ D.faults disk.old) }
 {
@@ -193,8 +192,8 @@ fn record_all<D: Disk>(
     requires closed { (k : ℕ) → k < length files.now → slice_index body.old (64 + 33 * k) ≢ 65 }
     ensures still { D.tells ≡ true → IsStill (D.history disk.old) (D.history disk.new) }
     ensures size { length body.new ≡ length body.old }
-    ensures recorded { OnOk result (D.tells ≡ true → AreRecorded gates.now (length files.now) (file_at files.now) size (view_of (D.history disk.old)) body.old body.new) }
-    ensures same { D.same disk.old disk.new }
+    ensures recorded { OnOk result (D.tells ≡ true → AreNoted gates.now files.now size (D.history disk.old) body.old body.new) }
+    ensures same { D.loans disk.new ≡ D.loans disk.old }
     ensures cause { HasCause (D.faults disk.old) (D.faults disk.new) (IsErr result) }
     ensures steady { OnOk result (D.faults disk.new ≡ D.faults disk.old) }
 {
@@ -215,7 +214,7 @@ fn begin_second<D: Disk>(disk: &mut D, body: &[u8]) -> Result<(), DiskFault>
         → IsFirstBody digest count name size (view_of (D.history disk.old)) body.now
         → IsOpeningPart digest count name size (D.history disk.old) (D.history disk.new) }
     ensures begun { OnOk result (D.tells ≡ true → IsBegun body.now (moment_of (D.history disk.new))) }
-    ensures same { D.same disk.old disk.new }
+    ensures same { D.loans disk.new ≡ D.loans disk.old }
     ensures cause { HasCause (D.faults disk.old) (D.faults disk.new) (IsErr result) }
     ensures steady { OnOk result (D.faults disk.new ≡ D.faults disk.old) }
 {

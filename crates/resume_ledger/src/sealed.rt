@@ -1,11 +1,11 @@
 //! Reading the files of a ledger.
-ghost use Rattle.std.specs.Prelude.{◌≡◌, ◌≢◌, ◌↔◌, ◌≤◌, true, length, IfOk, OnOk, IsErr, IsErrOf, Err};
+ghost use Rattle.std.specs.Prelude.{◌≡◌, ◌≢◌, ◌↔◌, ◌≤◌, true, IfOk, OnOk, IsErr, IsErrOf, Err};
 ghost use Rattle.cf_base.specs.Count.{HasCause};
 ghost use Rattle.reel_disk.specs.Disk.{view_of, loose_of, IsFirm, IsStill};
 ghost use Rattle.resume_ledger.specs.Body.{layout_of};
 ghost use Rattle.resume_ledger.specs.Ledger.{HasSeal, IsInForce};
 ghost use Rattle.resume_ledger.specs.Attach.{IsAnswerTo};
-ghost use Rattle.resume_ledger.specs.Steps.{IsReading, IsReadFirmly, HasBody, HasRead, IsVersionOf};
+ghost use Rattle.resume_ledger.specs.Steps.{IsReading, IsReadFirmly, ReadsBody, HasBody, HasRead, IsVersionOf};
 
 use crate::body::judge;
 use crate::layout::Version;
@@ -17,7 +17,7 @@ use std::alloc::Global;
 fn has_seal<D: Disk>(disk: &mut D, version: Version) -> Result<bool, DiskFault>
     ensures still { D.tells ≡ true → IsStill (D.history disk.old) (D.history disk.new) }
     ensures sealed { IfOk result (λ sealed. D.tells ≡ true → (sealed ≡ true ↔ HasSeal version (view_of (D.history disk.old)))) }
-    ensures same { D.same disk.old disk.new }
+    ensures same { D.loans disk.new ≡ D.loans disk.old }
     ensures cause { HasCause (D.faults disk.old) (D.faults disk.new) (IsErr result) }
     ensures steady { OnOk result (D.faults disk.new ≡ D.faults disk.old) }
 {
@@ -39,7 +39,7 @@ fn has_seal<D: Disk>(disk: &mut D, version: Version) -> Result<bool, DiskFault>
 pub(crate) fn in_force<D: Disk>(disk: &mut D) -> Result<Option<Version>, DiskFault>
     ensures still { D.tells ≡ true → IsStill (D.history disk.old) (D.history disk.new) }
     ensures version { IfOk result (λ version. D.tells ≡ true → IsVersionOf (view_of (D.history disk.old)) version) }
-    ensures same { D.same disk.old disk.new }
+    ensures same { D.loans disk.new ≡ D.loans disk.old }
     ensures cause { HasCause (D.faults disk.old) (D.faults disk.new) (IsErr result) }
     ensures steady { OnOk result (D.faults disk.new ≡ D.faults disk.old) }
 {
@@ -59,7 +59,7 @@ pub(crate) fn is_sealed<D: Disk>(disk: &mut D, version: Version) -> Result<bool,
     ensures reading { D.tells ≡ true → IsReading (D.history disk.old) (D.history disk.new) }
     ensures read { OnOk result (D.tells ≡ true → IsReadFirmly (layout_of version).seal (D.history disk.old) (D.history disk.new)) }
     ensures sealed { IfOk result (λ sealed. D.tells ≡ true → (sealed ≡ true ↔ HasSeal version (view_of (D.history disk.old)))) }
-    ensures same { D.same disk.old disk.new }
+    ensures same { D.loans disk.new ≡ D.loans disk.old }
     ensures cause { HasCause (D.faults disk.old) (D.faults disk.new) (IsErr result) }
     ensures steady { OnOk result (D.faults disk.new ≡ D.faults disk.old) }
 {
@@ -78,7 +78,7 @@ pub(crate) fn load_body<D: Disk>(
     ensures still { D.tells ≡ true → IsStill (D.history disk.old) (D.history disk.new) }
     ensures body { D.tells ≡ true → HasBody (layout_of version) (view_of (D.history disk.old) (layout_of version).body) result }
     ensures known { HasRead (layout_of version) result }
-    ensures same { D.same disk.old disk.new }
+    ensures same { D.loans disk.new ≡ D.loans disk.old }
     ensures cause { HasCause (D.faults disk.old) (D.faults disk.new) (IsErrOf result OpenFault.DiskFault) }
     ensures steady { result ≢ Err OpenFault.DiskFault → D.faults disk.new ≡ D.faults disk.old }
 {
@@ -107,10 +107,10 @@ pub(crate) fn read_body<D: Disk>(
     version: Version,
 ) -> Result<Vec<u8>, OpenFault>
     ensures reading { D.tells ≡ true → IsReading (D.history disk.old) (D.history disk.new) }
-    ensures read { result ≢ Err OpenFault.DiskFault → D.tells ≡ true → IsReadFirmly (layout_of version).body (D.history disk.old) (D.history disk.new) }
+    ensures read { result ≢ Err OpenFault.DiskFault → D.tells ≡ true → ReadsBody version (D.history disk.old) (D.history disk.new) }
     ensures body { D.tells ≡ true → HasBody (layout_of version) (view_of (D.history disk.old) (layout_of version).body) result }
     ensures known { HasRead (layout_of version) result }
-    ensures same { D.same disk.old disk.new }
+    ensures same { D.loans disk.new ≡ D.loans disk.old }
     ensures cause { HasCause (D.faults disk.old) (D.faults disk.new) (IsErrOf result OpenFault.DiskFault) }
     ensures steady { result ≢ Err OpenFault.DiskFault → D.faults disk.new ≡ D.faults disk.old }
 {
@@ -120,10 +120,9 @@ pub(crate) fn read_body<D: Disk>(
     load_body(alloc, disk, version)
 }
 
-ghost use Rattle.std.specs.Prelude.{List, ℕ};
 ghost use Rattle.cf_base.specs.declared.file.FileId.{FileId as Id};
 ghost use Rattle.cf_base.specs.declared.file.FileId.TheVariants.{Seal2};
-ghost use Rattle.resume_ledger.specs.Attach.{HasAttached};
+ghost use Rattle.resume_ledger.specs.Attach.{HasAttachedSecond};
 
 /// Reads the body of a folder that is sealed by version 2.
 pub(crate) fn open_sealed<D: Disk>(
@@ -137,9 +136,9 @@ pub(crate) fn open_sealed<D: Disk>(
     requires sealed { D.tells ≡ true → IsInForce Version.Two (view_of (D.history disk.old)) }
     requires firm { D.tells ≡ true → IsFirm (loose_of (D.history disk.old)) Seal2 }
     ensures reading { D.tells ≡ true → IsReading (D.history disk.old) (D.history disk.new) }
-    ensures answer { D.tells ≡ true → (name : ℕ → Id) (size : ℕ) → HasAttached digest count name size (D.history disk.old) (D.history disk.new) result }
+    ensures answer { D.tells ≡ true → HasAttachedSecond digest count (D.history disk.old) (D.history disk.new) result }
     ensures known { IsAnswerTo digest count result }
-    ensures same { D.same disk.old disk.new }
+    ensures same { D.loans disk.new ≡ D.loans disk.old }
     ensures cause { HasCause (D.faults disk.old) (D.faults disk.new) (IsErrOf result OpenFault.DiskFault) }
     ensures steady { result ≢ Err OpenFault.DiskFault → D.faults disk.new ≡ D.faults disk.old }
 {

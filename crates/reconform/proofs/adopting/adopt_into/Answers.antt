@@ -88,6 +88,3 @@ pub returns-in-Err-clause-sound_has : goal.returns-in-Err-clause-sound_has
 returns-in-Err-clause-sound_has g c =
     let here : length c.args.new_job.now.parts.project.title ≤ 199 = search rules in
     sound_has g.N.Work.job (length-frame_file g.N.Work.job (subst (λ (job : JobData). length job.parts.project.title ≤ 199) c.requires.new_job here))
-
-pub returns-in-Err-clause-same_disk : goal.returns-in-Err-clause-same_disk
-returns-in-Err-clause-same_disk g c = g.met.E.Disk.same_itself c.args.disk

@@ -42,9 +42,6 @@ returns-in-Err-clause-not_old g c = subst (λ (e : AdoptFault). IsOfOld e → �
 pub returns-in-Ok-clause-cause : goal.returns-in-Ok-clause-cause
 returns-in-Ok-clause-cause g c = caused_as _ _ _ _ _ _ _ _ refl (c.in-Ok.ensures.steady (λ same. cc)) (λ is. is) c.adopt_opened.ensures.cause
 
-pub returns-in-Ok-clause-same_disk : goal.returns-in-Ok-clause-same_disk
-returns-in-Ok-clause-same_disk g c = g.met.E.Disk.same_along _ _ _ c.in-Ok.ensures.same c.adopt_opened.ensures.same_disk
-
 pub returns-in-Err-clause-still : goal.returns-in-Err-clause-still
 returns-in-Err-clause-still g c told = still_itself (g.D.Disk.history c.args.old.now)
 

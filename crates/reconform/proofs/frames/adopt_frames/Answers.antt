@@ -29,8 +29,8 @@ loop-i-init g c = record {
   still = λ told. still_itself (g.D.Disk.history c.args.old.now);
   faults_old = refl;
   faults = refl;
-  same_old = g.met.D.Disk.same_itself c.args.old.now;
-  same_disk = g.met.E.Disk.same_itself c.args.reel.now.disk;
+  same_old = refl;
+  same_disk = refl;
 }
 
 pub adopt_frame-requires-clause-can_serve : goal.adopt_frame-requires-clause-can_serve
@@ -66,8 +66,8 @@ loop-i-preserved g c =
       still = λ told. still_along _ _ _ (inv.still told) (step.still told);
       faults_old = step.steady_old ∙ inv.faults_old;
       faults = step.steady ∙ inv.faults;
-      same_old = g.met.D.Disk.same_along _ _ _ inv.same_old step.same_old;
-      same_disk = g.met.E.Disk.same_along _ _ _ inv.same_disk step.same_disk;
+      same_old = step.same_old ∙ inv.same_old;
+      same_disk = step.same_disk ∙ inv.same_disk;
     }
 
 -- no room

@@ -23,6 +23,6 @@ invariant-loop-i g l = record {
   still : g.D.Disk.tells ≡ true → IsStill (g.D.Disk.history l.fn.old) (g.D.Disk.history l.old);
   faults_old : g.D.Disk.faults l.old ≡ g.D.Disk.faults l.fn.old;
   faults : g.E.Disk.faults l.reel.disk ≡ g.E.Disk.faults l.fn.reel.disk;
-  same_old : g.D.Disk.same l.fn.old l.old;
-  same_disk : g.E.Disk.same l.fn.reel.disk l.reel.disk;
+  same_old : g.D.Disk.loans l.old ≡ g.D.Disk.loans l.fn.old;
+  same_disk : g.E.Disk.loans l.reel.disk ≡ g.E.Disk.loans l.fn.reel.disk;
 }

@@ -31,6 +31,6 @@ loop-c-preserved g c =
           (subst (λ n. IsCell job (g.D.Disk.tells ≡ true) (exact n) c.in-Ok.cell) (sym before.size) here);
       size = omega (arith, long, before.size);
       piece = search rules;
-      same = g.met.D.Disk.same_along _ _ _ before.same c.in-Ok.ensures.same;
+      same = c.in-Ok.ensures.same ∙ before.same;
       faults = search rules;
     }

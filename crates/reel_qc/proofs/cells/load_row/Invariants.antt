@@ -11,6 +11,6 @@ invariant-loop-c g l = record {
   pictures : HasPictures l.job (g.D.Disk.tells ≡ true) (λ c. picture_at l.job l.view (view_of (g.D.Disk.history l.fn.disk)) (l.row * 8 + c)) l.cells.items;
   size : length l.cells.items ≡ l.c;
   piece : length l.buffers.piece.items ≡ 65536;
-  same : g.D.Disk.same l.fn.disk l.disk;
+  same : g.D.Disk.loans l.disk ≡ g.D.Disk.loans l.fn.disk;
   faults : g.D.Disk.faults l.disk ≡ g.D.Disk.faults l.fn.disk;
 }

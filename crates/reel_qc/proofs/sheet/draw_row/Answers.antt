@@ -16,6 +16,6 @@ pub returns-in-Ok-draw_cells-clause-drawn : goal.returns-in-Ok-draw_cells-clause
 returns-in-Ok-draw_cells-clause-drawn g c =
     let has = subst (HasPictures c.args.job.now (g.D.Disk.tells ≡ true) (λ k. picture_at c.args.job.now c.args.view.now (view_of (g.D.Disk.history c.args.disk.now)) (c.args.row * 8 + k)))
     (sym c.deref.ensures.value) c.in-Ok.ensures.pictures in
-    let planned = c.count.ensures.job.planned in
+    let planned = c.recall.ensures.job.planned in
     row_drawn c.args.tone.now.table c.args.job.now (g.D.Disk.tells ≡ true) c.args.view.now (view_of (g.D.Disk.history c.args.disk.now)) c.args.row c.deref.result.now _ _ _ _
     (omega (arith, planned.some_width)) (ap length c.deref.ensures.value ∙ c.in-Ok.ensures.cells) has c.in-Ok-draw_cells.ensures

@@ -24,7 +24,7 @@ loop-row-preserved g c =
       drawn = rows_more c.args.tone.now.table c.args.job.now (g.D.Disk.tells ≡ true) c.args.view.now (view_of (g.D.Disk.history c.args.disk.now)) c.loop-row.row _ _ _ _ _ _ _
           (λ told. still_view _ _ (before.still told)) before.drawn c.in-Ok-draw_row.ensures.drawn;
       piece = search rules;
-      same = g.met.D.Disk.same_along _ _ _ before.same c.draw_row.ensures.same;
+      same = c.draw_row.ensures.same ∙ before.same;
       faults = search rules;
     }
 

@@ -13,6 +13,6 @@ invariant-loop-row g l = record {
   drawn : HasDrawn l.tone.table (g.D.Disk.tells ≡ true) (flat_map (line_colours l.job l.view (view_of (g.D.Disk.history l.fn.disk))) (range_with_len 0 (l.row * cell_height l.job)))
       (header_of (sheet_head l.job)) l.drawing.bytes.items 0 l.drawing.greatest;
   piece : length l.buffers.piece.items ≡ 65536;
-  same : g.D.Disk.same l.fn.disk l.disk;
+  same : g.D.Disk.loans l.disk ≡ g.D.Disk.loans l.fn.disk;
   faults : g.D.Disk.faults l.disk ≡ g.D.Disk.faults l.fn.disk;
 }

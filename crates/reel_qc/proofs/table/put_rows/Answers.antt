@@ -1,5 +1,5 @@
 -- One frame after another.
-use Rattle.std.proofs.Common.{rules, map, subst, sym, arith, true, ◌≡◌, ◌+◌}
+use Rattle.std.proofs.Common.{rules, map, subst, sym, arith, true, ◌≡◌, ◌+◌, ◌∙◌}
 use Rattle.reel_disk.specs.Disk.{view_of}
 use Rattle.resume_ledger.proofs.Reading.{still_along, still_view}
 use Rattle.reel_qc.specs.Table.{HasRows}
@@ -17,6 +17,6 @@ loop-i-preserved g c =
           (sym (acked_more c.args.view.now c.loop-i.i)) (rows_along _ c.args.job.now (g.D.Disk.tells ≡ true) files _ _ _ _ _ _ _ before.rows here);
       few = omega (arith, before.few, c.in-Ok.ensures.few);
       piece = search rules;
-      same = g.met.D.Disk.same_along _ _ _ before.same c.in-Ok.ensures.same;
+      same = c.in-Ok.ensures.same ∙ before.same;
       faults = search rules;
     }

@@ -11,7 +11,7 @@ invariant-loop-done g l = record {
   few : length l.out.items ≤ length l.fn.out.items + l.done;
   within : l.done ≤ l.most;
   piece : length l.piece ≡ 65536;
-  same : g.D.Disk.same l.fn.disk l.disk;
+  same : g.D.Disk.loans l.disk ≡ g.D.Disk.loans l.fn.disk;
   faults : g.D.Disk.faults l.disk ≡ g.D.Disk.faults l.fn.disk;
 }
 

@@ -14,6 +14,6 @@ invariant-loop-i g l = record {
   counted : l.records ≡ count_by is_some (map (hash_at l.view) (range_with_len 0 l.i));
   few : l.records ≤ l.i;
   piece : length l.piece ≡ 65536;
-  same : g.D.Disk.same l.fn.disk l.disk;
+  same : g.D.Disk.loans l.disk ≡ g.D.Disk.loans l.fn.disk;
   faults : g.D.Disk.faults l.disk ≡ g.D.Disk.faults l.fn.disk;
 }

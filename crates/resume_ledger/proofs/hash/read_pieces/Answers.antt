@@ -31,10 +31,3 @@ returns-clause-hash g c told =
     let before = c.loop-at.invariant.hashed told there.0 there.1 there.2 in
     let all : take c.loop-at.at there.0 ≡ there.0 = take_all c.loop-at.at there.0 (omega (arith, there.2, c.loop-at-test.false)) in
     (there.0, there.1, there.2, c.finalize.ensures there.0 (subst (Holds256 c.loop-at.hasher) all before.1))
-
--- the reads before, and one more
-pub returns-in-Failed-clause-same : goal.returns-in-Failed-clause-same
-returns-in-Failed-clause-same g c = g.met.D.Disk.same_along _ _ _ c.loop-at.invariant.same c.read.ensures.same
-
-pub returns-in_default-clause-same : goal.returns-in_default-clause-same
-returns-in_default-clause-same g c = g.met.D.Disk.same_along _ _ _ c.loop-at.invariant.same c.read.ensures.same

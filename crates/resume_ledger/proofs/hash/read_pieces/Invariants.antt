@@ -10,7 +10,7 @@ invariant-loop-at g l = record {
   still : g.D.Disk.tells ≡ true → IsStill (g.D.Disk.history l.fn.disk) (g.D.Disk.history l.disk);
   hashed : g.D.Disk.tells ≡ true → (bytes : List ℕ) → view_of (g.D.Disk.history l.fn.disk) l.id ≡ Some bytes → length bytes ≡ l.size → (l.at ≤ l.size) × Holds256 l.hasher (take l.at bytes);
   piece : length l.piece ≡ 65536;
-  same : g.D.Disk.same l.fn.disk l.disk;
+  same : g.D.Disk.loans l.disk ≡ g.D.Disk.loans l.fn.disk;
   faults : g.D.Disk.faults l.disk ≡ g.D.Disk.faults l.fn.disk;
 }
 

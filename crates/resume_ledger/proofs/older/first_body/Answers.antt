@@ -15,9 +15,6 @@ pub returns-in-Ok-true-clause-body : goal.returns-in-Ok-true-clause-body
 returns-in-Ok-true-clause-body g c told =
     ready_along c.args.digest (length c.args.files.now) (file_at c.args.files.now) c.args.size (g.D.Disk.history c.args.disk.now) (g.D.Disk.history c.is_sealed.new.disk) (g.D.Disk.history c.taken_body.new.disk) (c.is_sealed.ensures.reading told).narrows (c.in-Ok-true.ensures.read told).view c.taken_body.result (c.taken_body.ensures.body told)
 
-pub returns-in-Ok-true-clause-same : goal.returns-in-Ok-true-clause-same
-returns-in-Ok-true-clause-same g c = g.met.D.Disk.same_along _ _ _ c.is_sealed.ensures.same c.taken_body.ensures.same
-
 -- the folder is unsealed
 pub returns-in-Ok-false-clause-body : goal.returns-in-Ok-false-clause-body
 returns-in-Ok-false-clause-body g c told =

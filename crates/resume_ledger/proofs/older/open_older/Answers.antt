@@ -34,10 +34,3 @@ pub returns-clause-part : goal.returns-clause-part
 returns-clause-part g c told =
     let ready = subst (λ (l : List ℕ). IsReadyFor c.args.digest (length c.args.files.now) (file_at c.args.files.now) c.args.size (g.D.Disk.history c.args.disk.now) (g.D.Disk.history c.first_body.new.disk) l) (sym c.deref-2.ensures.value) (c.in-Ok.ensures.body told) in
     part_along _ _ _ _ (g.D.Disk.history c.args.disk.now) (g.D.Disk.history c.first_body.new.disk) _ (c.first_body.ensures.reading told) ready.view (c.begin_second.ensures.part told _ _ _ _ c.requires.frames ready.older ready.first)
-
--- two calls on one disk
-pub returns-in-Ok-begin_second-clause-same : goal.returns-in-Ok-begin_second-clause-same
-returns-in-Ok-begin_second-clause-same g c = g.met.D.Disk.same_along _ _ _ c.first_body.ensures.same c.begin_second.ensures.same
-
-pub returns-clause-same : goal.returns-clause-same
-returns-clause-same g c = g.met.D.Disk.same_along _ _ _ c.first_body.ensures.same c.begin_second.ensures.same

@@ -13,6 +13,6 @@ invariant-loop-i g l = record {
   done : g.D.Disk.tells ≡ true → (k : ℕ) → k < l.i → IsRecorded (get_or l.gates k false) (view_of (g.D.Disk.history l.fn.disk) (file_at l.files k)) l.size l.body k;
   closed : (k : ℕ) → l.i ≤ k → k < length l.files → get_or l.body (64 + 33 * k) 0 ≢ 65;
   piece : length l.piece ≡ 65536;
-  same : g.D.Disk.same l.fn.disk l.disk;
+  same : g.D.Disk.loans l.disk ≡ g.D.Disk.loans l.fn.disk;
   faults : g.D.Disk.faults l.disk ≡ g.D.Disk.faults l.fn.disk;
 }

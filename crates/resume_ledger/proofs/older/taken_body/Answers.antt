@@ -29,9 +29,6 @@ returns-in-Ok-record_all-clause-body g c told =
     (c.requires.sealed told) (c.requires.firm told) (c.requires.firm_first told) c.deref.result.now (subst (λ (l : List Bool). IsAckedFirmly c.args.digest (length c.args.files.now) (g.D.Disk.history c.args.disk.now) (g.D.Disk.history c.acked_before.new.disk) l) (sym c.deref.ensures.value) (c.in-Ok.ensures.acked told)) (c.record_all.ensures.still told)
     c.record_all.new.body c.deref_mut-2.result.now (c.deref_mut-2.ensures.value ∙ c.requires.closed) c.record_all.ensures.size (c.in-Ok-record_all.ensures.recorded told))
 
-pub returns-in-Ok-record_all-clause-same : goal.returns-in-Ok-record_all-clause-same
-returns-in-Ok-record_all-clause-same g c = g.met.D.Disk.same_along _ _ _ c.acked_before.ensures.same c.record_all.ensures.same
-
 pub returns-in-Ok-record_all-clause-cause : goal.returns-in-Ok-record_all-clause-cause
 returns-in-Ok-record_all-clause-cause g c = record { later = omega (arith, c.acked_before.ensures.cause.later, c.record_all.ensures.cause.later); failed = λ bad. cc }
 
@@ -40,7 +37,7 @@ pub returns-clause-reading : goal.returns-clause-reading
 returns-clause-reading g c told = reading_along _ _ _ (c.acked_before.ensures.reading told) (still_reading _ _ (c.record_all.ensures.still told))
 
 pub returns-clause-same : goal.returns-clause-same
-returns-clause-same g c = g.met.D.Disk.same_along _ _ _ c.acked_before.ensures.same c.record_all.ensures.same
+returns-clause-same g c = c.record_all.ensures.same ∙ c.acked_before.ensures.same
 
 pub returns-clause-cause : goal.returns-clause-cause
 returns-clause-cause g c =

@@ -19,9 +19,6 @@ returns-in-Bytes-eq15-clause-sealed g c told =
     let whole = whole_read content c.in-There-eq15.field-0 c.in-Bytes-eq15.field-0 c.read.new.into there read (c.in-Bytes-eq15.field-0-test ∙ sym c.in-There-eq15.field-0-test) (c.read.auto.into ∙ sym c.in-There-eq15.field-0-test) in
     seal_test c.args.version content c.read.new.into c.mark.result c.eq.result whole c.eq.ensures c.mark.ensures
 
-pub returns-in-Bytes-eq15-clause-same : goal.returns-in-Bytes-eq15-clause-same
-returns-in-Bytes-eq15-clause-same g c = g.met.D.Disk.same_along _ _ _ c.length.ensures.same c.read.ensures.same
-
 -- it has another length
 pub returns-in_default-read-clause-sealed : goal.returns-in_default-read-clause-sealed
 returns-in_default-read-clause-sealed g c told =

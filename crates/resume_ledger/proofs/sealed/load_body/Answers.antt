@@ -24,13 +24,3 @@ returns-in-Bytes-clause-body g c told =
 pub returns-in-Bytes-clause-known : goal.returns-in-Bytes-clause-known
 returns-in-Bytes-clause-known g c =
     omega (arith, length-take c.in-Ok.body.len (c.read.new.into ++ drop (length c.read.new.into) c.in-Ok.body.items), c.if-len-most.false, c.most.ensures, c.in-Ok.ensures.len)
-
--- two calls on one disk
-pub returns-in-Bytes-clause-same : goal.returns-in-Bytes-clause-same
-returns-in-Bytes-clause-same g c = g.met.D.Disk.same_along _ _ _ c.length.ensures.same c.read.ensures.same
-
-pub returns-in-Failed-read-clause-same : goal.returns-in-Failed-read-clause-same
-returns-in-Failed-read-clause-same g c = g.met.D.Disk.same_along _ _ _ c.length.ensures.same c.read.ensures.same
-
-pub returns-in_default-read-clause-same : goal.returns-in_default-read-clause-same
-returns-in_default-read-clause-same g c = g.met.D.Disk.same_along _ _ _ c.length.ensures.same c.read.ensures.same

@@ -8,9 +8,6 @@ pub returns-in-Ok-Some-clause-answer : goal.returns-in-Ok-Some-clause-answer
 returns-in-Ok-Some-clause-answer g c told =
     looked_along c.args.digest c.args.count (g.D.Disk.history c.args.disk.now) (g.D.Disk.history c.in_force.new.disk) (g.D.Disk.history c.look_sealed.new.disk) (c.in_force.ensures.still told) c.look_sealed.result (c.look_sealed.ensures.answer told)
 
-pub returns-in-Ok-Some-clause-same : goal.returns-in-Ok-Some-clause-same
-returns-in-Ok-Some-clause-same g c = g.met.D.Disk.same_along _ _ _ c.in_force.ensures.same c.look_sealed.ensures.same
-
 -- no version counts
 pub returns-in-Ok-clause-answer : goal.returns-in-Ok-clause-answer
 returns-in-Ok-clause-answer g c told =
