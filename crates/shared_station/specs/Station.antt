@@ -2,7 +2,7 @@
 -- own rule.
 --     StationView      the reel, the board's log, and the totals of stops
 --     IsStation        what is kept
-use Rattle.std.specs.Prelude.{◌≡◌, ◌≢◌, ◌↔◌, ◌⊎◌, ℕ, ◌≤◌, Bool, true, false, List, Contains, length, count_by, slice_get, slice_index_or, Option, Some, None, IfSome}
+use Rattle.std.specs.Prelude.{◌≡◌, ◌≢◌, ◌↔◌, ◌⊎◌, ℕ, ◌≤◌, Bool, true, false, List, Contains, length, count_by, slice_get, slice_index_or, Option, Some, IfSome}
 use Rattle.cf_base.specs.declared.file.FileId.{FileId}
 use Rattle.cf_base.specs.declared.key.Key.{Key}
 use Rattle.dpx_header.specs.declared.info.FrameInfo.{FrameInfo}
@@ -35,6 +35,14 @@ pub record StationView (D : Type 0) : Type 0 where
   pub reel : ReelView D
   pub log : Log
   pub totals : Totals
+
+-- a station by its reel, its board's log and what was counted of each why
+abbrev pub station_of : {D : Type 0} → ReelView D → Log → (source disk memory changed : ℕ) → StationView D
+station_of reel log source disk memory changed = record {
+  reel = reel;
+  log = log;
+  totals = record { source = source; disk = disk; memory = memory; changed = changed };
+}
 
 -- what a crew may change: the ledger's files, and those of frames that were not done at the start
 abbrev pub IsCrewFile : JobData → List Bool → FileId → Type 0

@@ -1,18 +1,18 @@
 -- What each call on a station makes of it, and when it may be made.
-use Rattle.std.specs.Prelude.{◌≡◌, ◌↔◌, ℕ, ◌+◌, Bool, true, false, [], length, count_by, slice_index_or, Option, IfSome}
+use Rattle.std.specs.Prelude.{◌≡◌, ◌↔◌, ℕ, ◌+◌, Bool, true, false, List, [], length, count_by, slice_index_or, Option, Some, IfSome}
 use Rattle.scan_source.specs.World.{World}
-use Rattle.conform_job.specs.Job.{JobData}
-use Rattle.reel_disk.specs.Disk.{Moment, History, view_of}
-use Rattle.reel_disk.specs.Runs.{Spares}
+use Rattle.conform_job.specs.Job.{JobData, file_of}
+use Rattle.reel_disk.specs.Disk.{Moment, History, moment_of, view_of}
+use Rattle.reel_disk.specs.Runs.{Spares, Surely}
 use Rattle.reel_disk.specs.Start.{start_of, at_start}
-use Rattle.resume_ledger.specs.Sound.{WritesOnly}
+use Rattle.resume_ledger.specs.Sound.{AddsAtMost, WritesOnly}
 use Rattle.render_board.specs.Board.{Log, with_step, after_claim}
 use Rattle.render_board.specs.declared.board.Claim.{Claim}
 use Rattle.render_board.specs.declared.step.Step.TheVariants.{Finish, Stop}
 use Rattle.render_board.specs.declared.step.Why.{Why}
 use Rattle.render_board.specs.declared.step.Why.TheVariants.{Source, Disk, Memory, Changed}
 use Rattle.reel_writer.specs.Changes.{HasKept}
-use Rattle.reel_writer.specs.Reel.{frames_of, HasAcked, IsReelRun}
+use Rattle.reel_writer.specs.Reel.{frames_of, HasAcked, HasStored, IsReelRun, IsWrittenFile}
 use Rattle.reel_writer.specs.View.{ReelView, after_finish, after_fault}
 use Rattle.single_run.specs.Ends.{IsChanged}
 use Rattle.single_run.specs.declared.run_end.RunEnd.{RunEnd}
@@ -42,6 +42,28 @@ why_by (IsNow key was now) = Changed key was now
 why_by SourceFault = Source
 why_by DiskFault = Disk
 why_by NoMemory = Memory
+
+-- What a finish leaves on the disk of a station.
+module _ {D : Type 0} (job : JobData) (frame : ℕ) (history : D → History) where
+  -- of the ledger's gates this frame's alone may have been opened
+  abbrev pub AddsFrame : (old new : StationView D) → Type 0
+  AddsFrame old new = AddsAtMost frame job.parts.digest (frames_of job) (history old.reel.disk) (history new.reel.disk)
+
+  -- no file but this frame's was written
+  abbrev pub WritesFrame : (old new : StationView D) → Type 0
+  WritesFrame old new = Spares (history old.reel.disk) (history new.reel.disk) (IsWrittenFile (file_of job frame))
+
+  -- the frame's file has these bytes
+  abbrev pub ShowsFrame : (bytes : List ℕ) → StationView D → Type 0
+  ShowsFrame bytes now = view_of (history now.reel.disk) (file_of job frame) ≡ Some bytes
+
+  -- whatever a crash leaves now, the frame is acknowledged
+  abbrev pub IsSurelyAcked : StationView D → Type 0
+  IsSurelyAcked now = Surely (moment_of (history now.reel.disk)) (HasAcked job frame)
+
+  -- and its file has these bytes
+  abbrev pub IsSurelyStored : (bytes : List ℕ) → StationView D → Type 0
+  IsSurelyStored bytes now = Surely (moment_of (history now.reel.disk)) (HasStored (file_of job frame) bytes)
 
 module _ {D : Type 0} where
   -- a reel and a board at the start of a run

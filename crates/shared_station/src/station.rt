@@ -1,18 +1,13 @@
 //! The value behind the station's lock: the reel and the board, and how many stops of each why there were.
-ghost use Rattle.std.specs.Prelude.{◌≡◌, ◌≢◌, ◌<◌, ◌≤◌, true, false, Some, length, OnOk, OnErr, IsErr};
+ghost use Rattle.std.specs.Prelude.{◌≡◌, ◌≢◌, ◌<◌, ◌≤◌, true, false, OnOk, OnErr, IsErr};
 ghost use Rattle.cf_base.specs.Count.{HasCause};
-ghost use Rattle.conform_job.specs.Job.{file_of};
-ghost use Rattle.reel_disk.specs.Disk.{moment_of, view_of};
-ghost use Rattle.reel_disk.specs.Runs.{Surely, Spares};
-ghost use Rattle.resume_ledger.specs.Sound.{AddsAtMost};
-ghost use Rattle.render_board.specs.Board.{turn_of, claim_of, least_free};
+ghost use Rattle.render_board.specs.Board.{turn_of, claim_of};
 ghost use Rattle.render_board.specs.declared.board.Turn.TheVariants as turns;
 ghost use Rattle.render_board.specs.declared.step.Why.TheVariants as whys;
-ghost use Rattle.reel_writer.specs.Reel.{frames_of, HasAcked, HasStored, IsReelRun, IsWrittenFile, KeepsReel};
-ghost use Rattle.reel_writer.specs.View.{IsReelOf};
+ghost use Rattle.reel_writer.specs.Reel.{IsReelRun, KeepsReel};
 ghost use Rattle.shared_station.specs.Marks.{IsBlankOf, IsSettled, raised_by};
 ghost use Rattle.shared_station.specs.Station.{StationView, IsStation};
-ghost use Rattle.shared_station.specs.StationSteps.{IsBeginning, MayStop, after_claimed, after_failed, after_finished, after_stopped};
+ghost use Rattle.shared_station.specs.StationSteps.{AddsFrame, IsBeginning, IsSurelyAcked, IsSurelyStored, MayStop, ShowsFrame, WritesFrame, after_claimed, after_failed, after_finished, after_stopped};
 
 use crate::crewed::Crewed;
 use crate::marks::Marks;
@@ -57,18 +52,18 @@ impl<D: Disk, N: Work + Start, W: Crewed, A: Ledger, B: Ledger, C: Ledger, E: Le
     ghost use Rattle.std.specs.Prelude.{◌≡◌};
     ghost use Rattle.std.specs.Coded.{codes};
     ghost use Rattle.reel_writer.specs.View.{reel_code};
-    ghost use Rattle.shared_station.specs.Station.{StationView, IsStation};
+    ghost use Rattle.shared_station.specs.Station.{StationView, IsStation, station_of};
 
     ghost Value = { StationView D };
 
     ghost coded = { Prim.hlevel (codes, reel_code D.code) };
 
-    ghost view = { λ s. record { reel = s.reel; log = s.board; totals = record { source = s.totals.source.total; disk = s.totals.disk.total; memory = s.totals.memory.total; changed = s.totals.changed.total } } };
+    ghost view = { λ s. station_of s.reel s.board s.totals.source.total s.totals.disk.total s.totals.memory.total s.totals.changed.total };
 
     ghost invariant = { λ s.
         IsStation N.job N.files N.start D.tells D.history D.faults
-        (record { reel = s.reel; log = s.board; totals = record { source = s.totals.source.total; disk = s.totals.disk.total; memory = s.totals.memory.total; changed = s.totals.changed.total } })
-        × (s.board.workers ≡ W.workers) };
+        (station_of s.reel s.board s.totals.source.total s.totals.disk.total s.totals.memory.total s.totals.changed.total)
+        × (s.board.workers ≡ W.workers) × (D.loans s.reel.disk ≡ N.loans) };
 }
 
 impl<D: Disk, N: Work + Start, W: Crewed, A: Ledger, B: Ledger, C: Ledger, E: Ledger> Station<
@@ -96,6 +91,7 @@ impl<D: Disk, N: Work + Start, W: Crewed, A: Ledger, B: Ledger, C: Ledger, E: Le
         requires changed { IsBlankOf E.name E.parts changed.name changed.parts }
         requires beginning { IsBeginning N.job N.files N.start D.tells D.history D.faults reel board }
         requires workers { board.workers ≡ W.workers }
+        requires lent { D.loans reel.disk ≡ N.loans }
         ensures reel { result.0.reel ≡ reel }
         ensures log { result.0.log ≡ board }
         ensures source { (result.1.source.parts ≡ A.parts) × (result.1.source.amount ≡ 0) }
@@ -103,7 +99,6 @@ impl<D: Disk, N: Work + Start, W: Crewed, A: Ledger, B: Ledger, C: Ledger, E: Le
         ensures memory { (result.1.memory.parts ≡ C.parts) × (result.1.memory.amount ≡ 0) }
         ensures changed { (result.1.changed.parts ≡ E.parts) × (result.1.changed.amount ≡ 0) }
     {
-        let _ = board.workers();
         let (source_book, source_share) = source.open::<A>();
         let (disk_book, disk_share) = disk.open::<B>();
         let (memory_book, memory_share) = memory.open::<C>();
@@ -159,13 +154,12 @@ impl<D: Disk, N: Work + Start, W: Crewed, A: Ledger, B: Ledger, C: Ledger, E: Le
         // What the reel's finish says.
         ensures run { D.tells ≡ true → IsReelRun N.job N.files (D.history self.old.reel.disk) (D.history self.new.reel.disk) }
         ensures none_lost { D.tells ≡ true → KeepsReel N.job (D.history self.old.reel.disk) (D.history self.new.reel.disk) }
-        ensures others { D.tells ≡ true → AddsAtMost frame.now.index N.job.parts.digest (frames_of N.job) (D.history self.old.reel.disk) (D.history self.new.reel.disk) }
-        ensures spares { D.tells ≡ true → Spares (D.history self.old.reel.disk) (D.history self.new.reel.disk) (IsWrittenFile (file_of N.job frame.now.index)) }
-        ensures acked { OnOk result (D.tells ≡ true → Surely (moment_of (D.history self.new.reel.disk)) (HasAcked N.job frame.now.index)) }
-        ensures shown { OnOk result (D.tells ≡ true → view_of (D.history self.new.reel.disk) (file_of N.job frame.now.index) ≡ Some frame.now.bytes) }
-        ensures stored { OnOk result (D.tells ≡ true → Surely (moment_of (D.history self.new.reel.disk))
-            (HasStored (file_of N.job frame.now.index) frame.now.bytes)) }
-        ensures same { D.same self.old.reel.disk self.new.reel.disk }
+        ensures others { D.tells ≡ true → AddsFrame N.job frame.now.index D.history self.old self.new }
+        ensures spares { D.tells ≡ true → WritesFrame N.job frame.now.index D.history self.old self.new }
+        ensures acked { OnOk result (D.tells ≡ true → IsSurelyAcked N.job frame.now.index D.history self.new) }
+        ensures shown { OnOk result (D.tells ≡ true → ShowsFrame N.job frame.now.index D.history frame.now.bytes self.new) }
+        ensures stored { OnOk result (D.tells ≡ true → IsSurelyStored N.job frame.now.index D.history frame.now.bytes self.new) }
+        ensures same { D.loans self.new.reel.disk ≡ D.loans self.old.reel.disk }
         ensures cause { HasCause (D.faults self.old.reel.disk) (D.faults self.new.reel.disk) (IsErr result) }
         ensures steady { OnOk result (D.faults self.new.reel.disk ≡ D.faults self.old.reel.disk) }
     {
@@ -214,9 +208,21 @@ impl<D: Disk, N: Work + Start, W: Crewed, A: Ledger, B: Ledger, C: Ledger, E: Le
         ensures some { 1 ≤ result }
         ensures most { result ≤ 16 }
         ensures named { self.now.log.workers ≡ W.workers }
+        ensures lent { D.loans self.now.reel.disk ≡ N.loans }
         ensures kept { IsStation N.job N.files N.start D.tells D.history D.faults self.now }
     {
         self.board.workers()
+    }
+
+    /// Recalls what every station keeps whenever the lock is free. Nothing runs: it is called for what its clauses say.
+    pub fn recall(&self)
+        ensures some { 1 ≤ self.now.log.workers }
+        ensures most { self.now.log.workers ≤ 16 }
+        ensures named { self.now.log.workers ≡ W.workers }
+        ensures lent { D.loans self.now.reel.disk ≡ N.loans }
+        ensures kept { IsStation N.job N.files N.start D.tells D.history D.faults self.now }
+    {
+        self.workers();
     }
 
     /// Whether a fault of the disk has closed the reel.
@@ -247,6 +253,7 @@ impl<D: Disk, N: Work + Start, W: Crewed, A: Ledger, B: Ledger, C: Ledger, E: Le
         ensures reel { result.0 ≡ self.reel }
         ensures log { result.1 ≡ self.log }
         ensures named { self.log.workers ≡ W.workers }
+        ensures lent { D.loans self.reel.disk ≡ N.loans }
         ensures kept { IsStation N.job N.files N.start D.tells D.history D.faults self }
     {
         let Station {

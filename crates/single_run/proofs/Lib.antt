@@ -1,5 +1,6 @@
 pub mod Asking
 pub mod Closing
+pub mod Counting
 pub mod Determined
 pub mod Fetching
 mod Heads

@@ -53,6 +53,16 @@ IsStop job told SourceFault = Unit {0}
 IsStop job told DiskFault = Unit {0}
 IsStop job told NoMemory = Unit {0}
 
+-- the end of a frame that could not be rendered: no fault of the disk
+abbrev pub IsUnrendered : JobData → Option World → RunEnd → Type 0
+IsUnrendered job told Done = ⊥
+IsUnrendered job told (OtherJob kept wanted) = ⊥
+IsUnrendered job told (BadLedger len) = ⊥
+IsUnrendered job told (Changed key was now) = IsChanged job told key was now
+IsUnrendered job told SourceFault = Unit {0}
+IsUnrendered job told DiskFault = ⊥
+IsUnrendered job told NoMemory = Unit {0}
+
 -- an end once the folder is open
 abbrev pub IsEnd : JobData → Option World → RunEnd → Type 0
 IsEnd job told Done = Unit {0}

@@ -1,11 +1,11 @@
 //! A run on one thread.
-ghost use Rattle.std.specs.Prelude.{◌≡◌, ◌≢◌, ◌⊎◌, ◌↔◌, ℕ, ◌<◌, ◌≤◌, [], true, false, length, take, Contains, slice_index_or, IfSome};
+ghost use Rattle.std.specs.Prelude.{◌≡◌, ◌≢◌, ◌⊎◌, ◌↔◌, ℕ, ◌<◌, ◌≤◌, [], true, false, length, take, Contains, slice_index_or};
 ghost use Rattle.cf_base.specs.Count.{HasCause, HasRisen};
 ghost use Rattle.conform_job.specs.Answers.{AreInfosOf};
 ghost use Rattle.conform_job.specs.Names.{Tells};
 ghost use Rattle.frame_share.specs.Share.{IsBlankOf, IsLegal, misses_of};
 ghost use Rattle.reel_disk.specs.Disk.{Files, moment_of, view_of};
-ghost use Rattle.reel_disk.specs.Runs.{Spares, Surely};
+ghost use Rattle.reel_disk.specs.Runs.{Spares};
 ghost use Rattle.resume_ledger.specs.Sound.{WritesOnly};
 ghost use Rattle.reel_writer.specs.Changes.{IsOwnFile, IsRunFile, MayWrite};
 ghost use Rattle.reel_writer.specs.Reel.{frames_of, HasAcked, HasFrameFiles, IsReelRun, IsSoundReel};
@@ -99,7 +99,7 @@ fn run_shared<N: Work, L: Ledger, S: Scans, D: Disk>(
     ensures scan { IsScanned S.world S.faults S.loads loads.new (result.0
         ≡ RunEnd.SourceFault) scan.old scan.new }
     ensures same_scan { S.same scan.old scan.new }
-    ensures same_disk { D.same reel.old.disk reel.new.disk }
+    ensures same_disk { D.loans reel.new.disk ≡ D.loans reel.old.disk }
     ensures cause { HasCause (D.faults reel.old.disk) (D.faults reel.new.disk) (result.0
         ≡ RunEnd.DiskFault) }
     ensures steady { result.0 ≢ RunEnd.DiskFault → D.faults reel.new.disk ≡ D.faults reel.old.disk }
@@ -154,7 +154,7 @@ fn run_opened<N: Work, L: Ledger, S: Scans, D: Disk>(
     ensures scan { IsScanned S.world S.faults S.loads result.1.loads (result.0
         ≡ RunEnd.SourceFault) scan.old scan.new }
     ensures same_scan { S.same scan.old scan.new }
-    ensures same_disk { D.same reel.disk result.3 }
+    ensures same_disk { D.loans result.3 ≡ D.loans reel.disk }
     ensures cause { HasCause (D.faults reel.disk) (D.faults result.3) (result.0
         ≡ RunEnd.DiskFault) }
     ensures steady { result.0 ≢ RunEnd.DiskFault → D.faults result.3 ≡ D.faults reel.disk }
@@ -222,7 +222,7 @@ fn run_owned<N: Work, L: Ledger, S: Scans, D: Disk>(
     ensures scan { IsScanned S.world S.faults S.loads result.1.loads (result.0
         ≡ RunEnd.SourceFault) scan.old scan.new }
     ensures same_scan { S.same scan.old scan.new }
-    ensures same_disk { D.same disk result.2 }
+    ensures same_disk { D.loans result.2 ≡ D.loans disk }
     ensures cause { HasCause (D.faults disk) (D.faults result.2) (result.0 ≡ RunEnd.DiskFault) }
     ensures steady { result.0 ≢ RunEnd.DiskFault → D.faults result.2 ≡ D.faults disk }
 {
@@ -307,6 +307,7 @@ pub fn run_alone<N: Work, S: Scans, D: Disk>(
     ensures scan { IsScanned S.world S.faults S.loads result.1.loads (result.0
         ≡ RunEnd.SourceFault) scan.old scan.new }
     ensures same_scan { S.same scan.old scan.new }
+    ensures same_disk { D.loans disk.new ≡ D.loans disk.old }
     ensures cause { HasCause (D.faults disk.old) (D.faults disk.new) (result.0 ≡ RunEnd.DiskFault) }
     ensures steady { result.0 ≢ RunEnd.DiskFault → D.faults disk.new ≡ D.faults disk.old }
 {

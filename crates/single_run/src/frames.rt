@@ -1,5 +1,5 @@
 //! The frames of a run, in order.
-ghost use Rattle.std.specs.Prelude.{◌≡◌, ◌≢◌, ◌⊎◌, ◌↔◌, ℕ, ◌+◌, ◌-◌, ◌*◌, ◌<◌, ◌≤◌, ◌^◌, [], true, false, Ok, Err, length, take, Contains, slice_index_or, IfOk, IfErr, OnOk, OnErr, IsErr};
+ghost use Rattle.std.specs.Prelude.{◌≡◌, ◌≢◌, ◌⊎◌, ◌↔◌, ℕ, ◌+◌, ◌-◌, ◌<◌, ◌≤◌, ◌^◌, [], true, false, Ok, Err, length, take, Contains, slice_index_or, IfOk, IfErr, OnOk, OnErr};
 ghost use Rattle.cf_base.specs.Count.{HasCause};
 ghost use Rattle.conform_job.specs.Answers.{AreInfosOf};
 ghost use Rattle.conform_job.specs.Job.{need_at};
@@ -10,9 +10,9 @@ ghost use Rattle.reel_disk.specs.Runs.{Spares};
 ghost use Rattle.reel_writer.specs.Changes.{IsRunFile};
 ghost use Rattle.reel_writer.specs.Reel.{frames_of, HasAcked, IsReelRun, KeepsReel};
 ghost use Rattle.single_run.specs.Asks.{IsNext, asks_of_frames, closed_frames, frame_if_closed, keys_of_need};
-ghost use Rattle.single_run.specs.Ends.{IsChange, IsEnd, IsStop};
+ghost use Rattle.single_run.specs.Ends.{IsChange, IsEnd, IsStop, IsUnrendered};
 ghost use Rattle.single_run.specs.Ran.{IsPast, IsUnfinished, WereFinished};
-ghost use Rattle.single_run.specs.Scanned.{IsScanned};
+ghost use Rattle.single_run.specs.Scanned.{HasLoaded, IsScanned};
 ghost use Rattle.single_run.specs.Sharing.{HasAsked, HasTried};
 
 use crate::RunEnd;
@@ -47,15 +47,11 @@ pub fn make_frame<N: Work, L: Ledger, S: Scans>(
     requires closed { units.old.pending ≡ 0 }
     requires few { loads.old + 2 < 2 ^ 64 }
     ensures index { IfOk result (λ frame. frame.index ≡ i) }
-    ensures stop { IfErr result (IsStop N.job N.files) }
-    ensures never { result ≢ Err RunEnd.DiskFault }
+    ensures stop { IfErr result (IsUnrendered N.job N.files) }
     ensures asked { OnOk result (HasAsked share.old share.new (keys_of_need (need_at N.job i))) }
     ensures tried { OnErr result (HasTried share.old share.new (keys_of_need (need_at N.job i))) }
     ensures closed { OnOk result (units.new.pending ≡ 0) }
-    ensures parts { units.new.parts ≡ units.old.parts }
-    ensures counted { units.new.amount + loads.old ≡ units.old.amount + loads.new }
-    ensures later { loads.old ≤ loads.new }
-    ensures two { loads.new ≤ loads.old + 2 }
+    ensures loads { HasLoaded 2 loads.old loads.new units.old units.new }
     ensures changed { IfErr result (λ end. IsChange end → loads.old < loads.new) }
     ensures scan { IsScanned S.world S.faults S.loads (loads.new - loads.old) (result
         ≡ Err RunEnd.SourceFault) scan.old scan.new }
@@ -122,16 +118,13 @@ fn run_frame<N: Work, L: Ledger, S: Scans, D: Disk>(
         (asks_of_frames N.job (frame_if_closed reel.old.ledger.gates i))) }
     ensures tried { OnErr result (HasTried share.old share.new (keys_of_need (need_at N.job i))) }
     ensures closed { OnOk result (units.new.pending ≡ 0) }
-    ensures parts { units.new.parts ≡ units.old.parts }
-    ensures counted { units.new.amount + loads.old ≡ units.old.amount + loads.new }
-    ensures later { loads.old ≤ loads.new }
-    ensures two { loads.new ≤ loads.old + 2 }
+    ensures loads { HasLoaded 2 loads.old loads.new units.old units.new }
     ensures changed { IfErr result (λ end. IsChange end → loads.old < loads.new) }
     ensures scan { IsScanned S.world S.faults S.loads (loads.new - loads.old) (result
         ≡ Err RunEnd.SourceFault) scan.old scan.new }
     ensures same_scan { S.same scan.old scan.new }
 
-    ensures same_disk { D.same reel.old.disk reel.new.disk }
+    ensures same_disk { D.loans reel.new.disk ≡ D.loans reel.old.disk }
     ensures cause { HasCause (D.faults reel.old.disk) (D.faults reel.new.disk) (result
         ≡ Err RunEnd.DiskFault) }
     ensures steady { result ≢ Err RunEnd.DiskFault
@@ -197,7 +190,7 @@ pub(crate) fn run_frames<N: Work, L: Ledger, S: Scans, D: Disk>(
     ensures scan { IsScanned S.world S.faults S.loads loads.new (result
         ≡ RunEnd.SourceFault) scan.old scan.new }
     ensures same_scan { S.same scan.old scan.new }
-    ensures same_disk { D.same reel.old.disk reel.new.disk }
+    ensures same_disk { D.loans reel.new.disk ≡ D.loans reel.old.disk }
     ensures cause { HasCause (D.faults reel.old.disk) (D.faults reel.new.disk) (result
         ≡ RunEnd.DiskFault) }
     ensures steady { result ≢ RunEnd.DiskFault → D.faults reel.new.disk ≡ D.faults reel.old.disk }

@@ -10,6 +10,6 @@ mod sharing;
 
 pub use alone::{end_of_opening, report_of, run_alone};
 pub use frames::make_frame;
-pub use loading::fetch;
+pub use loading::fetch_to_share;
 pub use run_end::{Report, RunEnd};
 pub use sharing::lent;

@@ -10,7 +10,7 @@ ghost use Rattle.conform_job.specs.Answers.{AreInfosOf};
 ghost use Rattle.conform_job.specs.Keys.{info_at};
 ghost use Rattle.conform_job.specs.Names.{Tells};
 ghost use Rattle.frame_render.specs.Frame.{IsFrontOf};
-ghost use Rattle.single_run.specs.Ends.{seen_by, HasSeen, IsFail, IsSeenBy, IsStop};
+ghost use Rattle.single_run.specs.Ends.{seen_by, HasSeen, IsFail, IsSeenBy, IsUnrendered};
 ghost use Rattle.single_run.specs.Scanned.{IsScanned};
 
 use crate::RunEnd;
@@ -65,7 +65,7 @@ fn look<N: Work, S: Scans>(
         ≡ Err RunEnd.SourceFault) scan.old scan.new }
     ensures same { S.same scan.old scan.new }
 {
-    let _ = job.count();
+    job.recall();
     let path = job.path_of(key);
     match scan.load(&path, info.need(), into) {
         Loaded::Got { len } => Ok(seen_in(into, len)),
@@ -80,7 +80,7 @@ fn look<N: Work, S: Scans>(
 ///
 /// `Changed` comes where no file is there, or its header isn't what the job has, and tells which it is; `SourceFault`
 /// where the load failed; `NoMemory` for want of memory alone.
-pub fn fetch<N: Work, S: Scans>(
+fn fetch<N: Work, S: Scans>(
     alloc: Global,
     job: &Job,
     scan: &mut S,
@@ -93,9 +93,8 @@ pub fn fetch<N: Work, S: Scans>(
     requires infos { AreInfosOf N.job.parts N.files N.job.infos }
     requires known { info_at N.job.infos key ≡ Some info }
     ensures key { IfOk result (λ frame. (arc_value frame).key ≡ key) }
-    ensures stop { IfErr result (IsStop N.job N.files) }
+    ensures stop { IfErr result (IsUnrendered N.job N.files) }
     ensures seen { IfErr result (HasSeen key info rooms.new.file.items) }
-    ensures never { result ≢ Err RunEnd.DiskFault }
     ensures scan { IsScanned S.world S.faults S.loads 1 (result
         ≡ Err RunEnd.SourceFault) scan.old scan.new }
     ensures same { S.same scan.old scan.new }
@@ -118,6 +117,36 @@ pub fn fetch<N: Work, S: Scans>(
     let decoded = Decoded::within(room, job, key, &info, &rooms.file);
     match Arc::new(alloc, decoded) {
         Ok(frame) => Ok(frame),
+        Err(_) => Err(RunEnd::NoMemory),
+    }
+}
+
+/// The source frame that `fetch` loads, twice: to be shared, and for who asked for it.
+pub fn fetch_to_share<N: Work, S: Scans>(
+    alloc: Global,
+    job: &Job,
+    scan: &mut S,
+    key: Key,
+    info: FrameInfo,
+    rooms: &mut Rooms<N>,
+) -> Result<(Arc<Decoded<N>>, Arc<Decoded<N>>), RunEnd>
+    requires job { job.now ≡ N.job }
+    requires files { Tells N.files (S.world scan.old) }
+    requires infos { AreInfosOf N.job.parts N.files N.job.infos }
+    requires known { info_at N.job.infos key ≡ Some info }
+    ensures shared { IfOk result (λ frames. (arc_value frames.0).key ≡ key) }
+    ensures ours { IfOk result (λ frames. (arc_value frames.1).key ≡ key) }
+    ensures stop { IfErr result (IsUnrendered N.job N.files) }
+    ensures scan { IsScanned S.world S.faults S.loads 1 (result
+        ≡ Err RunEnd.SourceFault) scan.old scan.new }
+    ensures same { S.same scan.old scan.new }
+{
+    let frame = match fetch::<N, S>(alloc, job, scan, key, info, rooms) {
+        Ok(frame) => frame,
+        Err(end) => return Err(end),
+    };
+    match Arc::try_clone(&frame) {
+        Ok(ours) => Ok((frame, ours)),
         Err(_) => Err(RunEnd::NoMemory),
     }
 }

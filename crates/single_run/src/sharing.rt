@@ -1,5 +1,5 @@
 //! Source frames by way of the share: one that is there isn't loaded again.
-ghost use Rattle.std.specs.Prelude.{◌≡◌, ◌≢◌, ◌+◌, ◌-◌, ◌<◌, ◌≤◌, ◌^◌, ◌∷◌, [], Some, Err, IfSome, IfOk, IfErr, OnOk, OnErr};
+ghost use Rattle.std.specs.Prelude.{◌≡◌, ◌+◌, ◌-◌, ◌<◌, ◌^◌, ◌∷◌, [], Some, Err, IfSome, IfOk, IfErr, OnOk, OnErr};
 ghost use Rattle.std.specs.Arc.{arc_value};
 ghost use Rattle.std.specs.Option.{option_copied, option_map};
 ghost use Rattle.dpx_header.specs.declared.info.FrameInfo.{FrameInfo};
@@ -8,12 +8,12 @@ ghost use Rattle.conform_job.specs.Keys.{info_at};
 ghost use Rattle.conform_job.specs.Names.{Tells};
 ghost use Rattle.frame_render.specs.Frame.{HasKeyOf};
 ghost use Rattle.single_run.specs.Asks.{key_of_side};
-ghost use Rattle.single_run.specs.Ends.{IsChange, IsStop};
-ghost use Rattle.single_run.specs.Scanned.{IsScanned};
+ghost use Rattle.single_run.specs.Ends.{IsChange, IsUnrendered};
+ghost use Rattle.single_run.specs.Scanned.{HasLoaded, IsScanned};
 ghost use Rattle.single_run.specs.Sharing.{HasAsked, HasTried};
 
 use crate::RunEnd;
-use crate::loading::fetch;
+use crate::loading::fetch_to_share;
 use cf_base::Key;
 use conform_job::{Job, Work};
 use dpx_header::FrameInfo;
@@ -44,15 +44,11 @@ fn frame_of<N: Work, L: Ledger, S: Scans>(
     requires closed { units.old.pending ≡ 0 }
     requires few { loads.old + 1 < 2 ^ 64 }
     ensures key { IfOk result (λ frame. (arc_value frame).key ≡ key) }
-    ensures stop { IfErr result (IsStop N.job N.files) }
-    ensures never { result ≢ Err RunEnd.DiskFault }
+    ensures stop { IfErr result (IsUnrendered N.job N.files) }
     ensures asked { OnOk result (HasAsked share.old share.new (key ∷ [])) }
     ensures tried { OnErr result (HasTried share.old share.new (key ∷ [])) }
     ensures closed { OnOk result (units.new.pending ≡ 0) }
-    ensures parts { units.new.parts ≡ units.old.parts }
-    ensures counted { units.new.amount + loads.old ≡ units.old.amount + loads.new }
-    ensures later { loads.old ≤ loads.new }
-    ensures most { loads.new ≤ loads.old + 1 }
+    ensures loads { HasLoaded 1 loads.old loads.new units.old units.new }
     ensures changed { IfErr result (λ end. IsChange end → loads.old < loads.new) }
     ensures scan { IsScanned S.world S.faults S.loads (loads.new - loads.old) (result
         ≡ Err RunEnd.SourceFault) scan.old scan.new }
@@ -64,13 +60,9 @@ fn frame_of<N: Work, L: Ledger, S: Scans>(
         Ask::Miss(ticket) => ticket,
     };
     *loads += 1;
-    let frame = match fetch::<N, S>(alloc, job, scan, key, info, rooms) {
-        Ok(frame) => frame,
+    let (frame, ours) = match fetch_to_share::<N, S>(alloc, job, scan, key, info, rooms) {
+        Ok(frames) => frames,
         Err(end) => return Err(end),
-    };
-    let ours = match Arc::try_clone(&frame) {
-        Ok(ours) => ours,
-        Err(_) => return Err(RunEnd::NoMemory),
     };
     match share.put(ticket, frame, units, &mut rooms.spare) {
         Placed::Kept | Placed::Left => Ok(ours),
@@ -96,15 +88,11 @@ pub(crate) fn side_of<N: Work, L: Ledger, S: Scans>(
     requires closed { units.old.pending ≡ 0 }
     requires few { loads.old + 1 < 2 ^ 64 }
     ensures key { IfOk result (λ frame. HasKeyOf need (option_map (λ f. arc_value f) frame)) }
-    ensures stop { IfErr result (IsStop N.job N.files) }
-    ensures never { result ≢ Err RunEnd.DiskFault }
+    ensures stop { IfErr result (IsUnrendered N.job N.files) }
     ensures asked { OnOk result (HasAsked share.old share.new (key_of_side need)) }
     ensures tried { OnErr result (HasTried share.old share.new (key_of_side need)) }
     ensures closed { OnOk result (units.new.pending ≡ 0) }
-    ensures parts { units.new.parts ≡ units.old.parts }
-    ensures counted { units.new.amount + loads.old ≡ units.old.amount + loads.new }
-    ensures later { loads.old ≤ loads.new }
-    ensures most { loads.new ≤ loads.old + 1 }
+    ensures loads { HasLoaded 1 loads.old loads.new units.old units.new }
     ensures changed { IfErr result (λ end. IsChange end → loads.old < loads.new) }
     ensures scan { IsScanned S.world S.faults S.loads (loads.new - loads.old) (result
         ≡ Err RunEnd.SourceFault) scan.old scan.new }

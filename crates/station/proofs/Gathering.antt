@@ -13,9 +13,12 @@ use Rattle.render_board.specs.declared.step.Why.TheVariants.{Source, Disk, Memor
 use Rattle.render_board.specs.History.{first_why, is_changed, is_disk, is_source, is_stop_by, stops_of}
 use Rattle.render_board.specs.Board.{has_stop}
 use Rattle.single_run.specs.declared.run_end.RunEnd.TheVariants.{Done, SourceFault, DiskFault}
-use Rattle.station.specs.Crews.{AreWorked, IsWorked, end_by}
+use Rattle.station.specs.Crews.{AreWorked, end_by}
+use Rattle.station.specs.Each.{EachBecame}
+use Rattle.station.specs.Stepped.{HasWorked, IsFresh}
+use Rattle.station.specs.declared.seat.Seat.{Seat}
 use Rattle.single_run.specs.Ends.{IsChange}
-use Rattle.shared_station.specs.Marks.{Tallies, fresh}
+use Rattle.shared_station.specs.Marks.{Tallies}
 use Rattle.single_run.specs.Scanned.{IsScanned}
 use Rattle.single_run.proofs.Scanning.{scanned_itself}
 
@@ -53,70 +56,76 @@ mapped_at f R xs ys k s same lt each =
     subst (λ (a : _). R a (get_or (map f ys) k s)) (sym (get_or-map f xs k d s lt))
     (subst (λ (b : _). R (f (get_or xs k d)) b) (sym (get_or-map f ys k d s (omega (arith, lt, same)))) (each d))
 
-module _ {X S : Type 0} (told : Option World) (world : S → Option World) (faults loads : S → ℕ) (same : S → S → Type 0) (scan : X → S) (count : X → ℕ) (has : X → Bool) (marks : X → Tallies)
-    (xs ys : List X) (threads : ℕ) (size : length ys ≡ length xs)
-    (each : (k : ℕ) (d : X) → k < length xs → IsWorked told world faults loads (scan (get_or xs k d)) (scan (get_or ys k d)) (count (get_or ys k d)) (has (get_or ys k d)) (marks (get_or xs k d)) (marks (get_or ys k d)))
-    (idle : All (λ x. marks x ≡ fresh) xs) where
+module _ {S N A B C E F : Type 0} (told : Option World) (world : S → Option World) (faults loads : S → ℕ) (same : S → S → Type 0) (xs ys : List (Seat S N A B C E F)) (threads most : ℕ) (size : length ys ≡ length xs)
+    (worked : EachBecame (length xs) (HasWorked told world faults loads same most) xs ys) (idle : All (λ x. IsFresh x) xs) where
+  abbrev scan_of : Seat S N A B C E F → S
+  scan_of x = x.scan
+
+  abbrev loads_of : Seat S N A B C E F → ℕ
+  loads_of x = x.loads
+
+  abbrev failed_of : Seat S N A B C E F → Bool
+  failed_of x = x.has_failed
+
   -- a stop for a source file was counted at a seat whose load failed
-  source_seat : 1 ≤ sum_by (λ x. (marks x).source.amount) ys → (k : ℕ) × (k < length xs) × ((d : X) → has (get_or ys k d) ≡ true)
+  source_seat : 1 ≤ sum_by (λ x. x.marks.source.amount) ys → (k : ℕ) × (k < length xs) × ((d : Seat S N A B C E F) → (get_or ys k d).has_failed ≡ true)
   source_seat some =
-      let found = some_item (λ x. (marks x).source.amount) ys some in
+      let found = some_item (λ x. x.marks.source.amount) ys some in
       let within : found.0 < length xs = omega (arith, found.1, size) in (
         found.0,
         within,
         λ d.
-            let none = ap (λ (m : Tallies). m.source.amount) (idle found.0 d within) in
-            (each found.0 d within).causes.source (omega (arith, none, found.2 d)),
+            let none = ap (λ (m : Tallies). m.source.amount) (idle found.0 d within).marks in
+            (worked found.0 d within).causes.source (omega (arith, none, found.2 d)),
       )
 
   -- and for one that has changed at a seat that loaded
-  pub changed_seat : 1 ≤ sum_by (λ x. (marks x).changed.amount) ys → 1 ≤ sum_by count ys
+  pub changed_seat : 1 ≤ sum_by (λ x. x.marks.changed.amount) ys → 1 ≤ sum_by loads_of ys
   changed_seat some =
-      let found = some_item (λ x. (marks x).changed.amount) ys some in
+      let found = some_item (λ x. x.marks.changed.amount) ys some in
       let within : found.0 < length xs = omega (arith, found.1, size) in
       let d = first_of xs found.0 within in
-      let none = ap (λ (m : Tallies). m.changed.amount) (idle found.0 d within) in
-      let loaded = ((each found.0 d within).causes.changed (omega (arith, none, found.2 d))).0 in
-      omega (arith, loaded, item_within count ys found.0 d found.1)
+      let none = ap (λ (m : Tallies). m.changed.amount) (idle found.0 d within).marks in
+      let loaded = ((worked found.0 d within).causes.changed (omega (arith, none, found.2 d))).0 in
+      omega (arith, loaded, item_within loads_of ys found.0 d found.1)
 
   abbrev IsScannedAt : ℕ → S → S → Type 0
-  IsScannedAt k a b = IsScanned world faults loads (get_or (map count ys) k 0) (get_or (map has ys) k false ≡ true) a b
+  IsScannedAt k a b = IsScanned world faults loads (get_or (map loads_of ys) k 0) (get_or (map failed_of ys) k false ≡ true) a b
 
-  pub gathered : (before after : List S) (all : ℕ) (Failed : Type 0) → map scan xs ≡ before → after ≡ map scan ys → all ≡ sum_by count ys
-      → ((k : ℕ) (d : X) → k < length xs → same (scan (get_or xs k d)) (scan (get_or ys k d)))
-      → ((k : ℕ) (d : X) → threads ≤ k → get_or ys k d ≡ get_or xs k d)
-      → (Failed → 1 ≤ sum_by (λ x. (marks x).source.amount) ys)
+  pub gathered : (before after : List S) (all : ℕ) (Failed : Type 0) → map scan_of xs ≡ before → after ≡ map scan_of ys → all ≡ sum_by loads_of ys
+      → ((k : ℕ) (d : Seat S N A B C E F) → threads ≤ k → get_or ys k d ≡ get_or xs k d)
+      → (Failed → 1 ≤ sum_by (λ x. x.marks.source.amount) ys)
       → AreWorked world faults loads same threads all Failed before after
-  gathered before after all Failed first last total lent unused fails =
+  gathered before after all Failed first last total unused fails =
       subst (λ (l : List S). AreWorked world faults loads same threads all Failed l after) first
-      (subst (λ (l : List S). AreWorked world faults loads same threads all Failed (map scan xs) l) (sym last) (record {
-        size = length-map ys scan ∙ size ∙ sym (length-map xs scan);
-        counts = map count ys;
-        flags = map has ys;
-        sum = sum_mapped count ys ∙ sym total;
+      (subst (λ (l : List S). AreWorked world faults loads same threads all Failed (map scan_of xs) l) (sym last) (record {
+        size = length-map ys scan_of ∙ size ∙ sym (length-map xs scan_of);
+        counts = map loads_of ys;
+        flags = map failed_of ys;
+        sum = sum_mapped loads_of ys ∙ sym total;
         each = λ k s lt.
-            let within : k < length xs = omega (arith, lt, length-map xs scan) in
-            mapped_at scan (λ a b. IsScannedAt k a b) xs ys k s size within (λ d. at_seat k d within);
-        lent = λ k s lt. let within : k < length xs = omega (arith, lt, length-map xs scan) in mapped_at scan same xs ys k s size within (λ d. lent k d within);
+            let within : k < length xs = omega (arith, lt, length-map xs scan_of) in
+            mapped_at scan_of (λ a b. IsScannedAt k a b) xs ys k s size within (λ d. at_seat k d within);
+        lent = λ k s lt. let within : k < length xs = omega (arith, lt, length-map xs scan_of) in mapped_at scan_of same xs ys k s size within (λ d. (worked k d within).lent);
         unused = λ k s late. same_at k s late (cases_lt k (length xs));
         failed = λ is.
             let found = source_seat (fails is) in
             let d = first_of xs found.0 found.1 in
-            (found.0, omega (arith, found.1, length-map xs scan), get_or-map has ys found.0 d false (omega (arith, found.1, size)) ∙ found.2 d);
+            (found.0, omega (arith, found.1, length-map xs scan_of), get_or-map failed_of ys found.0 d false (omega (arith, found.1, size)) ∙ found.2 d);
       }))
     where
-      at_seat : (k : ℕ) (d : X) → k < length xs → IsScannedAt k (scan (get_or xs k d)) (scan (get_or ys k d))
+      at_seat : (k : ℕ) (d : Seat S N A B C E F) → k < length xs → IsScannedAt k ((get_or xs k d).scan) ((get_or ys k d).scan)
       at_seat k d within =
-          subst (λ (n : ℕ). IsScanned world faults loads n (get_or (map has ys) k false ≡ true) (scan (get_or xs k d)) (scan (get_or ys k d))) (sym (get_or-map count ys k d 0 (omega (arith, within, size))))
-          (subst (λ (b : Bool). IsScanned world faults loads (count (get_or ys k d)) (b ≡ true) (scan (get_or xs k d)) (scan (get_or ys k d))) (sym (get_or-map has ys k d false (omega (arith, within, size))))
-          (each k d within).scanned)
+          subst (λ (n : ℕ). IsScanned world faults loads n (get_or (map failed_of ys) k false ≡ true) ((get_or xs k d).scan) ((get_or ys k d).scan)) (sym (get_or-map loads_of ys k d 0 (omega (arith, within, size))))
+          (subst (λ (b : Bool). IsScanned world faults loads ((get_or ys k d).loads) (b ≡ true) ((get_or xs k d).scan) ((get_or ys k d).scan)) (sym (get_or-map failed_of ys k d false (omega (arith, within, size))))
+          (worked k d within).scanned)
 
-      same_at : (k : ℕ) (s : S) → threads ≤ k → (k < length xs) ⊎ (length xs ≤ k) → get_or (map scan ys) k s ≡ get_or (map scan xs) k s
+      same_at : (k : ℕ) (s : S) → threads ≤ k → (k < length xs) ⊎ (length xs ≤ k) → get_or (map scan_of ys) k s ≡ get_or (map scan_of xs) k s
       same_at k s late (inl within) =
           let d = first_of xs k within in
-          get_or-map scan ys k d s (omega (arith, within, size)) ∙ ap scan (unused k d late) ∙ sym (get_or-map scan xs k d s within)
+          get_or-map scan_of ys k d s (omega (arith, within, size)) ∙ ap scan_of (unused k d late) ∙ sym (get_or-map scan_of xs k d s within)
       same_at k s late (inr past) =
-          get_or_past (map scan ys) k s (omega (arith, past, size, length-map ys scan)) ∙ sym (get_or_past (map scan xs) k s (omega (arith, past, length-map xs scan)))
+          get_or_past (map scan_of ys) k s (omega (arith, past, size, length-map ys scan_of)) ∙ sym (get_or_past (map scan_of xs) k s (omega (arith, past, length-map xs scan_of)))
 
 -- where no worker was made, no scan was used
 pub unworked : {S : Type 0} (world : S → Option World) (faults loads : S → ℕ) (same : S → S → Type 0) → ((s : S) → same s s) → (threads all : ℕ) (Failed : Type 0) (before after : List S)

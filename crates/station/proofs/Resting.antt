@@ -1,6 +1,6 @@
 -- How steps that are made from a seat add up, and what is left when none is free.
 use Rattle.std.proofs.Common.{◌≡◌, ◌≢◌, inl, inr, ℕ, ◌+◌, ◌-◌, ◌<◌, ◌≤◌, Bool, true, false, ◌||◌, List, [], ◌∷◌, ◌++◌, All, length, get_or, set, refl, sym, ◌∙◌, ap, subst, arith}
-use Rattle.std.specs.Prelude.{◌⊎◌, Option}
+use Rattle.std.specs.Prelude.{◌⊎◌, ◌↔◌, Option, Result, Ok, Err, IfErr, IfOk, IsOk, IsOkAnd, OnErr, OnOk}
 use Rattle.std.proofs.lemmas.Bool.{true≢false, cases_eq, cases_lt}
 use Rattle.cf_base.specs.Count.{HasRisen}
 use Rattle.scan_source.specs.World.{World}
@@ -12,6 +12,7 @@ use Rattle.render_board.specs.declared.board.Turn.TheVariants as turns
 use Rattle.render_board.specs.declared.step.Step.{Step}
 use Rattle.render_board.specs.declared.step.Step.TheVariants.{Claim, Finish, Stop}
 use Rattle.render_board.specs.declared.step.Why.{Why}
+use Rattle.render_board.specs.declared.step.Why.TheVariants.{Source, Disk, Memory, Changed}
 use Rattle.render_board.specs.declared.board.Claim.{Claim as Answer}
 use Rattle.render_board.specs.declared.board.Claim.TheVariants as answers
 use Rattle.render_board.specs.Board.{Log, IsLegal, IsNext, after_claim, claim_of, free_count, has_stop, is_done, is_free, turn_of, with_step}
@@ -23,18 +24,25 @@ use Rattle.render_board.proofs.Runs.{true_or_false}
 use Rattle.render_board.proofs.Steps.{has_stop-step, turn_of-other, turn_of-own}
 use Rattle.conform_job.specs.Job.{JobData}
 use Rattle.frame_share.specs.Units.{Tally}
-use Rattle.single_run.specs.Ends.{IsChange, IsStop}
+use Rattle.single_run.specs.Ends.{IsChange, IsUnrendered}
 use Rattle.single_run.specs.declared.run_end.RunEnd.{RunEnd}
 use Rattle.single_run.specs.declared.run_end.RunEnd.TheVariants.{Done, OtherJob, BadLedger, Changed as IsNow, SourceFault, DiskFault, NoMemory}
-use Rattle.station.specs.Crews.{IsWorked}
+use Rattle.reel_disk.specs.declared.disk.DiskFault.{DiskFault as DiskFailed}
+use Rattle.shared_station.specs.Leaving.{HasLeft}
 use Rattle.shared_station.specs.Marks.{Tallies, raised_by}
+use Rattle.shared_station.specs.declared.leaving.Leave.{Leave}
+use Rattle.shared_station.specs.declared.leaving.Leave.TheVariants as leaves
 use Rattle.shared_station.specs.StationSteps.{why_by}
 use Rattle.conform_job.specs.Answers.{count_after}
-use Rattle.single_run.specs.Scanned.{IsScanned}
-use Rattle.station.specs.Stepped.{HasStepped}
-use Rattle.station.specs.Worked.{HasCauses, HasCounted}
-use Rattle.single_run.proofs.Scanning.{loads_along, scanned_itself}
-use Rattle.station.proofs.Working.{counted_along, parts_along, causes_none}
+use Rattle.single_run.specs.Scanned.{HasLoaded, IsScanned}
+use Rattle.frame_render.specs.Frame.{FrameBytes}
+use Rattle.station.specs.Each.{EachBecame}
+use Rattle.station.specs.Left.{HasDone}
+use Rattle.station.specs.Stepped.{HasStepped, HasWorked, IsReady}
+use Rattle.station.specs.Worked.{HasCauses, HasMarked}
+use Rattle.station.specs.declared.seat.Seat.{Seat}
+use Rattle.single_run.proofs.Scanning.{loads_along, scanned_as, scanned_itself}
+use Rattle.station.proofs.Working.{parts_along, causes_none}
 
 or_left : (a b : Bool) → a ≡ true → (a || b) ≡ true
 or_left true b is = refl
@@ -51,6 +59,11 @@ or_same false b c = refl
 or_none : (a : Bool) → a ≡ (a || false)
 or_none true = refl
 or_none false = refl
+
+-- a failure, where there was none before
+pub failed_alone : (had failed : Bool) → had ≡ false → failed ≡ (had || failed)
+failed_alone true failed none = absurd (true≢false none)
+failed_alone false failed none = refl
 
 module _ {S : Type 0} (told : Option World) (world : S → Option World) (faults loads : S → ℕ) where
   both_scanned : (old mid new : S) (n m : ℕ) (a b : Bool) → IsScanned world faults loads n (a ≡ true) old mid → IsScanned world faults loads m (b ≡ true) mid new → IsScanned world faults loads (n + m) ((a || b) ≡ true) old new
@@ -77,26 +90,6 @@ module _ {S : Type 0} (told : Option World) (world : S → Option World) (faults
       | inl early ↦ let cause = first.changed early in (omega (arith, cause.0), cause.1)
       | inr none ↦ let cause = second.changed (omega (arith, none, rose)) in (omega (arith, cause.0), cause.1)
     ];
-  }
-
-  pub stepped_itself : (scan : S) (count : ℕ) (had : Bool) (marks : Tallies) → HasStepped told world faults loads scan scan count count had had marks marks
-  stepped_itself scan count had marks = record {
-    more = 0;
-    failed = false;
-    counts = omega arith;
-    fails = or_none had;
-    scanned = scanned_itself world faults loads (false ≡ true) (λ e. true≢false (sym e)) scan;
-    causes = causes_none told marks marks 0 false (record { source = refl; disk = refl; memory = refl; changed = refl }) (record { source = refl; changed = refl });
-  }
-
-  pub stepped_along : (s t u : S) (k l m : ℕ) (a b c : Bool) (x y z : Tallies) → HasStepped told world faults loads s t k l a b x y → HasStepped told world faults loads t u l m b c y z → HasStepped told world faults loads s u k m a c x z
-  stepped_along s t u k l m a b c x y z first second = record {
-    more = first.more + second.more;
-    failed = first.failed || second.failed;
-    counts = let p = first.counts in let q = second.counts in omega (arith, p, q);
-    fails = second.fails ∙ ap (λ (o : Bool). o || second.failed) first.fails ∙ or_same a first.failed second.failed;
-    scanned = both_scanned s t u first.more second.more first.failed second.failed first.scanned second.scanned;
-    causes = both_cause x y z first.more second.more first.failed second.failed first.causes second.causes;
   }
 
 -- a finish of a claim that was just made leaves all workers idle
@@ -132,24 +125,149 @@ closed_has_stop steps some = elim (true_or_false (has_stop steps)) [
 pub stop_has_stop : (steps : List Step) (w : ℕ) (why : Why) → has_stop (steps ++ Stop w why ∷ []) ≡ true
 stop_has_stop steps w why = has_stop-step steps (Stop w why) ∙ or_right (has_stop steps) true refl
 
--- a stop has the cause of the end that it stands for
-pub stop_causes : (job : JobData) (told : Option World) (end : RunEnd) (why : Why) (more : ℕ) (failed : Bool) (before now : Tallies) → why ≡ why_by end → IsStop job told end → (end ≡ SourceFault → failed ≡ true) → (IsChange end → 1 ≤ more) → now ≡ raised_by why before → HasCauses told more failed before now
-stop_causes job told end why more failed before now same stop fails loaded raised =
-    subst (HasCauses told more failed before) (sym (raised ∙ ap (λ (w : Why). raised_by w before) same)) (by end stop fails loaded)
-  where
-    by : (end : RunEnd) → IsStop job told end → (end ≡ SourceFault → failed ≡ true) → (IsChange end → 1 ≤ more) → HasCauses told more failed before (raised_by (why_by end) before)
-    by Done stop fails loaded = absurd stop
-    by (OtherJob kept wanted) stop fails loaded = absurd stop
-    by (BadLedger len) stop fails loaded = absurd stop
-    by (IsNow key was now) stop fails loaded = record { parts = record { source = refl; disk = refl; memory = refl; changed = refl }; source = λ rose. absurd (omega (arith, rose)); changed = λ rose. (loaded (key, was, now, refl), stop.untold) }
-    by SourceFault stop fails loaded = record { parts = record { source = refl; disk = refl; memory = refl; changed = refl }; source = λ rose. fails refl; changed = λ rose. absurd (omega (arith, rose)) }
-    by DiskFault stop fails loaded = record { parts = record { source = refl; disk = refl; memory = refl; changed = refl }; source = λ rose. absurd (omega (arith, rose)); changed = λ rose. absurd (omega (arith, rose)) }
-    by NoMemory stop fails loaded = record { parts = record { source = refl; disk = refl; memory = refl; changed = refl }; source = λ rose. absurd (omega (arith, rose)); changed = λ rose. absurd (omega (arith, rose)) }
+-- a stop that is not for a source file
+abbrev IsQuiet : Why → Type 0
+IsQuiet Source = ⊥
+IsQuiet Disk = Unit {0}
+IsQuiet Memory = Unit {0}
+IsQuiet (Changed key was now) = ⊥
 
-pub stepped_by : {S : Type 0} (told : Option World) (world : S → Option World) (faults loads : S → ℕ) (scan now : S) (counted count : ℕ) (had has failed : Bool) (before after : Tallies)
-    → counted ≤ count → has ≡ (had || failed) → IsScanned world faults loads (count - counted) (failed ≡ true) scan now → HasCauses told (count - counted) failed before after
-    → HasStepped told world faults loads scan now counted count had has before after
-stepped_by told world faults loads scan now counted count had has failed before after le fails scanned causes = record { more = count - counted; failed = failed; counts = omega (arith, le); fails = fails; scanned = scanned; causes = causes }
+quiet_causes : (told : Option World) (why : Why) (more : ℕ) (failed : Bool) (before : Tallies) → IsQuiet why → HasCauses told more failed before (raised_by why before)
+quiet_causes told Source more failed before quiet = absurd quiet
+quiet_causes told Disk more failed before quiet = record { parts = record { source = refl; disk = refl; memory = refl; changed = refl }; source = λ rose. absurd (omega (arith, rose)); changed = λ rose. absurd (omega (arith, rose)) }
+quiet_causes told Memory more failed before quiet = record { parts = record { source = refl; disk = refl; memory = refl; changed = refl }; source = λ rose. absurd (omega (arith, rose)); changed = λ rose. absurd (omega (arith, rose)) }
+quiet_causes told (Changed key was now) more failed before quiet = absurd quiet
+
+-- a stop has the cause of the end that it stands for
+stop_causes : (job : JobData) (told : Option World) (end : RunEnd) (more : ℕ) (failed : Bool) (before : Tallies) → IsUnrendered job told end → (end ≡ SourceFault → failed ≡ true) → (IsChange end → 1 ≤ more) → HasCauses told more failed before (raised_by (why_by end) before)
+stop_causes job told Done more failed before stop fails loaded = absurd stop
+stop_causes job told (OtherJob kept wanted) more failed before stop fails loaded = absurd stop
+stop_causes job told (BadLedger len) more failed before stop fails loaded = absurd stop
+stop_causes job told (IsNow key was now) more failed before stop fails loaded = record { parts = record { source = refl; disk = refl; memory = refl; changed = refl }; source = λ rose. absurd (omega (arith, rose)); changed = λ rose. (loaded (key, was, now, refl), stop.untold) }
+stop_causes job told SourceFault more failed before stop fails loaded = record { parts = record { source = refl; disk = refl; memory = refl; changed = refl }; source = λ rose. fails refl; changed = λ rose. absurd (omega (arith, rose)) }
+stop_causes job told DiskFault more failed before stop fails loaded = absurd stop
+stop_causes job told NoMemory more failed before stop fails loaded = quiet_causes told Memory more failed before tt
+
+module _ (told : Option World) {T : Type 0} (made : Result T RunEnd) (before now : Tallies) where
+  pub marked_none : now ≡ before → HasMarked told made before now
+  marked_none same loads failed fails loaded =
+      subst (HasCauses told loads failed before) (sym same) (causes_none told before before loads failed (record { source = refl; disk = refl; memory = refl; changed = refl }) (record { source = refl; changed = refl }))
+
+  pub marked_disk : now ≡ raised_by Disk before → HasMarked told made before now
+  marked_disk same loads failed fails loaded = subst (HasCauses told loads failed before) (sym same) (quiet_causes told Disk loads failed before tt)
+
+  pub marked_end : (job : JobData) (end : RunEnd) (why : Why) → made ≡ Err end → IfErr made (IsUnrendered job told) → why ≡ why_by end → now ≡ raised_by why before → HasMarked told made before now
+  marked_end job end why is stop by same loads failed fails loaded =
+      subst (HasCauses told loads failed before) (sym (same ∙ ap (λ (w : Why). raised_by w before) by))
+      (stop_causes job told end loads failed before (subst (λ (r : Result T RunEnd). IfErr r (IsUnrendered job told)) is stop) (λ fault. fails (is ∙ ap Err fault)) (subst (λ (r : Result T RunEnd). IfErr r (λ e. IsChange e → 1 ≤ loads)) is loaded))
+
+  -- a finish that may have failed
+  pub marked_finish : (result : Result (Unit {0}) DiskFailed) → OnOk result (now ≡ before) → OnErr result (now ≡ raised_by Disk before) → HasMarked told made before now
+  marked_finish (Ok done) same raised = marked_none same
+  marked_finish (Err fault) same raised = marked_disk raised
+
+  -- a stop, or none where the worker was turned away
+  pub marked_left : (Is : Why → Type 0) (leave : Leave) → HasLeft Is before now leave → ((why : Why) → Is why → now ≡ raised_by why before → HasMarked told made before now) → HasMarked told made before now
+  marked_left Is leaves.Stopped (why, is, same) each = each why is same
+  marked_left Is (leaves.Away reason) same each = marked_none same
+
+module _ {S N A B C E F : Type 0} (told : Option World) (world : S → Option World) (faults loads : S → ℕ) (same : S → S → Type 0) where
+  abbrev Stepped : ℕ → Seat S N A B C E F → Seat S N A B C E F → Type 0
+  Stepped most old new = HasStepped told world faults loads same most old new
+
+  abbrev Worked : ℕ → Seat S N A B C E F → Seat S N A B C E F → Type 0
+  Worked most old new = HasWorked told world faults loads same most old new
+
+  -- nothing was loaded, and a stop may be counted that is not for a source file
+  pub stepped_marked : ((s : S) → same s s) → (most : ℕ) (old new : Seat S N A B C E F) → new.scan ≡ old.scan → new.units ≡ old.units → new.loads ≡ old.loads → new.has_failed ≡ old.has_failed → HasCauses told 0 false old.marks new.marks → Stepped most old new
+  stepped_marked itself most old new scan units count has causes = record {
+    more = 0;
+    failed = false;
+    few = omega arith;
+    counts = omega (arith, count);
+    fails = has ∙ or_none old.has_failed;
+    units = record { parts = ap (λ (u : Tally). u.parts) units; amount = let amount = ap (λ (u : Tally). u.amount) units in omega (arith, amount) };
+    scanned = subst (λ (s : S). IsScanned world faults loads 0 (false ≡ true) old.scan s) (sym scan) (scanned_itself world faults loads (false ≡ true) (λ e. true≢false (sym e)) old.scan);
+    lent = subst (λ (s : S). same old.scan s) (sym scan) (itself old.scan);
+    causes = causes;
+  }
+
+  pub stepped_itself : ((s : S) → same s s) → (most : ℕ) (seat : Seat S N A B C E F) → Stepped most seat seat
+  stepped_itself itself most seat = stepped_marked itself most seat seat refl refl refl refl (causes_none told seat.marks seat.marks 0 false (record { source = refl; disk = refl; memory = refl; changed = refl }) (record { source = refl; changed = refl }))
+
+  -- the worker has stopped for want of memory, or was turned away
+  pub stepped_left : ((s : S) → same s s) → (most : ℕ) (old new : Seat S N A B C E F) (leave : Leave) → new.scan ≡ old.scan → new.units ≡ old.units → new.loads ≡ old.loads → new.has_failed ≡ old.has_failed
+      → HasLeft (λ why. why ≡ Memory) old.marks new.marks leave → Stepped most old new
+  stepped_left itself most old new leave scan units count has left =
+      stepped_marked itself most old new scan units count has (by leave left)
+    where
+      by : (leave : Leave) → HasLeft (λ why. why ≡ Memory) old.marks new.marks leave → HasCauses told 0 false old.marks new.marks
+      by leaves.Stopped (why, is, raised) = subst (HasCauses told 0 false old.marks) (sym (raised ∙ ap (λ (w : Why). raised_by w old.marks) is)) (quiet_causes told Memory 0 false old.marks tt)
+      by (leaves.Away reason) still = subst (HasCauses told 0 false old.marks) (sym still) (causes_none told old.marks old.marks 0 false (record { source = refl; disk = refl; memory = refl; changed = refl }) (record { source = refl; changed = refl }))
+
+  pub stepped_along : ((a b c : S) → same a b → same b c → same a c) → (n m most : ℕ) (old mid new : Seat S N A B C E F) → n + m ≤ most → Stepped n old mid → Stepped m mid new → Stepped most old new
+  stepped_along along n m most old mid new le first second = record {
+    more = first.more + second.more;
+    failed = first.failed || second.failed;
+    few = let p = first.few in let q = second.few in omega (arith, p, q, le);
+    counts = let p = first.counts in let q = second.counts in omega (arith, p, q);
+    fails = second.fails ∙ ap (λ (o : Bool). o || second.failed) first.fails ∙ or_same old.has_failed first.failed second.failed;
+    units = record { parts = second.units.parts ∙ first.units.parts; amount = let p = first.units.amount in let q = second.units.amount in omega (arith, p, q) };
+    scanned = both_scanned told world faults loads old.scan mid.scan new.scan first.more second.more first.failed second.failed first.scanned second.scanned;
+    lent = along old.scan mid.scan new.scan first.lent second.lent;
+    causes = both_cause told world faults loads old.marks mid.marks new.marks first.more second.more first.failed second.failed first.causes second.causes;
+  }
+
+  pub stepped_within : (most more : ℕ) (old new : Seat S N A B C E F) → most ≤ more → Stepped most old new → Stepped more old new
+  stepped_within most more old new le step = record { more = step.more; failed = step.failed; few = let few = step.few in omega (arith, few, le); counts = step.counts; fails = step.fails; units = step.units; scanned = step.scanned; lent = step.lent; causes = step.causes }
+
+  -- a frame was made or could not be, and its stop was counted
+  pub stepped_made : {T : Type 0} (most : ℕ) (old new : Seat S N A B C E F) (made : Result T RunEnd) (fault : Bool) → (fault ≡ true) ↔ (made ≡ Err SourceFault) → new.has_failed ≡ (old.has_failed || fault)
+      → HasLoaded most old.loads new.loads old.units new.units → IsScanned world faults loads (new.loads - old.loads) (made ≡ Err SourceFault) old.scan new.scan → same old.scan new.scan
+      → IfErr made (λ end. IsChange end → old.loads < new.loads) → HasMarked told made old.marks new.marks → Stepped most old new
+  stepped_made {T = T} most old new made fault is has counted scanned lent changed marked = record {
+    more = new.loads - old.loads;
+    failed = fault;
+    few = omega (arith, counted.few, counted.later);
+    counts = omega (arith, counted.later);
+    fails = has;
+    units = record { parts = counted.parts; amount = omega (arith, counted.misses, counted.later) };
+    scanned = scanned_as world faults loads old.scan new.scan _ _ _ (fault ≡ true) refl is.0 is.1 scanned;
+    lent = lent;
+    causes = marked (new.loads - old.loads) fault is.1 (loaded made changed);
+  }
+    where
+      loaded : (made : Result T RunEnd) → IfErr made (λ end. IsChange end → old.loads < new.loads) → IfErr made (λ end. IsChange end → 1 ≤ new.loads - old.loads)
+      loaded (Ok frame) more = tt
+      loaded (Err end) more = λ change. let lt = more change in omega (arith, lt)
+
+  -- from nothing on, the steps are all that the worker did
+  pub worked_first : (most more : ℕ) (old new : Seat S N A B C E F) → most ≤ more → old.loads ≡ 0 → old.has_failed ≡ false → Stepped most old new → Worked more old new
+  worked_first most more old new le none unfailed step =
+      let count : new.loads ≡ step.more = omega (arith, step.counts, none) in
+      let has : new.has_failed ≡ step.failed = step.fails ∙ ap (λ (b : Bool). b || step.failed) unfailed in
+      record {
+        few = omega (arith, step.few, count, le);
+        units = record { parts = step.units.parts; amount = omega (arith, step.units.amount, count) };
+        scanned = subst (λ (n : ℕ). IsScanned world faults loads n (new.has_failed ≡ true) old.scan new.scan) (sym count) (subst (λ (b : Bool). IsScanned world faults loads step.more (b ≡ true) old.scan new.scan) (sym has) step.scanned);
+        lent = step.lent;
+        causes = subst (λ (n : ℕ). HasCauses told n new.has_failed old.marks new.marks) (sym count) (subst (λ (b : Bool). HasCauses told step.more b old.marks new.marks) (sym has) step.causes);
+      }
+
+  pub worked_on : ((a b c : S) → same a b → same b c → same a c) → (n m most : ℕ) (old mid new : Seat S N A B C E F) → n + m ≤ most → Worked n old mid → Stepped m mid new → Worked most old new
+  worked_on along n m most old mid new le first second =
+      let count = second.counts in
+      record {
+        few = omega (arith, first.few, second.few, count, le);
+        units = record { parts = second.units.parts ∙ first.units.parts; amount = let p = first.units.amount in let q = second.units.amount in omega (arith, p, q, count) };
+        scanned = subst (λ (n : ℕ). IsScanned world faults loads n (new.has_failed ≡ true) old.scan new.scan) (sym count)
+            (subst (λ (b : Bool). IsScanned world faults loads (mid.loads + second.more) (b ≡ true) old.scan new.scan) (sym second.fails)
+            (both_scanned told world faults loads old.scan mid.scan new.scan mid.loads second.more mid.has_failed second.failed first.scanned second.scanned));
+        lent = along old.scan mid.scan new.scan first.lent second.lent;
+        causes = subst (λ (n : ℕ). HasCauses told n new.has_failed old.marks new.marks) (sym count)
+            (subst (λ (b : Bool). HasCauses told (mid.loads + second.more) b old.marks new.marks) (sym second.fails)
+            (both_cause told world faults loads old.marks mid.marks new.marks mid.loads second.more mid.has_failed second.failed first.causes second.causes));
+      }
 
 -- a worker that finished its frame is idle
 pub idle_after : (old new : Log) (w i : ℕ) → new ≡ with_step old (Finish w i) → turn_of new w ≡ turns.Idle
@@ -161,6 +279,24 @@ others_after old new w i same v other = ap (λ (l : Log). turn_of l v) same ∙ 
 
 pub holds_after : (old new : Log) (i : ℕ) → new ≡ with_step old (Claim 0 i) → turn_of new 0 ≡ turns.Holds i
 holds_after old new i same = ap (λ (l : Log). turn_of l 0) same ∙ turn_of-own old (Claim 0 i) 0 refl
+
+-- what is said of a frame that was made, and that no load failed then
+pub of_ok : {T E : Type 0} (made : Result T E) (P : Type 0) → IsOk made → OnOk made P → P
+of_ok (Ok frame) P ok on = on
+of_ok (Err end) P ok on = absurd (true≢false (sym ok))
+
+pub none_failed : {T : Type 0} (made : Result T RunEnd) (fault : Bool) → (fault ≡ true) ↔ (made ≡ Err SourceFault) → IsOk made → fault ≡ false
+none_failed {T = T} made true is ok = absurd (true≢false (sym (subst (λ (r : Result T RunEnd). IsOk r) (is.0 refl) ok)))
+none_failed made false is ok = refl
+
+-- a frame that was made is the one that the worker holds, and the one that is done then
+pub holds_so : (log : Log) (w i : ℕ) (made : Result FrameBytes RunEnd) → turn_of log w ≡ turns.Holds i → IfOk made (λ frame. frame.index ≡ i) → IfOk made (λ frame. turn_of log w ≡ turns.Holds frame.index)
+holds_so log w i (Ok frame) holds index = holds ∙ ap turns.Holds (sym index)
+holds_so log w i (Err end) holds index = tt
+
+pub done_so : (old new : Log) (w i : ℕ) (made : Result FrameBytes RunEnd) → IsOkAnd made (λ frame. HasDone old w frame.index new) → IfOk made (λ frame. frame.index ≡ i) → HasDone old w i new
+done_so old new w i (Ok frame) done index = done ∙ ap (λ (n : ℕ). with_step old (Finish w n)) index
+done_so old new w i (Err end) done index = absurd done
 
 -- where a claim takes no frame, a worker has stopped or all are done
 pub none_left : (old new : Log) (n : ℕ) (answer : Answer) → IsLegal old → new ≡ after_claim old 0 answer → answer ≡ claim_of old → (answer ≡ answers.NoneLeft) ⊎ (answer ≡ answers.Stopped)
@@ -185,90 +321,31 @@ pub round_over : (old mid new : Log) (i : ℕ) → IsNext old (Claim 0 i) → mi
 round_over old mid new i next first second idle =
     subst (IsRoundOver old) (sym (second ∙ ap (λ (l : Log). with_step l (Finish 0 i)) first)) (record { idle = idle_again old i idle; fewer = fewer_free old i next })
 
-module _ {S : Type 0} (told : Option World) (world : S → Option World) (faults loads : S → ℕ) where
-  pub worked_on : (s t u : S) (n m : ℕ) (a b : Bool) (x y z : Tallies) → IsWorked told world faults loads s t n a x y → HasStepped told world faults loads t u n m a b y z → IsWorked told world faults loads s u m b x z
-  worked_on s t u n m a b x y z first second =
-      rw (second.counts, second.fails) (record {
-        scanned = both_scanned told world faults loads s t u n second.more a second.failed first.scanned second.scanned;
-        causes = both_cause told world faults loads x y z n second.more a second.failed first.causes second.causes;
-      })
+module _ {S N A B C E F : Type 0} (told : Option World) (world : S → Option World) (faults loads : S → ℕ) (same : S → S → Type 0) (itself : (s : S) → same s s) (along : (a b c : S) → same a b → same b c → same a c)
+    (xs ys : List (Seat S N A B C E F)) (s : Seat S N A B C E F) (threads n m most : ℕ) (some : 0 < threads) (le : n + m ≤ most) (size : length ys ≡ length xs) (ready : All (λ x. IsReady told world x) xs)
+    (worked : EachBecame threads (HasWorked told world faults loads same n) xs ys) (others : (k : ℕ) (d : Seat S N A B C E F) → threads ≤ k → get_or ys k d ≡ get_or xs k d) where
+  abbrev Became : Seat S N A B C E F → Seat S N A B C E F → Type 0
+  Became x y = HasWorked told world faults loads same most x y
 
-  pub worked_none : (s : S) (n : ℕ) (a : Bool) (x : Tallies) → n ≡ 0 → a ≡ false → IsWorked told world faults loads s s n a x x
-  worked_none s n a x none still =
-      rw (none, still) (record {
-        scanned = scanned_itself world faults loads (false ≡ true) (λ e. true≢false (sym e)) s;
-        causes = causes_none told x x 0 false (record { source = refl; disk = refl; memory = refl; changed = refl }) (record { source = refl; changed = refl });
-      })
+  first_most : (x y : Seat S N A B C E F) → HasWorked told world faults loads same n x y → Became x y
+  first_most x y work = record { few = omega (arith, work.few, le); units = work.units; scanned = work.scanned; lent = work.lent; causes = work.causes }
 
-  module _ {X : Type 0} (scan : X → S) (count : X → ℕ) (has : X → Bool) (marks : X → Tallies) (xs ys : List X) (s : X) (threads : ℕ) (some : 0 < threads) (same : length ys ≡ length xs)
-      (idle : All (λ x. (count x ≡ 0) × (has x ≡ false)) xs)
-      (each : (k : ℕ) (d : X) → k < threads → IsWorked told world faults loads (scan (get_or xs k d)) (scan (get_or ys k d)) (count (get_or ys k d)) (has (get_or ys k d)) (marks (get_or xs k d)) (marks (get_or ys k d)))
-      (others : (k : ℕ) (d : X) → threads ≤ k → get_or ys k d ≡ get_or xs k d) where
-    abbrev Worked : X → X → Type 0
-    Worked x y = IsWorked told world faults loads (scan x) (scan y) (count y) (has y) (marks x) (marks y)
+  worked_at : (k : ℕ) (d : Seat S N A B C E F) → k < length xs → Became (get_or xs k d) (get_or ys k d)
+  worked_at k d lt = elim (cases_lt k threads) [
+    | inl early ↦ first_most (get_or xs k d) (get_or ys k d) (worked k d early)
+    | inr late ↦
+        subst (λ (y : Seat S N A B C E F). Became (get_or xs k d) y) (sym (others k d late))
+        (worked_first told world faults loads same 0 most (get_or xs k d) (get_or xs k d) (omega arith) (ready k d lt).none (ready k d lt).unfailed (stepped_itself told world faults loads same itself 0 (get_or xs k d)))
+  ]
 
-    worked_at : (k : ℕ) (d : X) → k < length xs → Worked (get_or xs k d) (get_or ys k d)
-    worked_at k d lt = elim (cases_lt k threads) [
-      | inl early ↦ each k d early
-      | inr late ↦ subst (λ (y : X). Worked (get_or xs k d) y) (sym (others k d late)) (worked_none (scan (get_or xs k d)) _ _ (marks (get_or xs k d)) (idle k d lt).0 (idle k d lt).1)
-    ]
-
-    pub worked_all : (e : X) → HasStepped told world faults loads (scan (get_or ys 0 e)) (scan s) (count (get_or ys 0 e)) (count s) (has (get_or ys 0 e)) (has s) (marks (get_or ys 0 e)) (marks s)
-        → (k : ℕ) (d : X) → k < length xs → Worked (get_or xs k d) (get_or (set ys 0 s) k d)
-    worked_all e stepped k d lt = elim (cases_eq k 0) [
-      | inl zero ↦
-          let first : 0 < length ys = omega (arith, lt, same) in
-          subst (λ (n : ℕ). Worked (get_or xs n d) (get_or (set ys 0 s) n d)) (sym zero)
-          (subst (λ (y : X). Worked (get_or xs 0 d) y) (sym (get_or-set_same ys 0 s d first))
-          (worked_on _ _ _ _ _ _ _ _ _ _ (worked_at 0 d (omega (arith, first, same)))
-          (subst (λ (y : X). HasStepped told world faults loads (scan y) (scan s) (count y) (count s) (has y) (has s) (marks y) (marks s)) (get_or_default ys 0 e d first) stepped)))
-      | inr other ↦ subst (λ (y : X). Worked (get_or xs k d) y) (sym (get_or-set_other ys 0 k s d other)) (worked_at k d lt)
-    ]
-
-    pub few_all : (few most : ℕ) → few ≤ most → ((k : ℕ) (d : X) → k < threads → count (get_or ys k d) ≤ few) → count s ≤ most → (k : ℕ) (d : X) → k < length xs → count (get_or (set ys 0 s) k d) ≤ most
-    few_all few most le each_few here k d lt = elim (cases_eq k 0) [
-      | inl zero ↦
-          let first : 0 < length ys = omega (arith, lt, same) in
-          subst (λ (n : ℕ). count (get_or (set ys 0 s) n d) ≤ most) (sym zero) (subst (λ (y : X). count y ≤ most) (sym (get_or-set_same ys 0 s d first)) here)
-      | inr other ↦ subst (λ (y : X). count y ≤ most) (sym (get_or-set_other ys 0 k s d other)) (elim (cases_lt k threads) [
-        | inl early ↦ let small = each_few k d early in omega (arith, small, le)
-        | inr late ↦ let none = ap count (others k d late) ∙ (idle k d lt).0 in omega (arith, none)
-      ])
-    ]
-
--- each seat has counted as many misses as loads, those after the threads none
-pub counted_all : {X : Type 0} (units : X → Tally) (count : X → ℕ) (has : X → Bool) (xs ys : List X) (s : X) (threads : ℕ) → 0 < threads → length ys ≡ length xs → All (λ x. (count x ≡ 0) × (has x ≡ false)) xs
-    → ((k : ℕ) (d : X) → k < threads → HasCounted (units (get_or xs k d)) (count (get_or ys k d)) (units (get_or ys k d)))
-    → ((k : ℕ) (d : X) → threads ≤ k → get_or ys k d ≡ get_or xs k d)
-    → (e : X) → (units s).parts ≡ (units (get_or ys 0 e)).parts → (units s).amount + count (get_or ys 0 e) ≡ (units (get_or ys 0 e)).amount + count s
-    → (k : ℕ) (d : X) → k < length xs → HasCounted (units (get_or xs k d)) (count (get_or (set ys 0 s) k d)) (units (get_or (set ys 0 s) k d))
-counted_all {X = X} units count has xs ys s threads some size idle each others e parts amount k d lt = elim (cases_eq k 0) [
-  | inl zero ↦
-      let first : 0 < length ys = omega (arith, lt, size) in
-      subst (λ (n : ℕ). HasCounted (units (get_or xs n d)) (count (get_or (set ys 0 s) n d)) (units (get_or (set ys 0 s) n d))) (sym zero)
-      (subst (λ (y : X). HasCounted (units (get_or xs 0 d)) (count y) (units y)) (sym (get_or-set_same ys 0 s d first))
-      (counted_along _ (units (get_or ys 0 d)) (units s) (count (get_or ys 0 d)) (count s) (each 0 d some)
-      (subst (λ (y : X). (units s).parts ≡ (units y).parts) (get_or_default ys 0 e d first) parts)
-      (subst (λ (y : X). (units s).amount + count y ≡ (units y).amount + count s) (get_or_default ys 0 e d first) amount)))
-  | inr other ↦ subst (λ (y : X). HasCounted (units (get_or xs k d)) (count y) (units y)) (sym (get_or-set_other ys 0 k s d other)) (elim (cases_lt k threads) [
-    | inl early ↦ each k d early
-    | inr late ↦ subst (λ (y : X). HasCounted (units (get_or xs k d)) (count y) (units y)) (sym (others k d late)) (record { parts = refl; amount = let none = (idle k d lt).0 in omega (arith, none) })
-  ])
-]
-
--- the scans that were lent stay the same loans
-pub lent_all : {X S : Type 0} (same : S → S → Type 0) → ((s : S) → same s s) → ((a b c : S) → same a b → same b c → same a c) → (scan : X → S) (xs ys : List X) (s : X) (threads : ℕ) → 0 < threads → length ys ≡ length xs
-    → ((k : ℕ) (d : X) → k < threads → same (scan (get_or xs k d)) (scan (get_or ys k d)))
-    → ((k : ℕ) (d : X) → threads ≤ k → get_or ys k d ≡ get_or xs k d)
-    → (e : X) → same (scan (get_or ys 0 e)) (scan s) → (k : ℕ) (d : X) → k < length xs → same (scan (get_or xs k d)) (scan (get_or (set ys 0 s) k d))
-lent_all same itself along scan xs ys s threads some size each others e last k d lt = elim (cases_eq k 0) [
-  | inl zero ↦
-      let first : 0 < length ys = omega (arith, lt, size) in
-      subst (λ (n : ℕ). same (scan (get_or xs n d)) (scan (get_or (set ys 0 s) n d))) (sym zero)
-      (subst (λ (y : _). same (scan (get_or xs 0 d)) (scan y)) (sym (get_or-set_same ys 0 s d first))
-      (along _ _ _ (each 0 d some) (subst (λ (y : _). same (scan y) (scan s)) (get_or_default ys 0 e d first) last)))
-  | inr other ↦ subst (λ (y : _). same (scan (get_or xs k d)) (scan y)) (sym (get_or-set_other ys 0 k s d other)) (elim (cases_lt k threads) [
-    | inl early ↦ each k d early
-    | inr late ↦ subst (λ (y : _). same (scan (get_or xs k d)) (scan y)) (sym (others k d late)) (itself (scan (get_or xs k d)))
-  ])
-]
+  -- each seat was worked in, or nothing was done to it; the first one may have gone on
+  pub worked_all : (e : Seat S N A B C E F) → HasStepped told world faults loads same m (get_or ys 0 e) s → EachBecame (length xs) (HasWorked told world faults loads same most) xs (set ys 0 s)
+  worked_all e stepped k d lt = elim (cases_eq k 0) [
+    | inl zero ↦
+        let first : 0 < length ys = omega (arith, lt, size) in
+        subst (λ (i : ℕ). Became (get_or xs i d) (get_or (set ys 0 s) i d)) (sym zero)
+        (subst (λ (y : Seat S N A B C E F). Became (get_or xs 0 d) y) (sym (get_or-set_same ys 0 s d first))
+        (worked_on told world faults loads same along n m most (get_or xs 0 d) (get_or ys 0 d) s le (worked 0 d some)
+        (subst (λ (y : Seat S N A B C E F). HasStepped told world faults loads same m y s) (get_or_default ys 0 e d first) stepped)))
+    | inr other ↦ subst (λ (y : Seat S N A B C E F). Became (get_or xs k d) y) (sym (get_or-set_other ys 0 k s d other)) (worked_at k d lt)
+  ]

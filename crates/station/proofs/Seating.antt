@@ -1,5 +1,6 @@
 -- Seats and their marks, handed out and taken in.
 use Rattle.std.proofs.Common.{inl, inr, List, [], ◌∷◌, length, get_or, map, ◌++◌, append_assoc, take, drop, subst, sym, ◌∙◌, ◌<◌, ◌≤◌, All, ◌≡◌, ℕ, ◌+◌, ◌*◌, ◌^◌, ap, arith}
+use Rattle.std.specs.Prelude.{Option}
 use Rattle.std.proofs.Math.ListN.{get_or-map}
 use Rattle.std.proofs.Math.Seq.{get_or-append_seam}
 use Rattle.std.proofs.lemmas.Bool.{cases_lt}
@@ -7,7 +8,9 @@ use Rattle.std.proofs.lemmas.List.{append-nil, get_or_append_left, length-append
 use Rattle.frame_share.specs.Units.{Tally, fresh as unasked, joined as units_joined}
 use Rattle.shared_station.specs.Marks.{HasMoreThan, Tallies, fresh, joined}
 use Rattle.station.specs.Seats.{HasGiven, HasTaken, IsOnePart}
-use Rattle.station.specs.Worked.{HasCounted, KeepsParts}
+use Rattle.scan_source.specs.World.{World}
+use Rattle.station.specs.Stepped.{HasWorked, IsFresh, WasCounted}
+use Rattle.station.specs.declared.seat.Seat.{Seat}
 
 -- A loop that takes its items out of a list: the next one is of that list, and at the end all of them came.
 pub not_all_came : {X : Type 0} (all came left rest : List X) (x : X) → came ++ left ≡ all → left ≡ x ∷ rest → length came < length all
@@ -87,14 +90,6 @@ pub all_after : {X : Type 0} (P : X → Type 0) (xs ys zs : List X) (n : ℕ) �
 all_after P xs ys zs n same e each =
     subst (λ (l : List _). All P l) (sym (refilled ys zs n (omega (arith, same, e)))) (λ k d lt. each k d (omega (arith, lt, same)))
 
-pub one_part : (before now : Tallies) → before ≡ fresh → KeepsParts before now → IsOnePart now
-one_part before now is kept = record {
-  source = kept.source ∙ ap (λ (x : Tallies). x.source.parts) is;
-  disk = kept.disk ∙ ap (λ (x : Tallies). x.disk.parts) is;
-  memory = kept.memory ∙ ap (λ (x : Tallies). x.memory.parts) is;
-  changed = kept.changed ∙ ap (λ (x : Tallies). x.changed.parts) is;
-}
-
 -- one part of the units was handed out
 units_are : (before now out : Tally) → out ≡ unasked → units_joined now out ≡ before → units_joined now unasked ≡ before
 units_are before now out is all = subst (λ (u : Tally). units_joined now u ≡ before) is all
@@ -108,9 +103,17 @@ units_amount before now out is joins = let amount = ap (λ (u : Tally). u.amount
 pub units_closed : (before now out : Tally) → units_joined now out ≡ before → before.pending ≡ 0 → now.pending ≡ 0
 units_closed before now out joins none = let pending = ap (λ (u : Tally). u.pending) joins in omega (arith, pending, none)
 
--- a seat that asked from the start on has one part, and has counted its loads
-pub counted_part : (before now : Tally) (loads : ℕ) → before ≡ unasked → HasCounted before loads now → (now.parts ≡ 1) × (now.amount ≡ loads)
-counted_part before now loads is counted = (
-  counted.parts ∙ ap (λ (u : Tally). u.parts) is,
-  let none = ap (λ (u : Tally). u.amount) is in let amount = counted.amount in omega (arith, none, amount),
-)
+-- a seat that was worked in from its first state on is to be handed in
+pub was_counted : {S N A B C E F : Type 0} (told : Option World) (world : S → Option World) (faults loads : S → ℕ) (same : S → S → Type 0) (old new : Seat S N A B C E F)
+    → IsFresh old → HasWorked told world faults loads same 2097152 old new → WasCounted new
+was_counted told world faults loads same old new is work = record {
+  few = work.few;
+  marks = record {
+    source = work.causes.parts.source ∙ ap (λ (x : Tallies). x.source.parts) is.marks;
+    disk = work.causes.parts.disk ∙ ap (λ (x : Tallies). x.disk.parts) is.marks;
+    memory = work.causes.parts.memory ∙ ap (λ (x : Tallies). x.memory.parts) is.marks;
+    changed = work.causes.parts.changed ∙ ap (λ (x : Tallies). x.changed.parts) is.marks;
+  };
+  parts = work.units.parts ∙ ap (λ (u : Tally). u.parts) is.units;
+  amount = let none = ap (λ (u : Tally). u.amount) is.units in let amount = work.units.amount in omega (arith, none, amount);
+}

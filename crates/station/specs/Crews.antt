@@ -7,10 +7,8 @@
 use Rattle.std.specs.Prelude.{◌≡◌, ◌↔◌, ◌⊎◌, ℕ, ◌+◌, ◌<◌, ◌≤◌, Bool, true, false, List, [], length, sum_by, count_by, slice_index_or, Option, Some, None, MatchOption}
 use Rattle.scan_source.specs.World.{World}
 use Rattle.conform_job.specs.Job.{JobData}
-use Rattle.conform_job.specs.Names.{Tells}
 use Rattle.frame_share.specs.declared.step.ShareStep.{ShareStep}
 use Rattle.frame_share.specs.Share.{IsLegal as IsShareLegal, misses_of}
-use Rattle.frame_share.specs.Units.{Tally}
 use Rattle.reel_disk.specs.Disk.{Moment, History, view_of}
 use Rattle.render_board.specs.Board.{Log, IsLegal, has_stop, is_done}
 use Rattle.render_board.specs.History.{finished_of, first_why, is_disk, stops_of}
@@ -24,11 +22,10 @@ use Rattle.single_run.specs.declared.run_end.Report.{Report}
 use Rattle.single_run.specs.declared.run_end.RunEnd.{RunEnd}
 use Rattle.single_run.specs.declared.run_end.RunEnd.TheVariants.{Done, Changed as IsNow, SourceFault, DiskFault, NoMemory}
 use Rattle.single_run.specs.Ends.{IsEnd}
-use Rattle.shared_station.specs.Marks.{Tallies}
 use Rattle.single_run.specs.Run.{WasRefused}
 use Rattle.single_run.specs.Scanned.{IsScanned}
 use Rattle.shared_station.specs.Station.{StationView, IsStation, ShowsDone}
-use Rattle.station.specs.Worked.{HasCauses, HasCounted}
+use Rattle.station.specs.declared.crew.Crew.{Crew}
 
 -- how a run ends whose first stop has this why
 abbrev pub end_by : Option Why → RunEnd
@@ -105,26 +102,19 @@ pub record AreWorked {S : Type 0} (world : S → Option World) (faults loads : S
   pub unused : (k : ℕ) (scan : S) → workers ≤ k → slice_index_or new k scan ≡ slice_index_or old k scan
   pub failed : Failed → (k : ℕ) × (k < length old) × (slice_index_or flags k false ≡ true)
 
+module _ {S D : Type 0} where
+  -- the steps that a crew took and what came of them, or why there are none
+  abbrev pub HasRun : JobData → (told : Option World) → (workers : ℕ) → (tells : Bool) → (old new : History) → Crew S D → Type 0
+  HasRun job told workers tells old new crew =
+      MatchOption crew.history (IsUnstepped job tells old new crew.end crew.report crew.log)
+      (λ steps. WasCrewed job told workers tells old new steps crew.end crew.report crew.log)
+
+  -- what was done with the scans of a crew, which are handed back: a load of one failed, where the run ended by a source file
+  abbrev pub HasScansBack : (world : S → Option World) → (faults loads : S → ℕ) → (same : S → S → Type 0) → (workers : ℕ) → (old : List S) → Crew S D → Type 0
+  HasScansBack world faults loads same workers old crew =
+      AreWorked world faults loads same workers crew.report.loads (crew.end ≡ SourceFault) old crew.scans.items
+
 -- The rest is said of parts of a crew's run.
-
--- what a worker did from its start on
-pub record IsWorked {S : Type 0} (told : Option World) (world : S → Option World) (faults loads : S → ℕ) (scan now : S) (more : ℕ) (failed : Bool) (before after : Tallies) : Type 0 where
-  pub scanned : IsScanned world faults loads more (failed ≡ true) scan now
-  pub causes : HasCauses told more failed before after
-
--- a worker may begin: its scan tells the job's files, and nothing was loaded or asked for
-pub record IsReady {S : Type 0} (told : Option World) (world : S → Option World) (scan : S) (loaded : ℕ) (failed : Bool) (units : Tally) : Type 0 where
-  pub tells : Tells told (world scan)
-  pub none : loaded ≡ 0
-  pub unfailed : failed ≡ false
-  pub closed : units.pending ≡ 0
-
--- its whole part of a run, with each miss counted
-pub record HasWorked {S : Type 0} (told : Option World) (world : S → Option World) (faults loads : S → ℕ) (same : S → S → Type 0) (scan now : S) (more : ℕ) (failed : Bool) (before after : Tallies) (asked counted : Tally) : Type 0 where
-  pub each : IsWorked told world faults loads scan now more failed before after
-  pub units : HasCounted asked more counted
-  pub few : more ≤ 524288
-  pub lent : same scan now
 
 -- what the station keeps holds to the end
 pub record IsCrewRun {D : Type 0} (job : JobData) (told : Option World) (workers : ℕ) (start : Option Moment) (tells : Bool) (history : D → History) (faults : D → ℕ) (steps : List Step) (end : RunEnd) (report : Report) (disk : D) : Type 0 where

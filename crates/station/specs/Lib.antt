@@ -1,4 +1,6 @@
 pub mod Crews
+pub mod Each
+pub mod Left
 pub mod Seats
 pub mod Stepped
 pub mod Worked

@@ -1,12 +1,11 @@
 //! A crew: a worker for each of several scans over one reel, and what is known once all have returned.
-ghost use Rattle.std.specs.Prelude.{◌≡◌, ◌≢◌, ◌<◌, ◌≤◌, ℕ, All, [], true, false, length, vec_len, vec_capacity, min, is_some, IfSome, MatchOption, Some, None};
+ghost use Rattle.std.specs.Prelude.{◌≡◌, ◌<◌, ◌≤◌, All, [], true, length, vec_len, vec_capacity, min, is_some, IfSome, Some, None};
 ghost use Rattle.cf_base.specs.Count.{HasCause};
 ghost use Rattle.conform_job.specs.Answers.{AreInfosOf};
 ghost use Rattle.conform_job.specs.Names.{Tells};
 ghost use Rattle.reel_disk.specs.Disk.{Files, moment_of, view_of};
 ghost use Rattle.reel_disk.specs.Runs.{Spares};
 ghost use Rattle.reel_disk.specs.Start.{start_of};
-ghost use Rattle.render_board.specs.Board.{has_stop, is_done};
 ghost use Rattle.render_board.specs.History.{first_why};
 ghost use Rattle.reel_writer.specs.Changes.{IsOwnFile, MayWrite};
 ghost use Rattle.reel_writer.specs.Reel.{frames_of, HasFrameFiles, IsReelRun, IsSoundReel};
@@ -14,7 +13,8 @@ ghost use Rattle.resume_ledger.specs.Sound.{WritesOnly};
 ghost use Rattle.scan_source.specs.World.{World};
 ghost use Rattle.frame_share.specs.Share.{IsBlankOf as IsCounterOf};
 ghost use Rattle.frame_share.specs.Units.{whole};
-ghost use Rattle.station.specs.Crews.{AreShared, AreWorked, HasDiskFailed, IsCrewRun, IsUnstepped, WasCrewed, end_by};
+ghost use Rattle.station.specs.Crews.{AreShared, HasDiskFailed, HasRun, HasScansBack, IsCrewRun, end_by};
+ghost use Rattle.station.specs.Left.{HasFinished};
 ghost use Rattle.single_run.specs.Ends.{IsChange};
 ghost use Rattle.shared_station.specs.Marks.{IsBlankOf};
 ghost use Rattle.single_run.specs.Run.{AreAllAcked, HasWhole};
@@ -206,7 +206,7 @@ fn closing<
     loads: u64,
 ) -> Crew<S, D>
     requires job { job.now ≡ N.job }
-    requires whole { has_stop station.log.steps ≡ false → (i : ℕ) → i < frames_of N.job → is_done station.log i ≡ true }
+    requires whole { HasFinished N.job station.log }
     ensures frames { result.report.frames ≡ frames_of N.job }
     ensures loads { (result.report.loads ≡ loads) × (result.report.misses ≡ loads) }
     ensures end { result.end ≡ end_by (first_why station.log.steps) }
@@ -215,6 +215,7 @@ fn closing<
     ensures made { IsCrewRun N.job N.files W.workers N.start D.tells D.history D.faults station.log.steps
         result.end result.report result.disk }
     ensures acked { result.end ≡ RunEnd.Done → D.tells ≡ true → AreAllAcked N.job (moment_of (D.history result.disk)) }
+    ensures lent { D.loans result.disk ≡ N.loans }
     ensures scans { result.scans ≡ scans }
 {
     let (reel, board) = station.into_parts();
@@ -271,6 +272,7 @@ fn run_opened<
     requires infos { AreInfosOf N.job.parts N.files N.job.infos }
     requires beginning { IsBeginning N.job N.files N.start D.tells D.history D.faults reel board }
     requires crew { board.workers ≡ W.workers }
+    requires lent { D.loans reel.disk ≡ N.loans }
     requires some { 0 < threads }
     requires within { threads ≤ vec_len scans }
     requires few { vec_len scans ≤ 16 }
@@ -284,7 +286,8 @@ fn run_opened<
     ensures changed { IsChange result.end → 1 ≤ result.report.loads }
     ensures made { IfSome result.history (λ steps. IsCrewRun N.job N.files W.workers N.start D.tells D.history D.faults steps
         result.end result.report result.disk) }
-    ensures scans { AreWorked S.world S.faults S.loads S.same threads result.report.loads (result.end ≡ RunEnd.SourceFault) scans.items result.scans.items }
+    ensures lent { D.loans result.disk ≡ N.loans }
+    ensures scans { HasScansBack S.world S.faults S.loads S.same threads scans.items result }
 {
     let (station, mut marks) = Station::<D, N, W, A, B, C, E>::new(
         reel, board, source, failed, memory, changed,
@@ -338,6 +341,7 @@ fn crew_under<
     requires workers { (1 ≤ workers) × (workers ≤ 16) }
     requires crew { W.workers ≡ min workers (vec_len scans) }
     requires start { N.start ≡ start_of D.tells (D.history disk) }
+    requires lent { N.loans ≡ D.loans disk }
     requires moment { D.tells ≡ true → (D.history disk).now ≡ 0 }
     requires faults { D.faults disk ≡ 0 }
     ensures frames { result.report.frames ≡ frames_of N.job }
@@ -345,10 +349,7 @@ fn crew_under<
 
     // Which frames the opening kept, what the folder acknowledges now, and the steps by which it came; or why there are none.
     // There are as many workers as were asked for, at most one a scan.
-    ensures ran { MatchOption result.history
-        (IsUnstepped N.job D.tells (D.history disk) (D.history result.disk) result.end result.report result.log)
-        (λ steps. WasCrewed N.job N.files (min workers (vec_len scans)) D.tells (D.history disk) (D.history result.disk)
-        steps result.end result.report result.log) }
+    ensures ran { HasRun N.job N.files (min workers (vec_len scans)) D.tells (D.history disk) (D.history result.disk) result }
 
     // At Done every image acknowledges every frame, and the folder has the whole reel: that of a run on one thread.
     ensures acked { result.end ≡ RunEnd.Done → D.tells ≡ true → AreAllAcked N.job (moment_of (D.history result.disk)) }
@@ -365,11 +366,12 @@ fn crew_under<
     ensures writes { D.tells ≡ true → WritesOnly (D.history disk) (D.history result.disk) (MayWrite N.job (view_of (D.history disk))) }
 
     // Each scan is handed back in its place. A stop has its cause: a load failed, a loaded file has changed, the disk failed.
-    ensures scans { AreWorked S.world S.faults S.loads S.same (min workers (vec_len scans)) result.report.loads (result.end ≡ RunEnd.SourceFault) scans.items result.scans.items }
+    ensures scans { HasScansBack S.world S.faults S.loads S.same (min workers (vec_len scans)) scans.items result }
     ensures changed { IsChange result.end → 1 ≤ result.report.loads }
     ensures failed { result.end ≡ RunEnd.DiskFault → HasDiskFailed result.history result.end }
     ensures cause { HasCause (D.faults disk) (D.faults result.disk) (HasDiskFailed result.history result.end) }
     ensures steady { (HasDiskFailed result.history result.end → ⊥) → D.faults result.disk ≡ D.faults disk }
+    ensures same_disk { D.loans result.disk ≡ D.loans disk }
 {
     let reel = match Reel::<D, N>::begin(alloc, disk, job) {
         Ok(reel) => reel,
@@ -432,6 +434,7 @@ pub fn run_crew<
     requires workers { (1 ≤ workers) × (workers ≤ 16) }
     requires share { (1 ≤ share_cap) × (share_cap ≤ 16) }
     requires start { N.start ≡ start_of D.tells (D.history disk) }
+    requires lent { N.loans ≡ D.loans disk }
     requires moment { D.tells ≡ true → (D.history disk).now ≡ 0 }
     requires faults { D.faults disk ≡ 0 }
     ensures frames { result.report.frames ≡ frames_of N.job }
@@ -439,10 +442,7 @@ pub fn run_crew<
 
     // Which frames the opening kept, what the folder acknowledges now, and the steps by which it came; or why there are none.
     // There are as many workers as were asked for, at most one a scan.
-    ensures ran { MatchOption result.history
-        (IsUnstepped N.job D.tells (D.history disk) (D.history result.disk) result.end result.report result.log)
-        (λ steps. WasCrewed N.job N.files (min workers (vec_len scans)) D.tells (D.history disk) (D.history result.disk)
-        steps result.end result.report result.log) }
+    ensures ran { HasRun N.job N.files (min workers (vec_len scans)) D.tells (D.history disk) (D.history result.disk) result }
 
     // At Done every image acknowledges every frame, and the folder has the whole reel: that of a run on one thread.
     ensures acked { result.end ≡ RunEnd.Done → D.tells ≡ true → AreAllAcked N.job (moment_of (D.history result.disk)) }
@@ -459,11 +459,12 @@ pub fn run_crew<
     ensures writes { D.tells ≡ true → WritesOnly (D.history disk) (D.history result.disk) (MayWrite N.job (view_of (D.history disk))) }
 
     // Each scan is handed back in its place. A stop has its cause: a load failed, a loaded file has changed, the disk failed.
-    ensures scans { AreWorked S.world S.faults S.loads S.same (min workers (vec_len scans)) result.report.loads (result.end ≡ RunEnd.SourceFault) scans.items result.scans.items }
+    ensures scans { HasScansBack S.world S.faults S.loads S.same (min workers (vec_len scans)) scans.items result }
     ensures changed { IsChange result.end → 1 ≤ result.report.loads }
     ensures failed { result.end ≡ RunEnd.DiskFault → HasDiskFailed result.history result.end }
     ensures cause { HasCause (D.faults disk) (D.faults result.disk) (HasDiskFailed result.history result.end) }
     ensures steady { (HasDiskFailed result.history result.end → ⊥) → D.faults result.disk ≡ D.faults disk }
+    ensures same_disk { D.loans result.disk ≡ D.loans disk }
 {
     crew_under::<N, Brand, Brand, Brand, Brand, Brand, Brand, S, D, R>(
         rt,

@@ -1,5 +1,6 @@
 //! Work on each item of a slice, side by side.
-ghost use Rattle.std.specs.Prelude.{◌<◌, ℕ, All, length, slice_index_or};
+ghost use Rattle.std.specs.Prelude.{◌<◌, All, length};
+ghost use Rattle.station.specs.Each.{EachBecame};
 
 use std::thread;
 use std::thread::Threads;
@@ -26,7 +27,7 @@ pub(crate) fn work_on_each<T: Send, X: Works<T> + Sync, R: Threads + Sync>(
 )
     requires some { 0 < length items.old }
     requires may { All (λ item. X.may shared.now item) items.old }
-    ensures has { (k : ℕ) (d : T) → k < length items.old → X.has shared.now (slice_index_or items.old k d) (slice_index_or items.new k d) }
+    ensures has { EachBecame (length items.old) (X.has shared.now) items.old items.new }
 {
     let threads = items.len();
     thread::for_each_mut(

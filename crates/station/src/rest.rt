@@ -1,17 +1,18 @@
 //! What is left when all workers have returned and none has stopped: frames that one still holds, and frames that are
 //! free.
-ghost use Rattle.std.specs.Prelude.{◌≡◌, ◌≢◌, ◌+◌, ◌-◌, ◌<◌, ◌≤◌, ◌^◌, ◌||◌, ℕ, true, false, length, Err, None, IfErr, IfOk, IfSome, OnOk, IsErr};
+ghost use Rattle.std.specs.Prelude.{◌≡◌, ◌≢◌, ◌+◌, ◌-◌, ◌<◌, ◌≤◌, ◌^◌, ◌||◌, ℕ, true, false, Err, None, IfErr, IfOk, IfSome, IsOkAnd, OnOk};
 ghost use Rattle.conform_job.specs.Answers.{AreInfosOf};
 ghost use Rattle.conform_job.specs.Names.{Tells};
-ghost use Rattle.render_board.specs.Board.{IsNext, has_stop, is_done, turn_of, with_step};
+ghost use Rattle.render_board.specs.Board.{has_stop, turn_of};
 ghost use Rattle.render_board.specs.declared.board.Turn.TheVariants as turns;
-ghost use Rattle.render_board.specs.declared.step.Step.TheVariants as steps;
 ghost use Rattle.render_board.specs.declared.step.Why.TheVariants as whys;
 ghost use Rattle.reel_writer.specs.Reel.{frames_of};
-ghost use Rattle.single_run.specs.Ends.{IsChange, IsStop};
-ghost use Rattle.single_run.specs.Scanned.{IsScanned};
+ghost use Rattle.single_run.specs.Ends.{IsChange, IsUnrendered};
+ghost use Rattle.single_run.specs.Scanned.{HasLoaded, IsScanned};
 ghost use Rattle.shared_station.specs.Marks.{raised_by};
+ghost use Rattle.station.specs.Left.{HasClaimed, HasDone, HasFinished};
 ghost use Rattle.station.specs.Stepped.{HasStepped};
+ghost use Rattle.station.specs.Worked.{HasMarked};
 
 use crate::rounds::{is_source_fault, why_of};
 use crate::seat::Seat;
@@ -65,13 +66,9 @@ fn make_apart<N: Work, F: Ledger, S: Scans>(
     requires few { loads.old + 2 < 2 ^ 64 }
     requires closed { units.old.pending ≡ 0 }
     ensures index { IfOk result (λ frame. frame.index ≡ i) }
-    ensures stop { IfErr result (IsStop N.job N.files) }
-    ensures never { result ≢ Err RunEnd.DiskFault }
+    ensures stop { IfErr result (IsUnrendered N.job N.files) }
     ensures closed { OnOk result (units.new.pending ≡ 0) }
-    ensures parts { units.new.parts ≡ units.old.parts }
-    ensures counted { units.new.amount + loads.old ≡ units.old.amount + loads.new }
-    ensures most { loads.new ≤ loads.old + 2 }
-    ensures later { loads.old ≤ loads.new }
+    ensures loads { HasLoaded 2 loads.old loads.new units.old units.new }
     ensures changed { IfErr result (λ end. IsChange end → loads.old < loads.new) }
     ensures scan { IsScanned S.world S.faults S.loads (loads.new - loads.old) (result ≡ Err RunEnd.SourceFault) scan.old scan.new }
     ensures same { S.same scan.old scan.new }
@@ -82,6 +79,33 @@ fn make_apart<N: Work, F: Ledger, S: Scans>(
     };
     let mut rooms = Rooms::new(alloc);
     make_frame(alloc, job, scan, i, &mut rooms, room, share, units, loads)
+}
+
+/// Finishes the frame that was made for a worker, or stops as that worker where none was. It says whether the frame is done.
+fn finish_or_stop<D: Disk, N: Work + Start, W: Crewed, A: Ledger, B: Ledger, C: Ledger, E: Ledger>(
+    station: &mut Station<D, N, W, A, B, C, E>,
+    worker: u16,
+    made: Result<Rendered<N>, RunEnd>,
+    marks: &mut Marks<A, B, C, E>,
+) -> bool
+    requires worker { worker < station.old.log.workers }
+    requires is_open { station.old.reel.ledger.closed ≡ false }
+    requires running { turn_of station.old.log worker ≢ turns.Stopped }
+    requires holds { IfOk made (λ frame. turn_of station.old.log worker ≡ turns.Holds frame.index) }
+    requires stop { IfErr made (IsUnrendered N.job N.files) }
+    ensures done { result ≡ true → IsOkAnd made (λ frame. HasDone station.old.log worker frame.index station.new.log) }
+    ensures stopped { result ≡ false → has_stop station.new.log.steps ≡ true }
+    ensures start { station.new.log.start ≡ station.old.log.start }
+    ensures workers { station.new.log.workers ≡ station.old.log.workers }
+    ensures marks { HasMarked N.files made marks.old marks.new }
+{
+    match made {
+        Ok(frame) => station.finish(worker, &Hashed::of(frame), marks).is_ok(),
+        Err(end) => {
+            station.stop(worker, why_of::<N>(end), marks);
+            false
+        }
+    }
 }
 
 /// Makes and finishes the frame that a worker holds. It says whether it is done; else a worker has stopped.
@@ -112,18 +136,13 @@ fn finish_as<
     requires holds { turn_of station.old.log worker ≡ turns.Holds i }
     requires closed { seat.old.units.pending ≡ 0 }
     ensures closed { result ≡ true → seat.new.units.pending ≡ 0 }
-    ensures parts { seat.new.units.parts ≡ seat.old.units.parts }
-    ensures counted { seat.new.units.amount + seat.old.loads ≡ seat.old.units.amount + seat.new.loads }
-    ensures done { result ≡ true → station.new.log ≡ with_step station.old.log (steps.Finish worker i) }
+    ensures done { result ≡ true → HasDone station.old.log worker i station.new.log }
     ensures stopped { result ≡ false → has_stop station.new.log.steps ≡ true }
     ensures start { station.new.log.start ≡ station.old.log.start }
     ensures workers { station.new.log.workers ≡ station.old.log.workers }
-    ensures later { seat.old.loads ≤ seat.new.loads }
-    ensures most { seat.new.loads ≤ seat.old.loads + 2 }
-    ensures stepped { HasStepped N.files S.world S.faults S.loads seat.old.scan seat.new.scan seat.old.loads seat.new.loads seat.old.has_failed seat.new.has_failed seat.old.marks seat.new.marks }
-    ensures same { S.same seat.old.scan seat.new.scan }
+    ensures stepped { HasStepped N.files S.world S.faults S.loads S.same 2 seat.old seat.new }
 {
-    let _ = station.workers();
+    station.recall();
     if station.is_closed() {
         return false;
     }
@@ -137,15 +156,7 @@ fn finish_as<
         &mut seat.loads,
     );
     seat.has_failed = either(seat.has_failed, is_source_fault(&made));
-    match made {
-        Ok(frame) => station
-            .finish(worker, &Hashed::of(frame), &mut seat.marks)
-            .is_ok(),
-        Err(end) => {
-            station.stop(worker, why_of::<N>(end), &mut seat.marks);
-            false
-        }
-    }
+    finish_or_stop(station, worker, made, &mut seat.marks)
 }
 
 /// Finishes the frame that a worker holds, if it does. It says whether the worker is idle then; else one has stopped.
@@ -174,19 +185,14 @@ fn finish_one<
     requires worker { worker < station.old.log.workers }
     requires closed { seat.old.units.pending ≡ 0 }
     ensures closed { result ≡ true → seat.new.units.pending ≡ 0 }
-    ensures parts { seat.new.units.parts ≡ seat.old.units.parts }
-    ensures counted { seat.new.units.amount + seat.old.loads ≡ seat.old.units.amount + seat.new.loads }
     ensures idle { result ≡ true → turn_of station.new.log worker ≡ turns.Idle }
     ensures others { result ≡ true → (w : ℕ) → w ≢ worker → turn_of station.new.log w ≡ turn_of station.old.log w }
     ensures stopped { result ≡ false → has_stop station.new.log.steps ≡ true }
     ensures start { station.new.log.start ≡ station.old.log.start }
     ensures workers { station.new.log.workers ≡ station.old.log.workers }
-    ensures later { seat.old.loads ≤ seat.new.loads }
-    ensures most { seat.new.loads ≤ seat.old.loads + 2 }
-    ensures stepped { HasStepped N.files S.world S.faults S.loads seat.old.scan seat.new.scan seat.old.loads seat.new.loads seat.old.has_failed seat.new.has_failed seat.old.marks seat.new.marks }
-    ensures same { S.same seat.old.scan seat.new.scan }
+    ensures stepped { HasStepped N.files S.world S.faults S.loads S.same 2 seat.old seat.new }
 {
-    let _ = station.workers();
+    station.recall();
     match station.turn(worker) {
         Turn::Idle => true,
         Turn::Stopped => false,
@@ -218,15 +224,11 @@ fn finish_held<
     requires few { seat.old.loads ≤ 524288 }
     requires closed { seat.old.units.pending ≡ 0 }
     ensures closed { result ≡ true → seat.new.units.pending ≡ 0 }
-    ensures parts { seat.new.units.parts ≡ seat.old.units.parts }
-    ensures counted { seat.new.units.amount + seat.old.loads ≡ seat.old.units.amount + seat.new.loads }
     ensures idle { result ≡ true → (w : ℕ) → w < station.new.log.workers → turn_of station.new.log w ≡ turns.Idle }
     ensures stopped { result ≡ false → has_stop station.new.log.steps ≡ true }
     ensures start { station.new.log.start ≡ station.old.log.start }
     ensures workers { station.new.log.workers ≡ station.old.log.workers }
-    ensures most { seat.new.loads ≤ seat.old.loads + 32 }
-    ensures stepped { HasStepped N.files S.world S.faults S.loads seat.old.scan seat.new.scan seat.old.loads seat.new.loads seat.old.has_failed seat.new.has_failed seat.old.marks seat.new.marks }
-    ensures same { S.same seat.old.scan seat.new.scan }
+    ensures stepped { HasStepped N.files S.world S.faults S.loads S.same 32 seat.old seat.new }
 {
     for worker in 0..station.workers() {
         if !finish_one(alloc, job, station, share, seat, worker) {
@@ -242,10 +244,10 @@ fn claim_first<D: Disk, N: Work + Start, W: Crewed, A: Ledger, B: Ledger, C: Led
     station: &mut Station<D, N, W, A, B, C, E>,
 ) -> Option<u32>
     requires idle { (w : ℕ) → w < station.old.log.workers → turn_of station.old.log w ≡ turns.Idle }
-    ensures taken { IfSome result (λ i. (station.new.log ≡ with_step station.old.log (steps.Claim 0 i)) × IsNext station.old.log (steps.Claim 0 i)) }
-    ensures whole { result ≡ None → has_stop station.new.log.steps ≡ false → (i : ℕ) → i < frames_of N.job → is_done station.new.log i ≡ true }
+    ensures taken { IfSome result (λ i. HasClaimed station.old.log i station.new.log) }
+    ensures whole { result ≡ None → HasFinished N.job station.new.log }
 {
-    let _ = station.workers();
+    station.recall();
     match station.claim(0) {
         Claim::Take(i) => Some(i),
         Claim::NoneLeft | Claim::Stopped => None,
@@ -276,14 +278,10 @@ fn finish_free<
     requires few { seat.old.loads ≤ 524320 }
     requires closed { seat.old.units.pending ≡ 0 }
     requires idle { (w : ℕ) → w < station.old.log.workers → turn_of station.old.log w ≡ turns.Idle }
-    ensures parts { seat.new.units.parts ≡ seat.old.units.parts }
-    ensures counted { seat.new.units.amount + seat.old.loads ≡ seat.old.units.amount + seat.new.loads }
-    ensures whole { has_stop station.new.log.steps ≡ false → (i : ℕ) → i < frames_of N.job → is_done station.new.log i ≡ true }
-    ensures most { seat.new.loads ≤ 2097152 }
-    ensures stepped { HasStepped N.files S.world S.faults S.loads seat.old.scan seat.new.scan seat.old.loads seat.new.loads seat.old.has_failed seat.new.has_failed seat.old.marks seat.new.marks }
-    ensures same { S.same seat.old.scan seat.new.scan }
+    ensures whole { HasFinished N.job station.new.log }
+    ensures stepped { HasStepped N.files S.world S.faults S.loads S.same 524290 seat.old seat.new }
 {
-    let _ = station.workers();
+    station.recall();
     for _ in 0..job.timeline().count() + 1 {
         let Some(i) = claim_first(station) else {
             return;
@@ -304,7 +302,7 @@ fn stop_first<D: Disk, N: Work + Start, W: Crewed, A: Ledger, B: Ledger, C: Ledg
     ensures stopped { has_stop station.new.log.steps ≡ true }
     ensures marks { marks.new ≡ raised_by whys.Memory marks.old }
 {
-    let _ = station.workers();
+    station.recall();
     station.stop(0, Why::Memory, marks);
 }
 
@@ -334,12 +332,8 @@ pub(crate) fn finish_rest<
     requires infos { AreInfosOf N.job.parts N.files N.job.infos }
     requires few { seat.old.loads ≤ 524288 }
     requires put { all_put ≡ true → seat.old.units.pending ≡ 0 }
-    ensures parts { seat.new.units.parts ≡ seat.old.units.parts }
-    ensures counted { seat.new.units.amount + seat.old.loads ≡ seat.old.units.amount + seat.new.loads }
-    ensures whole { has_stop station.new.log.steps ≡ false → (i : ℕ) → i < frames_of N.job → is_done station.new.log i ≡ true }
-    ensures most { seat.new.loads ≤ 2097152 }
-    ensures stepped { HasStepped N.files S.world S.faults S.loads seat.old.scan seat.new.scan seat.old.loads seat.new.loads seat.old.has_failed seat.new.has_failed seat.old.marks seat.new.marks }
-    ensures same { S.same seat.old.scan seat.new.scan }
+    ensures whole { HasFinished N.job station.new.log }
+    ensures stepped { HasStepped N.files S.world S.faults S.loads S.same 524322 seat.old seat.new }
 {
     if has_stopped(station) {
         return;

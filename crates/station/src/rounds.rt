@@ -1,17 +1,16 @@
 //! A worker's rounds: a claim under the station's lock, then loads, rendering and the file's digest outside it, then a finish
 //! or a stop under it.
-ghost use Rattle.std.specs.Prelude.{◌≡◌, ◌≢◌, ◌↔◌, ◌+◌, ◌-◌, ◌<◌, ◌≤◌, ◌^◌, true, false, Err, length, IfSome, IfOk, IfErr, OnOk, IsErr};
+ghost use Rattle.std.specs.Prelude.{◌≡◌, ◌↔◌, ◌+◌, ◌<◌, ◌^◌, true, false, Err, length, IfOk, IfErr, IsOk, OnOk};
 ghost use Rattle.conform_job.specs.Answers.{AreInfosOf};
 ghost use Rattle.conform_job.specs.Names.{Tells};
 ghost use Rattle.frame_render.specs.Frame.{frame_size};
 ghost use Rattle.render_board.specs.declared.step.Why.TheVariants as whys;
 ghost use Rattle.reel_writer.specs.Reel.{frames_of};
-ghost use Rattle.single_run.specs.Ends.{IsChange, IsStop};
+ghost use Rattle.single_run.specs.Ends.{IsUnrendered};
 ghost use Rattle.shared_station.specs.Leaving.{HasLeft};
-ghost use Rattle.shared_station.specs.Marks.{Tallies};
-ghost use Rattle.single_run.specs.Scanned.{IsScanned};
 ghost use Rattle.shared_station.specs.StationSteps.{MayStop, why_by};
-ghost use Rattle.station.specs.Worked.{HasCauses, HasCounted};
+ghost use Rattle.station.specs.Stepped.{HasStepped, HasWorked};
+ghost use Rattle.station.specs.Worked.{HasMarked};
 
 use crate::seat::Seat;
 use crate::shared_frames::SharedFrames;
@@ -38,8 +37,7 @@ pub(crate) fn is_source_fault<N: Work>(made: &Result<Rendered<N>, RunEnd>) -> bo
 
 /// Why a worker stops where a frame could not be made.
 pub(crate) fn why_of<N: Work>(end: RunEnd) -> Why
-    requires stop { IsStop N.job N.files end }
-    requires never { end ≢ RunEnd.DiskFault }
+    requires stop { IsUnrendered N.job N.files end }
     ensures why { result ≡ why_by end }
     ensures may { MayStop N.job N.files result }
 {
@@ -117,6 +115,43 @@ fn give_up<
     station.lock(rt).give_up(number, held, why, marks)
 }
 
+/// Hands in the frame that was made for a worker, or stops where none was. The room is handed back where the worker goes on.
+fn deliver<
+    D: Disk,
+    N: Work + Start,
+    W: Crewed,
+    A: Ledger,
+    B: Ledger,
+    C: Ledger,
+    E: Ledger,
+    R: Wait,
+>(
+    rt: &R,
+    number: u16,
+    marks: &mut Marks<A, B, C, E>,
+    station: &Mutex<Station<D, N, W, A, B, C, E>>,
+    held: Held,
+    made: Result<Rendered<N>, RunEnd>,
+) -> Result<FrameBuf, Leave>
+    requires index { IfOk made (λ frame. frame.index ≡ held) }
+    requires stop { IfErr made (IsUnrendered N.job N.files) }
+    ensures room { IfOk result (λ back. length back ≡ frame_size N.job) }
+    ensures goes_on { OnOk result ((marks.new ≡ marks.old) × IsOk made) }
+    ensures marks { HasMarked N.files made marks.old marks.new }
+    ensures left { IfErr result (HasLeft (λ why. made ≡ Err RunEnd.SourceFault → why ≡ whys.Source) marks.old marks.new) }
+{
+    match made {
+        Ok(frame) => {
+            let hashed = Hashed::of(frame);
+            match hand_in(rt, number, marks, station, held, &hashed) {
+                Ok(()) => Ok(hashed.into_frame().into_buf()),
+                Err(leave) => Err(leave),
+            }
+        }
+        Err(end) => Err(give_up(rt, number, marks, station, Some(held), why_of::<N>(end))),
+    }
+}
+
 /// One round: takes a frame, makes it and finishes it. The room is handed back where the worker goes on; else it has stopped, or
 /// was turned away.
 fn round<
@@ -148,15 +183,9 @@ fn round<
     requires unfailed { seat.old.has_failed ≡ false }
     requires closed { seat.old.units.pending ≡ 0 }
     ensures number { seat.new.number ≡ seat.old.number }
-    ensures parts { seat.new.units.parts ≡ seat.old.units.parts }
-    ensures counted { seat.new.units.amount + seat.old.loads ≡ seat.old.units.amount + seat.new.loads }
+    ensures stepped { HasStepped N.files S.world S.faults S.loads S.same 2 seat.old seat.new }
     ensures closed { OnOk result (seat.new.units.pending ≡ 0) }
     ensures room { IfOk result (λ back. length back ≡ frame_size N.job) }
-    ensures later { seat.old.loads ≤ seat.new.loads }
-    ensures most { seat.new.loads ≤ seat.old.loads + 2 }
-    ensures scan { IsScanned S.world S.faults S.loads (seat.new.loads - seat.old.loads) (seat.new.has_failed ≡ true) seat.old.scan seat.new.scan }
-    ensures same { S.same seat.old.scan seat.new.scan }
-    ensures causes { HasCauses N.files (seat.new.loads - seat.old.loads) seat.new.has_failed seat.old.marks seat.new.marks }
     ensures goes_on { OnOk result ((seat.new.marks ≡ seat.old.marks) × (seat.new.has_failed ≡ false)) }
     ensures left { IfErr result (HasLeft (λ why. seat.new.has_failed ≡ true → why ≡ whys.Source) seat.old.marks seat.new.marks) }
 {
@@ -179,19 +208,7 @@ fn round<
         &mut seat.loads,
     );
     seat.has_failed = is_source_fault(&made);
-    match made {
-        Ok(frame) => {
-            let hashed = Hashed::of(frame);
-            match hand_in(rt, seat.number, &mut seat.marks, station, held, &hashed) {
-                Ok(()) => Ok(hashed.into_frame().into_buf()),
-                Err(leave) => Err(leave),
-            }
-        }
-        Err(end) => {
-            let why = why_of::<N>(end);
-            Err(give_up(rt, seat.number, &mut seat.marks, station, Some(held), why))
-        }
-    }
+    deliver(rt, seat.number, &mut seat.marks, station, held, made)
 }
 
 /// A worker's part of a run: it claims, makes and finishes frames until none is left, or somebody stops. It loads, renders
@@ -227,11 +244,7 @@ pub fn worker<
     requires unfailed { seat.old.has_failed ≡ false }
     requires closed { seat.old.units.pending ≡ 0 }
     ensures number { seat.new.number ≡ seat.old.number }
-    ensures asked { HasCounted seat.old.units seat.new.loads seat.new.units }
-    ensures few { seat.new.loads ≤ 524288 }
-    ensures scan { IsScanned S.world S.faults S.loads seat.new.loads (seat.new.has_failed ≡ true) seat.old.scan seat.new.scan }
-    ensures same { S.same seat.old.scan seat.new.scan }
-    ensures causes { HasCauses N.files seat.new.loads seat.new.has_failed seat.old.marks seat.new.marks }
+    ensures worked { HasWorked N.files S.world S.faults S.loads S.same 524288 seat.old seat.new }
     ensures left { HasLeft (λ why. seat.new.has_failed ≡ true → why ≡ whys.Source) seat.old.marks seat.new.marks result }
 {
     let mut room = match FrameBuf::new(alloc, job) {

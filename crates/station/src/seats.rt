@@ -1,8 +1,8 @@
 //! The seats of a crew: one for each scan, made before the workers begin and taken apart after they have returned.
-ghost use Rattle.std.specs.Prelude.{◌≡◌, ◌+◌, ◌*◌, ◌<◌, ◌≤◌, ◌++◌, ◌∷◌, ℕ, All, [], false, length, map, slice_index_or, sum_by, vec_len, vec_capacity};
-ghost use Rattle.frame_share.specs.Units.{fresh as unasked};
-ghost use Rattle.shared_station.specs.Marks.{HasMoreThan, fresh};
-ghost use Rattle.station.specs.Seats.{HasGiven, HasTaken, IsOnePart};
+ghost use Rattle.std.specs.Prelude.{◌≡◌, ◌+◌, ◌<◌, ◌≤◌, ◌++◌, ◌∷◌, ℕ, All, [], false, map, slice_index_or, sum_by, vec_len, vec_capacity};
+ghost use Rattle.shared_station.specs.Marks.{HasMoreThan};
+ghost use Rattle.station.specs.Seats.{HasGiven, HasTaken};
+ghost use Rattle.station.specs.Stepped.{IsFresh, WasCounted};
 
 use crate::seat::Seat;
 use conform_job::Work;
@@ -42,9 +42,8 @@ pub(crate) fn seat_all<S: Scans, N: Work, A: Ledger, B: Ledger, C: Ledger, E: Le
     ensures scans { map (λ s. s.scan) result.items ≡ scans.items }
     ensures len { vec_len result ≡ vec_len scans }
     ensures numbers { (k : ℕ) (d : _) → k < vec_len scans → (slice_index_or result.items k d).number ≡ k }
-    ensures fresh { All (λ s. (s.marks ≡ fresh) × (s.loads ≡ 0) × (s.has_failed ≡ false)) result.items }
+    ensures fresh { All (λ s. IsFresh s) result.items }
     ensures given { HasGiven marks.old (vec_len scans) marks.new }
-    ensures unasked { All (λ s. s.units ≡ unasked) result.items }
     ensures shares { units.new.parts + vec_len scans ≡ units.old.parts }
     ensures amount { units.new.amount ≡ units.old.amount }
 {
@@ -78,9 +77,7 @@ pub(crate) fn unseat<S: Scans, N: Work, A: Ledger, B: Ledger, C: Ledger, E: Ledg
     requires empty { room.items ≡ [] }
     requires room { vec_len seats ≤ vec_capacity room }
     requires some { vec_len seats ≤ 16 }
-    requires few { All (λ s. s.loads ≤ 2097152) seats.items }
-    requires one { All (λ s. IsOnePart s.marks) seats.items }
-    requires counted { All (λ s. (s.units.parts ≡ 1) × (s.units.amount ≡ s.loads)) seats.items }
+    requires counted { All (λ s. WasCounted s) seats.items }
     ensures scans { result.0.items ≡ map (λ s. s.scan) seats.items }
     ensures loads { result.1 ≡ sum_by (λ s. s.loads) seats.items }
     ensures source { marks.new.source.amount ≡ marks.old.source.amount + sum_by (λ s. s.marks.source.amount) seats.items }

@@ -1,5 +1,5 @@
 //! A frame of the reel from source frames that the workers share. A source frame that isn't there is loaded outside the lock.
-ghost use Rattle.std.specs.Prelude.{◌≡◌, ◌≢◌, ◌+◌, ◌-◌, ◌<◌, ◌≤◌, ◌^◌, Some, Err, length, IfSome, IfOk, IfErr, OnOk};
+ghost use Rattle.std.specs.Prelude.{◌≡◌, ◌+◌, ◌-◌, ◌<◌, ◌^◌, Some, Err, length, IfSome, IfOk, IfErr, OnOk};
 ghost use Rattle.std.specs.Arc.{arc_value};
 ghost use Rattle.std.specs.Option.{option_map};
 ghost use Rattle.conform_job.specs.Answers.{AreInfosOf};
@@ -7,8 +7,8 @@ ghost use Rattle.conform_job.specs.Keys.{info_at};
 ghost use Rattle.conform_job.specs.Names.{Tells};
 ghost use Rattle.frame_render.specs.Frame.{HasKeyOf, frame_size};
 ghost use Rattle.reel_writer.specs.Reel.{frames_of};
-ghost use Rattle.single_run.specs.Ends.{IsChange, IsStop};
-ghost use Rattle.single_run.specs.Scanned.{IsScanned};
+ghost use Rattle.single_run.specs.Ends.{IsChange, IsUnrendered};
+ghost use Rattle.single_run.specs.Scanned.{HasLoaded, IsScanned};
 
 use crate::shared_frames::SharedFrames;
 use cf_base::Key;
@@ -17,7 +17,7 @@ use dpx_header::FrameInfo;
 use frame_render::{Decoded, FrameBuf, Rendered, Rooms, render_forked};
 use frame_share::{Ask, Placed, Units};
 use scan_source::Scans;
-use single_run::{RunEnd, fetch, lent};
+use single_run::{RunEnd, fetch_to_share, lent};
 use std::alloc::Global;
 use std::sync::ledger::Ledger;
 use std::sync::{Arc, Wait};
@@ -44,13 +44,9 @@ fn frame_of<N: Work, F: Ledger, S: Scans, R: Wait>(
     requires closed { units.old.pending ≡ 0 }
     requires few { loads.old + 1 < 2 ^ 64 }
     ensures key { IfOk result (λ frame. (arc_value frame).key ≡ key) }
-    ensures stop { IfErr result (IsStop N.job N.files) }
-    ensures never { result ≢ Err RunEnd.DiskFault }
+    ensures stop { IfErr result (IsUnrendered N.job N.files) }
     ensures closed { OnOk result (units.new.pending ≡ 0) }
-    ensures parts { units.new.parts ≡ units.old.parts }
-    ensures counted { units.new.amount + loads.old ≡ units.old.amount + loads.new }
-    ensures later { loads.old ≤ loads.new }
-    ensures most { loads.new ≤ loads.old + 1 }
+    ensures loads { HasLoaded 1 loads.old loads.new units.old units.new }
     ensures changed { IfErr result (λ end. IsChange end → loads.old < loads.new) }
     ensures scan { IsScanned S.world S.faults S.loads (loads.new - loads.old) (result ≡ Err RunEnd.SourceFault) scan.old scan.new }
     ensures same { S.same scan.old scan.new }
@@ -61,13 +57,9 @@ fn frame_of<N: Work, F: Ledger, S: Scans, R: Wait>(
         Ask::Miss(ticket) => ticket,
     };
     *loads += 1;
-    let frame = match fetch::<N, S>(alloc, job, scan, key, info, rooms) {
-        Ok(frame) => frame,
+    let (frame, ours) = match fetch_to_share::<N, S>(alloc, job, scan, key, info, rooms) {
+        Ok(frames) => frames,
         Err(end) => return Err(end),
-    };
-    let ours = match Arc::try_clone(&frame) {
-        Ok(ours) => ours,
-        Err(_) => return Err(RunEnd::NoMemory),
     };
     match share.put(rt, ticket, frame, units, &mut rooms.spare) {
         Placed::Kept | Placed::Left => Ok(ours),
@@ -95,13 +87,9 @@ fn side_of<N: Work, F: Ledger, S: Scans, R: Wait>(
     requires closed { units.old.pending ≡ 0 }
     requires few { loads.old + 1 < 2 ^ 64 }
     ensures key { IfOk result (λ frame. HasKeyOf need (option_map (λ f. arc_value f) frame)) }
-    ensures stop { IfErr result (IsStop N.job N.files) }
-    ensures never { result ≢ Err RunEnd.DiskFault }
+    ensures stop { IfErr result (IsUnrendered N.job N.files) }
     ensures closed { OnOk result (units.new.pending ≡ 0) }
-    ensures parts { units.new.parts ≡ units.old.parts }
-    ensures counted { units.new.amount + loads.old ≡ units.old.amount + loads.new }
-    ensures later { loads.old ≤ loads.new }
-    ensures most { loads.new ≤ loads.old + 1 }
+    ensures loads { HasLoaded 1 loads.old loads.new units.old units.new }
     ensures changed { IfErr result (λ end. IsChange end → loads.old < loads.new) }
     ensures scan { IsScanned S.world S.faults S.loads (loads.new - loads.old) (result ≡ Err RunEnd.SourceFault) scan.old scan.new }
     ensures same { S.same scan.old scan.new }
@@ -142,13 +130,9 @@ pub(crate) fn make_shared<N: Work, F: Ledger, S: Scans, R: Threads + Wait + Sync
     requires closed { units.old.pending ≡ 0 }
     requires few { loads.old + 2 < 2 ^ 64 }
     ensures index { IfOk result (λ frame. frame.index ≡ i) }
-    ensures stop { IfErr result (IsStop N.job N.files) }
-    ensures never { result ≢ Err RunEnd.DiskFault }
+    ensures stop { IfErr result (IsUnrendered N.job N.files) }
     ensures closed { OnOk result (units.new.pending ≡ 0) }
-    ensures parts { units.new.parts ≡ units.old.parts }
-    ensures counted { units.new.amount + loads.old ≡ units.old.amount + loads.new }
-    ensures later { loads.old ≤ loads.new }
-    ensures two { loads.new ≤ loads.old + 2 }
+    ensures loads { HasLoaded 2 loads.old loads.new units.old units.new }
     ensures changed { IfErr result (λ end. IsChange end → loads.old < loads.new) }
     ensures scan { IsScanned S.world S.faults S.loads (loads.new - loads.old) (result ≡ Err RunEnd.SourceFault) scan.old scan.new }
     ensures same { S.same scan.old scan.new }

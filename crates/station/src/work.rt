@@ -1,11 +1,9 @@
 //! A worker in each seat, and what they leave.
-ghost use Rattle.std.specs.Prelude.{◌≡◌, ◌↔◌, ◌<◌, ◌≤◌, ℕ, All, true, false, length, slice_index_or};
+ghost use Rattle.std.specs.Prelude.{◌≡◌, ◌↔◌, ◌<◌, ◌≤◌, ℕ, All, true, length, slice_index_or};
 ghost use Rattle.conform_job.specs.Answers.{AreInfosOf};
-ghost use Rattle.conform_job.specs.Names.{Tells};
-ghost use Rattle.render_board.specs.Board.{has_stop, is_done};
-ghost use Rattle.reel_writer.specs.Reel.{frames_of};
-ghost use Rattle.station.specs.Crews.{HasWorked, IsReady, IsWorked};
-ghost use Rattle.station.specs.Worked.{HasCounted};
+ghost use Rattle.station.specs.Each.{EachBecame};
+ghost use Rattle.station.specs.Left.{HasFinished};
+ghost use Rattle.station.specs.Stepped.{HasWorked, IsReady};
 
 use crate::each::{Works, work_on_each};
 use crate::rest::finish_rest;
@@ -58,13 +56,12 @@ impl<
     ghost use Rattle.std.specs.Prelude.{◌≡◌};
     ghost use denote.Param.Send.{IsSync};
     ghost use Rattle.conform_job.specs.Answers.{AreInfosOf};
-    ghost use Rattle.station.specs.Crews.{HasWorked, IsReady};
+    ghost use Rattle.station.specs.Stepped.{HasWorked, IsReady};
 
     ghost may = { λ shared seat. IsSync R.row × (shared.job.now ≡ N.job) × AreInfosOf N.job.parts N.files N.job.infos
-        × IsReady N.files S.world seat.scan seat.loads seat.has_failed seat.units };
+        × IsReady N.files S.world seat };
 
-    ghost has = { λ shared old new. HasWorked N.files S.world S.faults S.loads S.same old.scan new.scan
-        new.loads new.has_failed old.marks new.marks old.units new.units };
+    ghost has = { λ shared old new. HasWorked N.files S.world S.faults S.loads S.same 524288 old new };
 
     fn work(&self, seat: &mut Seat<S, N, A, B, C, E, F>) {
         drop(worker(
@@ -99,13 +96,9 @@ fn work_in_first<
     requires within { threads ≤ length seats.old }
     requires job { shared.now.job.now ≡ N.job }
     requires infos { AreInfosOf N.job.parts N.files N.job.infos }
-    requires ready { All (λ s. IsReady N.files S.world s.scan s.loads s.has_failed s.units) seats.old }
+    requires ready { All (λ s. IsReady N.files S.world s) seats.old }
     ensures size { length seats.new ≡ length seats.old }
-    ensures worked { (k : ℕ) (d : _) → k < threads → HasWorked N.files S.world S.faults S.loads S.same
-        (slice_index_or seats.old k d).scan (slice_index_or seats.new k d).scan
-        (slice_index_or seats.new k d).loads (slice_index_or seats.new k d).has_failed
-        (slice_index_or seats.old k d).marks (slice_index_or seats.new k d).marks
-        (slice_index_or seats.old k d).units (slice_index_or seats.new k d).units }
+    ensures worked { EachBecame threads (HasWorked N.files S.world S.faults S.loads S.same 524288) seats.old seats.new }
     ensures others { (k : ℕ) (d : _) → threads ≤ k → slice_index_or seats.new k d ≡ slice_index_or seats.old k d }
 {
     work_on_each(shared.rt, shared, &mut seats[..threads]);
@@ -144,21 +137,12 @@ pub(crate) fn work_all<
     requires some { 0 < threads }
     requires within { threads ≤ length seats.old }
     requires job { job.now ≡ N.job }
-    requires files { All (λ s. Tells N.files (S.world s.scan)) seats.old }
     requires infos { AreInfosOf N.job.parts N.files N.job.infos }
-    requires idle { All (λ s. (s.loads ≡ 0) × (s.has_failed ≡ false)) seats.old }
-    requires closed { All (λ s. s.units.pending ≡ 0) seats.old }
+    requires ready { All (λ s. IsReady N.files S.world s) seats.old }
     ensures size { length seats.new ≡ length seats.old }
-    ensures each { (k : ℕ) (d : _) → k < length seats.old → IsWorked N.files S.world S.faults S.loads
-        (slice_index_or seats.old k d).scan (slice_index_or seats.new k d).scan
-        (slice_index_or seats.new k d).loads (slice_index_or seats.new k d).has_failed
-        (slice_index_or seats.old k d).marks (slice_index_or seats.new k d).marks }
-    ensures units { (k : ℕ) (d : _) → k < length seats.old → HasCounted
-        (slice_index_or seats.old k d).units (slice_index_or seats.new k d).loads (slice_index_or seats.new k d).units }
-    ensures few { (k : ℕ) (d : _) → k < length seats.old → (slice_index_or seats.new k d).loads ≤ 2097152 }
-    ensures same { (k : ℕ) (d : _) → k < length seats.old → S.same (slice_index_or seats.old k d).scan (slice_index_or seats.new k d).scan }
+    ensures worked { EachBecame (length seats.old) (HasWorked N.files S.world S.faults S.loads S.same 2097152) seats.old seats.new }
     ensures unused { (k : ℕ) (d : _) → threads ≤ k → slice_index_or seats.new k d ≡ slice_index_or seats.old k d }
-    ensures whole { has_stop result.0.log.steps ≡ false → (i : ℕ) → i < frames_of N.job → is_done result.0.log i ≡ true }
+    ensures whole { HasFinished N.job result.0.log }
 {
     let station = Mutex::new(station);
     let share = SharedFrames::new(share);

@@ -1,4 +1,4 @@
-use Rattle.std.proofs.Common.{◌≡◌, ℕ, inl, inr, refl, sym, ◌∙◌, ap, subst}
+use Rattle.std.proofs.Common.{◌≡◌, ℕ, inl, inr, refl, ◌∙◌, ap, subst}
 use Rattle.cf_base.specs.Count.{HasCause}
 use Rattle.reel_disk.specs.Disk.{view_of}
 use Rattle.reel_disk.proofs.Sparing.{spares_along, spares_wider}

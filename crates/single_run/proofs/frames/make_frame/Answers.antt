@@ -5,6 +5,7 @@ use Rattle.conform_job.specs.declared.need.Need.{Need}
 use Rattle.single_run.specs.Asks.{key_of_side, keys_of_need}
 use Rattle.single_run.specs.Sharing.{HasAsked, HasTried}
 use Rattle.single_run.proofs.Asking.{IsKnown, known_at}
+use Rattle.single_run.proofs.Counting.{loaded_along, loaded_within}
 use Rattle.single_run.proofs.Logs.{asked_asked, asked_tried}
 use Rattle.single_run.proofs.Running.{err_same}
 use Rattle.single_run.proofs.Scanning.{scanned_along, scanned_as}
@@ -25,8 +26,8 @@ returns-in-Err-side_of-clause-tried g c =
 
 pub returns-in-Err-side_of-clause-scan : goal.returns-in-Err-side_of-clause-scan
 returns-in-Err-side_of-clause-scan g c =
-    let first = c.in-Ok.ensures.later in
-    let second = c.in-Err-side_of.ensures.later in
+    let first = c.side_of.ensures.loads.later in
+    let second = c.side_of-2.ensures.loads.later in
     scanned_along g.S.Scans.world g.S.Scans.faults g.S.Scans.loads c.args.scan.now c.side_of.new.scan c.side_of-2.new.scan (c.side_of.new.loads - c.args.loads.now) (c.side_of-2.new.loads - c.side_of.new.loads) (c.side_of-2.new.loads - c.args.loads.now) _ _
     (omega (arith, first, second)) (λ same. cc) c.in-Ok.ensures.scan
     (scanned_as g.S.Scans.world g.S.Scans.faults g.S.Scans.loads c.side_of.new.scan c.side_of-2.new.scan _ _ _ _ refl (λ is. ap Err (err_same _ _ is)) (λ is. ap Err (err_same _ _ is)) c.in-Err-side_of.ensures.scan)
@@ -35,3 +36,13 @@ pub returns-clause-asked : goal.returns-clause-asked
 returns-clause-asked g c =
     subst (λ (n : Need). HasAsked c.args.share.now c.side_of-2.new.share (keys_of_need n)) (c.need-need.ensures.need ∙ ap (λ (j : JobData). need_at j c.args.i) c.requires.job)
     (asked_asked c.args.share.now c.side_of.new.share c.side_of-2.new.share (key_of_side c.need-need.result.old) (key_of_side c.need-need.result.new) c.in-Ok.ensures.asked c.in-Ok-side_of.ensures.asked)
+
+-- at most one load a side
+pub returns-in-Err-clause-loads : goal.returns-in-Err-clause-loads
+returns-in-Err-clause-loads g c = loaded_within 1 2 _ _ _ _ (omega arith) c.side_of.ensures.loads
+
+pub returns-in-Err-side_of-clause-loads : goal.returns-in-Err-side_of-clause-loads
+returns-in-Err-side_of-clause-loads g c = loaded_along 1 1 2 _ _ _ _ _ _ (omega arith) c.side_of.ensures.loads c.side_of-2.ensures.loads
+
+pub returns-clause-loads : goal.returns-clause-loads
+returns-clause-loads g c = loaded_along 1 1 2 _ _ _ _ _ _ (omega arith) c.side_of.ensures.loads c.side_of-2.ensures.loads

@@ -12,6 +12,7 @@ use Rattle.single_run.specs.Asks.{keys_of_need}
 use Rattle.single_run.specs.Ran.{IsPast}
 use Rattle.single_run.specs.Sharing.{HasAsked}
 use Rattle.single_run.proofs.Closing.{others_acked}
+use Rattle.single_run.proofs.Counting.{loaded_none, unrendered_stop}
 use Rattle.single_run.proofs.Logs.{asked_is_tried, asked_none}
 use Rattle.single_run.proofs.Stepping.{past_finish, past_itself, asks_if_open, asks_if_closed}
 use Rattle.single_run.proofs.frames.run_frame.Goals as goal
@@ -61,6 +62,12 @@ returns-in-Err-finish-clause-spares g c told =
 pub finish-requires-clause-fresh : goal.finish-requires-clause-fresh
 finish-requires-clause-fresh g c =
     ap (λ (n : ℕ). get_or c.args.reel.now.ledger.gates n false) (ap (λ (f : FrameBytes). f.index) c.of-hashed.ensures ∙ c.in-Ok.ensures.index) ∙ sym c.is_acked.ensures.acked ∙ c.if-is_acked.false
+
+pub returns-in-Err-clause-stop : goal.returns-in-Err-clause-stop
+returns-in-Err-clause-stop g c = unrendered_stop g.N.Work.job g.N.Work.files c.in-Err.end c.in-Err.ensures.stop
+
+pub returns-then-is_acked-clause-loads : goal.returns-then-is_acked-clause-loads
+returns-then-is_acked-clause-loads g c = loaded_none 2 c.args.loads.now c.args.units.now c.args.units.now refl
 
 pub returns-in-Err-clause-shut : goal.returns-in-Err-clause-shut
 returns-in-Err-clause-shut g c = sym c.is_acked.ensures.acked ∙ c.if-is_acked.false

@@ -31,7 +31,7 @@ loop-i-init g c = record {
   run = λ told. reel_run_itself g.N.Work.job g.N.Work.files (g.D.Disk.history c.args.reel.now.disk);
   spares = λ told. spares_itself (g.D.Disk.history c.args.reel.now.disk) (IsRunFile g.N.Work.job c.args.reel.now.ledger.gates);
   faults = refl;
-  same_disk = g.met.D.Disk.same_itself c.args.reel.now.disk;
+  same_disk = refl;
   scan = scanned_as g.S.Scans.world g.S.Scans.faults g.S.Scans.loads c.args.scan.now c.args.scan.now 0 c.args.loads.now ⊥ ⊥ (sym c.requires.zero.0) (λ never. never) (λ never. never) (scanned_itself g.S.Scans.world g.S.Scans.faults g.S.Scans.loads ⊥ (λ never. never) c.args.scan.now);
   same_scan = g.met.S.Scans.same_refl c.args.scan.now;
 }
@@ -53,17 +53,17 @@ loop-i-preserved g c =
           ∙ ap (λ l. asks_of_frames g.N.Work.job (closed_frames c.args.reel.now.ledger.gates c.loop-i.i) ++ l) (asked.asks ∙ ap (asks_of_frames g.N.Work.job) still) ∙ sym (asks_more g.N.Work.job c.args.reel.now.ledger.gates c.loop-i.i));
       paired = subst (IsPaired ⊥) (sym asked.steps) (paired_along ⊥ c.loop-i.share.steps asked.more inv.paired asked.paired);
       capacity = asked.room ∙ inv.capacity;
-      parts = c.run_frame.ensures.parts ∙ inv.parts;
+      parts = step.loads.parts ∙ inv.parts;
       closed = step.closed;
-      counted = let was = inv.counted in let now = c.run_frame.ensures.counted in omega (arith, was, now);
-      few = let was = inv.few in let two = c.run_frame.ensures.two in omega (arith, was, two);
+      counted = let was = inv.counted in let now = step.loads.misses in omega (arith, was, now);
+      few = let was = inv.few in let two = step.loads.few in omega (arith, was, two);
       room = step.room;
       run = λ told. reel_run_along g.N.Work.job g.N.Work.files _ _ _ (inv.run told) (step.run told) (step.none_lost told);
       spares = λ told. spares_along _ _ _ (IsRunFile g.N.Work.job c.args.reel.now.ledger.gates) (inv.run told).extends (step.run told).extends (inv.spares told)
           (spares_wider _ _ (IsRunFile g.N.Work.job c.loop-i.reel.ledger.gates) (IsRunFile g.N.Work.job c.args.reel.now.ledger.gates) (run_file_along c.args.reel.now c.loop-i.reel c.loop-i.i c.requires.none inv.past g.N.Work.job) (step.spares told));
       faults = steady ∙ inv.faults;
-      same_disk = g.met.D.Disk.same_along _ _ _ inv.same_disk step.same_disk;
-      scan = scanned_along g.S.Scans.world g.S.Scans.faults g.S.Scans.loads _ _ _ c.loop-i.loads (c.run_frame.new.loads - c.loop-i.loads) c.run_frame.new.loads ⊥ ⊥ (let later = step.later in omega (arith, later)) (λ never. never) inv.scan
+      same_disk = step.same_disk ∙ inv.same_disk;
+      scan = scanned_along g.S.Scans.world g.S.Scans.faults g.S.Scans.loads _ _ _ c.loop-i.loads (c.run_frame.new.loads - c.loop-i.loads) c.run_frame.new.loads ⊥ ⊥ (let later = step.loads.later in omega (arith, later)) (λ never. never) inv.scan
           (scanned_as g.S.Scans.world g.S.Scans.faults g.S.Scans.loads _ _ _ _ _ ⊥ refl (λ never. absurd never) (λ same. cc) step.scan);
       same_scan = g.met.S.Scans.same_trans _ _ _ inv.same_scan step.same_scan;
     }
@@ -120,7 +120,7 @@ returns-in-Err-run_frame-clause-spares g c told =
 
 pub returns-in-Err-run_frame-clause-scan : goal.returns-in-Err-run_frame-clause-scan
 returns-in-Err-run_frame-clause-scan g c =
-    scanned_along g.S.Scans.world g.S.Scans.faults g.S.Scans.loads _ _ _ c.loop-i.loads (c.run_frame.new.loads - c.loop-i.loads) c.run_frame.new.loads ⊥ _ (let later = c.run_frame.ensures.later in omega (arith, later)) (λ never. never) c.loop-i.invariant.scan
+    scanned_along g.S.Scans.world g.S.Scans.faults g.S.Scans.loads _ _ _ c.loop-i.loads (c.run_frame.new.loads - c.loop-i.loads) c.run_frame.new.loads ⊥ _ (let later = c.run_frame.ensures.loads.later in omega (arith, later)) (λ never. never) c.loop-i.invariant.scan
     (scanned_as g.S.Scans.world g.S.Scans.faults g.S.Scans.loads _ _ _ _ _ _ refl (λ is. ap Err is) (λ is. err_same _ _ is) c.in-Err-run_frame.ensures.scan)
 
 -- every frame is finished

@@ -26,7 +26,7 @@ invariant-loop-i g l = record {
   run : g.D.Disk.tells ≡ true → IsReelRun g.N.Work.job g.N.Work.files (g.D.Disk.history l.fn.reel.disk) (g.D.Disk.history l.reel.disk);
   spares : g.D.Disk.tells ≡ true → Spares (g.D.Disk.history l.fn.reel.disk) (g.D.Disk.history l.reel.disk) (IsRunFile g.N.Work.job l.fn.reel.ledger.gates);
   faults : g.D.Disk.faults l.reel.disk ≡ g.D.Disk.faults l.fn.reel.disk;
-  same_disk : g.D.Disk.same l.fn.reel.disk l.reel.disk;
+  same_disk : g.D.Disk.loans l.reel.disk ≡ g.D.Disk.loans l.fn.reel.disk;
   scan : IsScanned g.S.Scans.world g.S.Scans.faults g.S.Scans.loads l.loads ⊥ l.fn.scan l.scan;
   same_scan : g.S.Scans.same l.fn.scan l.scan;
 }

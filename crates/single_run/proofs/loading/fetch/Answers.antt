@@ -6,6 +6,7 @@ use Rattle.source_reels.specs.declared.seen.Seen.TheVariants as seen
 use Rattle.conform_job.specs.Job.{JobData}
 use Rattle.frame_render.specs.Frame.{IsFrontOf}
 use Rattle.dpx_header.specs.Frame.{need_of}
+use Rattle.single_run.proofs.Counting.{fail_unrendered}
 use Rattle.single_run.proofs.Fetching.{fail_seen, info_known}
 use Rattle.single_run.proofs.loading.fetch.Goals as goal
 
@@ -30,6 +31,9 @@ within-decoded-requires-clause-file g c =
 
 pub returns-in-Err-clause-seen : goal.returns-in-Err-clause-seen
 returns-in-Err-clause-seen g c = fail_seen c.args.key c.args.info _ c.in-Err.end c.in-Err.ensures.stop
+
+pub returns-in-Err-clause-stop : goal.returns-in-Err-clause-stop
+returns-in-Err-clause-stop g c = fail_unrendered g.N.Work.job g.N.Work.files c.in-Err.end c.in-Err.ensures.stop
 
 pub returns-then-not-is_info-clause-seen : goal.returns-then-not-is_info-clause-seen
 returns-then-not-is_info-clause-seen g c = (refl, refl, c.in-Ok.ensures.seen)

@@ -1,4 +1,4 @@
-use Rattle.std.proofs.Common.{◌≡◌, ◌≤◌, ℕ, List, min, length, refl, ◌∙◌, ap, subst, arith}
+use Rattle.std.proofs.Common.{◌≡◌, ℕ, List, refl, ◌∙◌, ap, subst, arith}
 use Rattle.std.specs.Prelude.{None, IfSome}
 use Rattle.dpx_header.specs.Frame.{need_of}
 use Rattle.dpx_header.specs.Reading.{info_of}

@@ -1,5 +1,7 @@
-use Rattle.std.proofs.Common.{◌+◌, ◌∷◌, [], rules, ◌∙◌, ap, arith}
+use Rattle.std.proofs.Common.{◌∷◌, [], rules, refl, ◌∙◌, ap, arith}
+use Rattle.std.specs.Prelude.{Err}
 use Rattle.frame_share.specs.Units.{Tally}
+use Rattle.single_run.proofs.Counting.{loaded_none, loaded_once}
 use Rattle.single_run.proofs.Logs.{asked_hit, asked_put, tried_miss, tried_none, was_placed, was_put}
 use Rattle.single_run.proofs.Running.{err_same}
 use Rattle.single_run.proofs.Scanning.{scanned_more, scanned_still}
@@ -21,49 +23,31 @@ pub returns-in-Err-clause-tried : goal.returns-in-Err-clause-tried
 returns-in-Err-clause-tried g c = tried_miss c.args.share.now c.ask.new.self c.args.key c.in-Miss.ensures.answer.2
 
 pub returns-in-Err-clause-scan : goal.returns-in-Err-clause-scan
-returns-in-Err-clause-scan g c = scanned_more g.S.Scans.world g.S.Scans.faults g.S.Scans.loads c.args.scan.now c.fetch.new.scan c.args.loads.now _ _ (λ is. is) (λ is. is) c.in-Err.ensures.scan
-
-pub returns-in-Err-try_clone-clause-tried : goal.returns-in-Err-try_clone-clause-tried
-returns-in-Err-try_clone-clause-tried g c = tried_miss c.args.share.now c.ask.new.self c.args.key c.in-Miss.ensures.answer.2
-
-pub returns-in-Err-try_clone-clause-scan : goal.returns-in-Err-try_clone-clause-scan
-returns-in-Err-try_clone-clause-scan g c = scanned_more g.S.Scans.world g.S.Scans.faults g.S.Scans.loads c.args.scan.now c.fetch.new.scan c.args.loads.now _ _ (λ same. let is = err_same _ _ same in cc) (λ same. cc) c.in-Ok.ensures.scan
+returns-in-Err-clause-scan g c = scanned_more g.S.Scans.world g.S.Scans.faults g.S.Scans.loads c.args.scan.now c.fetch_to_share.new.scan c.args.loads.now _ _ (λ is. ap Err (err_same _ _ is)) (λ is. ap Err (err_same _ _ is)) c.in-Err.ensures.scan
 
 pub returns-in-NoMemory-put-clause-tried : goal.returns-in-NoMemory-put-clause-tried
 returns-in-NoMemory-put-clause-tried g c = tried_miss c.args.share.now c.put.new.self c.args.key (c.in-NoMemory-put.ensures.answer ∙ c.in-Miss.ensures.answer.2)
 
 pub returns-in-NoMemory-put-clause-scan : goal.returns-in-NoMemory-put-clause-scan
-returns-in-NoMemory-put-clause-scan g c = scanned_more g.S.Scans.world g.S.Scans.faults g.S.Scans.loads c.args.scan.now c.fetch.new.scan c.args.loads.now _ _ (λ same. let is = err_same _ _ same in cc) (λ same. cc) c.in-Ok.ensures.scan
+returns-in-NoMemory-put-clause-scan g c = scanned_more g.S.Scans.world g.S.Scans.faults g.S.Scans.loads c.args.scan.now c.fetch_to_share.new.scan c.args.loads.now _ _ (λ same. let is = err_same _ _ same in cc) (λ same. cc) c.in-Ok.ensures.scan
 
 pub overflow_add-loads : goal.overflow_add-loads
 overflow_add-loads g c = omega (arith, c.requires.few)
 
 -- what is counted of it, and what is loaded
-pub returns-in-Hit-clause-counted : goal.returns-in-Hit-clause-counted
-returns-in-Hit-clause-counted g c = ap (λ (t : Tally). t.amount + c.args.loads.now) c.in-Hit.ensures.units
+pub returns-in-Hit-clause-loads : goal.returns-in-Hit-clause-loads
+returns-in-Hit-clause-loads g c = loaded_none 1 c.args.loads.now c.args.units.now c.ask.new.units c.in-Hit.ensures.units
 
-pub returns-in-NoMemory-clause-counted : goal.returns-in-NoMemory-clause-counted
-returns-in-NoMemory-clause-counted g c = ap (λ (t : Tally). t.amount + c.args.loads.now) c.in-NoMemory.ensures.units
+pub returns-in-NoMemory-clause-loads : goal.returns-in-NoMemory-clause-loads
+returns-in-NoMemory-clause-loads g c = loaded_none 1 c.args.loads.now c.args.units.now c.ask.new.units c.in-NoMemory.ensures.units
 
-pub returns-in-Err-clause-counted : goal.returns-in-Err-clause-counted
-returns-in-Err-clause-counted g c = let amount = ap (λ (t : Tally). t.amount) c.in-Miss.ensures.units in omega (arith, amount)
+pub returns-in-Err-clause-loads : goal.returns-in-Err-clause-loads
+returns-in-Err-clause-loads g c = loaded_once c.args.loads.now c.args.units.now c.ask.new.units c.ask.new.units c.in-Miss.ensures.units refl refl
 
-pub returns-in-Err-clause-most : goal.returns-in-Err-clause-most
-returns-in-Err-clause-most g c = omega arith
-
-pub returns-in-Err-try_clone-clause-counted : goal.returns-in-Err-try_clone-clause-counted
-returns-in-Err-try_clone-clause-counted g c = let amount = ap (λ (t : Tally). t.amount) c.in-Miss.ensures.units in omega (arith, amount)
-
-pub returns-in-Err-try_clone-clause-most : goal.returns-in-Err-try_clone-clause-most
-returns-in-Err-try_clone-clause-most g c = omega arith
-
-pub returns-in-NoMemory-put-clause-counted : goal.returns-in-NoMemory-put-clause-counted
-returns-in-NoMemory-put-clause-counted g c =
-    let amount = ap (λ (t : Tally). t.amount) (c.in-NoMemory-put.ensures.units ∙ c.in-Miss.ensures.units) in
-    omega (arith, amount)
-
-pub returns-in-NoMemory-put-clause-most : goal.returns-in-NoMemory-put-clause-most
-returns-in-NoMemory-put-clause-most g c = omega arith
+pub returns-in-NoMemory-put-clause-loads : goal.returns-in-NoMemory-put-clause-loads
+returns-in-NoMemory-put-clause-loads g c =
+    let same = c.in-NoMemory-put.ensures.units in
+    loaded_once c.args.loads.now c.args.units.now c.ask.new.units c.put.new.units c.in-Miss.ensures.units (ap (λ (t : Tally). t.parts) same) (ap (λ (t : Tally). t.amount) same)
 
 pub returns-in-Kept : goal.returns-in-Kept
 returns-in-Kept g c =
@@ -71,22 +55,16 @@ returns-in-Kept g c =
     let units = was_placed c.ask.new.units c.put.new.units c.put.result c.in-Kept.is c.put.ensures.units in
     let missed = c.in-Miss.ensures.units in
     let open_before = ap (λ (t : Tally). t.pending) missed in
-    let amount_before = ap (λ (t : Tally). t.amount) missed in
     let open_after = units.2 in
-    let amount_after = units.1 in
     let none = c.requires.closed in
     record {
       key = search rules;
       stop = tt;
-      never = λ same. cc;
       asked = asked_put c.args.share.now c.ask.new.self c.put.new.self c.args.key c.in-Miss.ticket put.0 c.in-Miss.ensures.answer.1 c.in-Miss.ensures.answer.2 put.1;
       tried = tt;
       closed = omega (arith, open_before, open_after, none);
-      parts = units.0 ∙ ap (λ (t : Tally). t.parts) missed;
-      counted = omega (arith, amount_before, amount_after);
-      later = omega arith;
-      most = omega arith;
+      loads = loaded_once c.args.loads.now c.args.units.now c.ask.new.units c.put.new.units missed units.0 units.1;
       changed = tt;
-      scan = scanned_more g.S.Scans.world g.S.Scans.faults g.S.Scans.loads c.args.scan.now c.fetch.new.scan c.args.loads.now _ _ (λ same. cc) (λ same. cc) c.in-Ok.ensures.scan;
+      scan = scanned_more g.S.Scans.world g.S.Scans.faults g.S.Scans.loads c.args.scan.now c.fetch_to_share.new.scan c.args.loads.now _ _ (λ same. cc) (λ same. cc) c.in-Ok.ensures.scan;
       same = c.in-Ok.ensures.same;
     }

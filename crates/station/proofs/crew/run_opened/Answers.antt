@@ -1,45 +1,30 @@
-use Rattle.std.proofs.Common.{◌≡◌, ◌≤◌, ◌∙◌, All, true, Vec, length, map, sum_by, rules, arith, refl, sym, ap, subst}
+use Rattle.std.proofs.Common.{◌≡◌, ◌∙◌, All, true, Vec, length, map, sum_by, rules, arith, refl, sym, ap, subst}
 use Rattle.std.specs.declared.alloc.Global.{Global}
 use Rattle.conform_job.specs.Names.{Tells}
 use Rattle.render_board.specs.Board.{has_stop, is_done}
 use Rattle.render_board.specs.History.{first_why, is_changed, is_source, stops_of}
 use Rattle.single_run.specs.Ends.{IsChange}
 use Rattle.frame_share.specs.Share.{IsLegal, ShareView, misses_of}
-use Rattle.frame_share.specs.Units.{Tally, fresh as unasked}
-use Rattle.shared_station.specs.Marks.{fresh}
-use Rattle.station.specs.Seats.{IsOnePart}
+use Rattle.frame_share.specs.Units.{Tally}
+use Rattle.station.specs.Stepped.{IsFresh, WasCounted}
 use Rattle.shared_station.specs.Station.{StationView}
 use Rattle.station.proofs.Gathering.{changed_seat, end_changed, end_source, gathered}
-use Rattle.station.proofs.Seating.{all_after, all_at, counted_part, one_part, refilled}
+use Rattle.station.proofs.Seating.{all_after, all_at, refilled, was_counted}
 use Rattle.station.proofs.crew.run_opened.Goals as goal
 
-pub work_all-station-requires-clause-files : goal.work_all-station-requires-clause-files
-work_all-station-requires-clause-files g c κs within =
-    all_at _ _ (λ s. s.scan) (λ s. Tells g.N.Work.files (g.S.Scans.world s)) c.deref_mut.result.now c.args.scans.items (search rules) c.requires.files
-
-pub work_all-station-requires-clause-idle : goal.work_all-station-requires-clause-idle
-work_all-station-requires-clause-idle g c κs within =
-    rw c.deref_mut.ensures.value (λ k d lt. let is = c.seat_all-seats.ensures.fresh k d lt in (is.1, is.2))
-
-pub unseat-scans-requires-clause-few : goal.unseat-scans-requires-clause-few
-unseat-scans-requires-clause-few g c =
-    all_after (λ s. s.loads ≤ 2097152) c.deref_mut.result.now c.work_all-station.new.seats c.seat_all-seats.result.items c.seat_all-seats.result.len c.work_all-station.ensures.size (search rules) c.work_all-station.ensures.few
-
-pub unseat-scans-requires-clause-one : goal.unseat-scans-requires-clause-one
-unseat-scans-requires-clause-one g c =
-    let all : All (λ s. s.marks ≡ fresh) c.deref_mut.result.now = rw c.deref_mut.ensures.value (λ k d lt. (c.seat_all-seats.ensures.fresh k d lt).0) in
-    all_after (λ s. IsOnePart s.marks) c.deref_mut.result.now c.work_all-station.new.seats c.seat_all-seats.result.items c.seat_all-seats.result.len c.work_all-station.ensures.size (search rules)
-    (λ k d lt. one_part _ _ (all k d lt) (c.work_all-station.ensures.each k d lt).causes.parts)
-
-pub work_all-station-requires-clause-closed : goal.work_all-station-requires-clause-closed
-work_all-station-requires-clause-closed g c κs within =
-    rw c.deref_mut.ensures.value (λ k d lt. ap (λ (u : Tally). u.pending) (c.seat_all-seats.ensures.unasked k d lt))
+pub work_all-station-requires-clause-ready : goal.work_all-station-requires-clause-ready
+work_all-station-requires-clause-ready g c κs within =
+    let fresh : All (λ s. IsFresh s) c.deref_mut.result.now = rw c.deref_mut.ensures.value c.seat_all-seats.ensures.fresh in
+    let tells = all_at _ _ (λ s. s.scan) (λ s. Tells g.N.Work.files (g.S.Scans.world s)) c.deref_mut.result.now c.args.scans.items (search rules) c.requires.files in
+    λ k d lt.
+    let is = fresh k d lt in
+    record { tells = tells k d lt; none = is.none; unfailed = is.unfailed; closed = ap (λ (u : Tally). u.pending) is.units }
 
 pub unseat-scans-requires-clause-counted : goal.unseat-scans-requires-clause-counted
 unseat-scans-requires-clause-counted g c =
-    let unasked : All (λ s. s.units ≡ unasked) c.deref_mut.result.now = rw c.deref_mut.ensures.value c.seat_all-seats.ensures.unasked in
-    all_after (λ s. (s.units.parts ≡ 1) × (s.units.amount ≡ s.loads)) c.deref_mut.result.now c.work_all-station.new.seats c.seat_all-seats.result.items c.seat_all-seats.result.len c.work_all-station.ensures.size (search rules)
-    (λ k d lt. counted_part _ _ _ (unasked k d lt) (c.work_all-station.ensures.units k d lt))
+    let fresh : All (λ s. IsFresh s) c.deref_mut.result.now = rw c.deref_mut.ensures.value c.seat_all-seats.ensures.fresh in
+    all_after (λ s. WasCounted s) c.deref_mut.result.now c.work_all-station.new.seats c.seat_all-seats.result.items c.seat_all-seats.result.len c.work_all-station.ensures.size (search rules)
+    (λ k d lt. was_counted g.N.Work.files g.S.Scans.world g.S.Scans.faults g.S.Scans.loads g.S.Scans.same _ _ (fresh k d lt) (c.work_all-station.ensures.worked k d lt))
 
 pub closing-requires-clause-whole : goal.closing-requires-clause-whole
 closing-requires-clause-whole g c none i lt =
@@ -50,7 +35,7 @@ returns-clause-changed g c change =
     let xs = c.deref_mut.result.now in
     let ys = c.work_all-station.new.seats in
     let steps = c.settle.new.self.log.steps in
-    let idle : All (λ s. s.marks ≡ fresh) xs = rw c.deref_mut.ensures.value (λ k d lt. (c.seat_all-seats.ensures.fresh k d lt).0) in
+    let idle : All (λ s. IsFresh s) xs = rw c.deref_mut.ensures.value c.seat_all-seats.ensures.fresh in
     let full : c.seat_all-seats.result.len ≡ length c.deref_mut.result.now = search rules in
     let back = refilled ys c.seat_all-seats.result.items c.seat_all-seats.result.len (omega (arith, c.work_all-station.ensures.size, full)) in
     let stops = end_changed steps (first_why steps) refl (subst IsChange c.closing.ensures.end change) in
@@ -58,8 +43,8 @@ returns-clause-changed g c change =
     let counted = c.unseat-scans.ensures.changed in
     let none = c.seat_all-seats.ensures.given.changed.1 ∙ c.new-station.ensures.changed.1 in
     let sum = ap (sum_by (λ s. s.marks.changed.amount)) back in
-    let loaded = changed_seat g.N.Work.files g.S.Scans.world g.S.Scans.faults g.S.Scans.loads g.S.Scans.same (λ s. s.scan) (λ s. s.loads) (λ s. s.has_failed) (λ s. s.marks)
-    xs ys c.args.threads c.work_all-station.ensures.size c.work_all-station.ensures.each idle (omega (arith, stops, settled, counted, none, sum)) in
+    let loaded = changed_seat g.N.Work.files g.S.Scans.world g.S.Scans.faults g.S.Scans.loads g.S.Scans.same
+    xs ys c.args.threads 2097152 c.work_all-station.ensures.size c.work_all-station.ensures.worked idle (omega (arith, stops, settled, counted, none, sum)) in
     let total = c.closing.ensures.loads.0 ∙ c.unseat-scans.ensures.loads ∙ ap (sum_by (λ s. s.loads)) back in
     omega (arith, loaded, total)
 
@@ -68,20 +53,20 @@ returns-clause-scans g c =
     let xs = c.deref_mut.result.now in
     let ys = c.work_all-station.new.seats in
     let steps = c.settle.new.self.log.steps in
-    let idle : All (λ s. s.marks ≡ fresh) xs = rw c.deref_mut.ensures.value (λ k d lt. (c.seat_all-seats.ensures.fresh k d lt).0) in
+    let idle : All (λ s. IsFresh s) xs = rw c.deref_mut.ensures.value c.seat_all-seats.ensures.fresh in
     let full : c.seat_all-seats.result.len ≡ length c.deref_mut.result.now = search rules in
     let back = refilled ys c.seat_all-seats.result.items c.seat_all-seats.result.len (omega (arith, c.work_all-station.ensures.size, full)) in
     let settled = c.settle.ensures.settled.source ∙ ap (λ (v : StationView _). stops_of is_source v.log.steps) (sym c.settle.ensures.same) in
     let counted = c.unseat-scans.ensures.source in
     let none = c.seat_all-seats.ensures.given.source.1 ∙ c.new-station.ensures.source.1 in
     let sum = ap (sum_by (λ s. s.marks.source.amount)) back in
-    gathered g.N.Work.files g.S.Scans.world g.S.Scans.faults g.S.Scans.loads g.S.Scans.same (λ s. s.scan) (λ s. s.loads) (λ s. s.has_failed) (λ s. s.marks)
-    xs ys c.args.threads c.work_all-station.ensures.size c.work_all-station.ensures.each idle
+    gathered g.N.Work.files g.S.Scans.world g.S.Scans.faults g.S.Scans.loads g.S.Scans.same
+    xs ys c.args.threads 2097152 c.work_all-station.ensures.size c.work_all-station.ensures.worked idle
     c.args.scans.items c.closing.result.scans.items c.closing.result.report.loads _
     (search rules)
     (ap (λ (v : Vec _ Global). v.items) c.closing.ensures.scans ∙ c.unseat-scans.ensures.scans ∙ ap (map (λ s. s.scan)) back)
     (c.closing.ensures.loads.0 ∙ c.unseat-scans.ensures.loads ∙ ap (sum_by (λ s. s.loads)) back)
-    c.work_all-station.ensures.same c.work_all-station.ensures.unused
+    c.work_all-station.ensures.unused
     (λ failed. let stops = end_source steps (first_why steps) refl (sym c.closing.ensures.end ∙ failed) in omega (arith, stops, settled, counted, none, sum))
 
 pub returns-clause-shared : goal.returns-clause-shared

@@ -1,4 +1,4 @@
-use Rattle.std.proofs.Common.{◌≡◌, ◌∙◌, Bool, List, length, refl, rules, arith, ap}
+use Rattle.std.proofs.Common.{◌≡◌, ◌+◌, ◌*◌, ◌∙◌, Bool, List, length, rules, arith, ap}
 use Rattle.render_board.specs.declared.step.Step.TheVariants.{Claim}
 use Rattle.render_board.specs.Board.{Log, with_step}
 use Rattle.station.proofs.Resting.{free_most, holds_after, round_over, stepped_along, stepped_itself}
@@ -7,7 +7,7 @@ use Rattle.station.proofs.rest.finish_free.Goals as goal
 pub loop-init : goal.loop-init
 loop-init g c =
     let most = free_most c.args.station.now.log in
-    let size = c.workers.ensures.kept.size in
+    let size = c.recall.ensures.kept.size in
     record {
       within = search rules;
       ending = search rules;
@@ -17,21 +17,18 @@ loop-init g c =
       idle = c.requires.idle;
       free = omega (arith, most, size);
       closed = c.requires.closed;
-      parts = refl;
-      counted = refl;
-      most = omega arith;
-      stepped = stepped_itself g.N.Work.files g.S.Scans.world g.S.Scans.faults g.S.Scans.loads c.args.seat.now.scan c.args.seat.now.loads c.args.seat.now.has_failed c.args.seat.now.marks;
-      same = g.met.S.Scans.same_refl c.args.seat.now.scan;
+      stepped = stepped_itself g.N.Work.files g.S.Scans.world g.S.Scans.faults g.S.Scans.loads g.S.Scans.same g.met.S.Scans.same_refl _ c.args.seat.now;
     }
 
 pub finish_as-requires-clause-holds : goal.finish_as-requires-clause-holds
 finish_as-requires-clause-holds g c = holds_after c.loop.station.log c.claim_first.new.station.log c.in-Some.i c.in-Some.ensures.taken.0
 
+-- where it ends
 pub returns-then-not-finish_as-clause-stepped : goal.returns-then-not-finish_as-clause-stepped
 returns-then-not-finish_as-clause-stepped g c =
-    stepped_along g.N.Work.files g.S.Scans.world g.S.Scans.faults g.S.Scans.loads c.args.seat.now.scan c.loop.seat.scan c.finish_as.new.seat.scan
-    c.args.seat.now.loads c.loop.seat.loads c.finish_as.new.seat.loads c.args.seat.now.has_failed c.loop.seat.has_failed c.finish_as.new.seat.has_failed
-    c.args.seat.now.marks c.loop.seat.marks c.finish_as.new.seat.marks c.loop.invariant.stepped c.finish_as.ensures.stepped
+    let inv = c.loop.invariant in
+    stepped_along g.N.Work.files g.S.Scans.world g.S.Scans.faults g.S.Scans.loads g.S.Scans.same g.met.S.Scans.same_trans (2 * c.loop.counter) 2 524290 c.args.seat.now c.loop.seat c.finish_as.new.seat
+    (let lt = c.loop-test.true in let ending = inv.ending in let short = inv.short in omega (arith, lt, ending, short)) inv.stepped c.finish_as.ensures.stepped
 
 pub loop-preserved : goal.loop-preserved
 loop-preserved g c =
@@ -47,11 +44,6 @@ loop-preserved g c =
       idle = over.idle;
       free = let fewer = over.fewer in let free = inv.free in omega (arith, fewer, free);
       closed = c.finish_as.ensures.closed c.if-not-finish_as.false;
-      parts = c.finish_as.ensures.parts ∙ inv.parts;
-      counted = let was = inv.counted in let now = c.finish_as.ensures.counted in omega (arith, was, now);
-      most = let before = inv.most in let most = c.finish_as.ensures.most in omega (arith, before, most);
-      stepped = stepped_along g.N.Work.files g.S.Scans.world g.S.Scans.faults g.S.Scans.loads c.args.seat.now.scan c.loop.seat.scan c.finish_as.new.seat.scan
-          c.args.seat.now.loads c.loop.seat.loads c.finish_as.new.seat.loads c.args.seat.now.has_failed c.loop.seat.has_failed c.finish_as.new.seat.has_failed
-          c.args.seat.now.marks c.loop.seat.marks c.finish_as.new.seat.marks inv.stepped c.finish_as.ensures.stepped;
-      same = g.met.S.Scans.same_trans _ _ _ inv.same c.finish_as.ensures.same;
+      stepped = stepped_along g.N.Work.files g.S.Scans.world g.S.Scans.faults g.S.Scans.loads g.S.Scans.same g.met.S.Scans.same_trans (2 * c.loop.counter) 2 (2 * (c.loop.counter + 1)) c.args.seat.now c.loop.seat c.finish_as.new.seat
+          (omega arith) inv.stepped c.finish_as.ensures.stepped;
     }

@@ -16,9 +16,5 @@ invariant-loop g l = record {
   idle : (w : ℕ) → w < l.station.log.workers → turn_of l.station.log w ≡ turns.Idle;
   free : free_count l.station.log + l.counter ≤ frames_of g.N.Work.job;
   closed : l.seat.units.pending ≡ 0;
-  parts : l.seat.units.parts ≡ l.fn.seat.units.parts;
-  counted : l.seat.units.amount + l.fn.seat.loads ≡ l.fn.seat.units.amount + l.seat.loads;
-  most : l.seat.loads ≤ l.fn.seat.loads + 2 * l.counter;
-  stepped : HasStepped g.N.Work.files g.S.Scans.world g.S.Scans.faults g.S.Scans.loads l.fn.seat.scan l.seat.scan l.fn.seat.loads l.seat.loads l.fn.seat.has_failed l.seat.has_failed l.fn.seat.marks l.seat.marks;
-  same : g.S.Scans.same l.fn.seat.scan l.seat.scan;
+  stepped : HasStepped g.N.Work.files g.S.Scans.world g.S.Scans.faults g.S.Scans.loads g.S.Scans.same (2 * l.counter) l.fn.seat l.seat;
 }

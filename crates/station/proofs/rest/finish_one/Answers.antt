@@ -4,7 +4,7 @@ use Rattle.station.proofs.Resting.{idle_after, others_after}
 use Rattle.station.proofs.rest.finish_one.Goals as goal
 
 pub returns-in-Stopped-clause-stopped : goal.returns-in-Stopped-clause-stopped
-returns-in-Stopped-clause-stopped g c is = stopped_has_stop c.args.station.now.log c.args.worker c.workers.ensures.kept.legal (sym c.in-Stopped.ensures)
+returns-in-Stopped-clause-stopped g c is = stopped_has_stop c.args.station.now.log c.args.worker c.recall.ensures.kept.legal (sym c.in-Stopped.ensures)
 
 pub returns-in-Holds-clause-idle : goal.returns-in-Holds-clause-idle
 returns-in-Holds-clause-idle g c is = idle_after c.args.station.now.log c.finish_as.new.station.log c.args.worker c.in-Holds.i (c.finish_as.ensures.done is)

@@ -4,4 +4,4 @@ use Rattle.render_board.proofs.Holding.{stopped_has_stop}
 use Rattle.station.proofs.rest.stop_first.Goals as goal
 
 pub stop-requires-clause-running : goal.stop-requires-clause-running
-stop-requires-clause-running g c is = true≢false (sym (stopped_has_stop c.args.station.now.log 0 c.workers.ensures.kept.legal is) ∙ c.requires.none)
+stop-requires-clause-running g c is = true≢false (sym (stopped_has_stop c.args.station.now.log 0 c.recall.ensures.kept.legal is) ∙ c.requires.none)

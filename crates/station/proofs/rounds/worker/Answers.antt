@@ -1,8 +1,25 @@
-use Rattle.std.proofs.Common.{◌≡◌, true, rules, refl, arith, sym, ◌∙◌}
-use Rattle.std.proofs.lemmas.Bool.{true≢false}
-use Rattle.single_run.proofs.Scanning.{scanned_as}
-use Rattle.station.proofs.Working.{counted_along, round_along}
+use Rattle.std.proofs.Common.{◌*◌, ◌+◌, ◌≤◌, rules, refl, arith, ◌∙◌}
+use Rattle.station.proofs.Resting.{stepped_along, stepped_itself, stepped_left, worked_first}
 use Rattle.station.proofs.rounds.worker.Goals as goal
+
+-- no room for a frame
+pub returns-in-Err-clause-worked : goal.returns-in-Err-clause-worked
+returns-in-Err-clause-worked g c =
+    worked_first g.N.Work.files g.S.Scans.world g.S.Scans.faults g.S.Scans.loads g.S.Scans.same 0 524288 c.args.seat.now _ (omega arith) c.requires.none c.requires.unfailed
+    (stepped_left g.N.Work.files g.S.Scans.world g.S.Scans.faults g.S.Scans.loads g.S.Scans.same g.met.S.Scans.same_refl 0 c.args.seat.now _ c.give_up.result refl refl refl refl c.give_up.ensures.left)
+
+pub loop-init : goal.loop-init
+loop-init g c = record {
+  within = search rules;
+  ending = search rules;
+  short = search rules;
+  number = refl;
+  closed = c.requires.closed;
+  room = search rules;
+  unfailed = c.requires.unfailed;
+  marks = refl;
+  stepped = stepped_itself g.N.Work.files g.S.Scans.world g.S.Scans.faults g.S.Scans.loads g.S.Scans.same g.met.S.Scans.same_refl _ c.args.seat.now;
+}
 
 pub loop-preserved : goal.loop-preserved
 loop-preserved g c =
@@ -12,16 +29,34 @@ loop-preserved g c =
       ending = search rules;
       short = search rules;
       number = c.round.ensures.number ∙ c.loop.invariant.number;
-      few = let before = c.loop.invariant.few in let most = c.round.ensures.most in omega (arith, before, most);
       closed = c.in-Ok-round.ensures.closed;
-      asked = counted_along c.args.seat.now.units c.loop.seat.units c.round.new.seat.units c.loop.seat.loads c.round.new.seat.loads c.loop.invariant.asked c.round.ensures.parts c.round.ensures.counted;
       room = c.in-Ok-round.ensures.room;
       unfailed = goes_on.1;
-      scan = round_along g.S.Scans.world g.S.Scans.faults g.S.Scans.loads c.args.seat.now.scan c.loop.seat.scan c.round.new.seat.scan c.loop.seat.loads c.round.new.seat.loads ⊥ c.round.ensures.later c.loop.invariant.scan
-          (scanned_as g.S.Scans.world g.S.Scans.faults g.S.Scans.loads c.loop.seat.scan c.round.new.seat.scan _ _ (c.round.new.seat.has_failed ≡ true) ⊥ refl (λ never. absurd never) (λ failed. true≢false (sym failed ∙ goes_on.1)) c.round.ensures.scan);
-      same = g.met.S.Scans.same_trans _ _ _ c.loop.invariant.same c.round.ensures.same;
       marks = goes_on.0 ∙ c.loop.invariant.marks;
+      stepped = stepped_along g.N.Work.files g.S.Scans.world g.S.Scans.faults g.S.Scans.loads g.S.Scans.same g.met.S.Scans.same_trans (2 * c.loop.counter) 2 (2 * (c.loop.counter + 1)) c.args.seat.now c.loop.seat c.round.new.seat
+          (omega arith) c.loop.invariant.stepped c.round.ensures.stepped;
     }
 
-pub returns-in-Err-round-clause-scan : goal.returns-in-Err-round-clause-scan
-returns-in-Err-round-clause-scan g c = round_along g.S.Scans.world g.S.Scans.faults g.S.Scans.loads c.args.seat.now.scan c.loop.seat.scan c.round.new.seat.scan c.loop.seat.loads c.round.new.seat.loads _ c.round.ensures.later c.loop.invariant.scan c.round.ensures.scan
+-- it has stopped or was turned away in a round
+pub returns-in-Err-round-clause-worked : goal.returns-in-Err-round-clause-worked
+returns-in-Err-round-clause-worked g c =
+    let inv = c.loop.invariant in
+    let le : 2 * (c.loop.counter + 1) ≤ 524288 = let lt = c.loop-test.true in let ending = inv.ending in let short = inv.short in omega (arith, lt, ending, short) in
+    worked_first g.N.Work.files g.S.Scans.world g.S.Scans.faults g.S.Scans.loads g.S.Scans.same (2 * (c.loop.counter + 1)) 524288 c.args.seat.now c.round.new.seat le c.requires.none c.requires.unfailed
+    (stepped_along g.N.Work.files g.S.Scans.world g.S.Scans.faults g.S.Scans.loads g.S.Scans.same g.met.S.Scans.same_trans (2 * c.loop.counter) 2 (2 * (c.loop.counter + 1)) c.args.seat.now c.loop.seat c.round.new.seat
+    (omega arith) inv.stepped c.round.ensures.stepped)
+
+-- no frame was left, or one that it could not make
+pub returns-in-Err-take_frame-clause-worked : goal.returns-in-Err-take_frame-clause-worked
+returns-in-Err-take_frame-clause-worked g c =
+    let inv = c.loop.invariant in
+    let le : 2 * c.loop.counter ≤ 524288 = let within = inv.within in let ending = inv.ending in let short = inv.short in omega (arith, within, ending, short) in
+    worked_first g.N.Work.files g.S.Scans.world g.S.Scans.faults g.S.Scans.loads g.S.Scans.same (2 * c.loop.counter) 524288 c.args.seat.now c.loop.seat le c.requires.none c.requires.unfailed inv.stepped
+
+pub returns-clause-worked : goal.returns-clause-worked
+returns-clause-worked g c =
+    let inv = c.loop.invariant in
+    let le : 2 * c.loop.counter ≤ 524288 = let within = inv.within in let ending = inv.ending in let short = inv.short in omega (arith, within, ending, short) in
+    worked_first g.N.Work.files g.S.Scans.world g.S.Scans.faults g.S.Scans.loads g.S.Scans.same (2 * c.loop.counter) 524288 c.args.seat.now _ le c.requires.none c.requires.unfailed
+    (stepped_along g.N.Work.files g.S.Scans.world g.S.Scans.faults g.S.Scans.loads g.S.Scans.same g.met.S.Scans.same_trans (2 * c.loop.counter) 0 (2 * c.loop.counter) c.args.seat.now c.loop.seat _ (omega arith) inv.stepped
+    (stepped_left g.N.Work.files g.S.Scans.world g.S.Scans.faults g.S.Scans.loads g.S.Scans.same g.met.S.Scans.same_refl 0 c.loop.seat _ c.give_up-in-Ok-take_frame.result refl refl refl refl c.give_up-in-Ok-take_frame.ensures.left))

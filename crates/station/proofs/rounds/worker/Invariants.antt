@@ -1,8 +1,7 @@
 use Rattle.std.proofs.Common.{◌≡◌, ◌*◌, ◌≤◌, false, length}
 use Rattle.frame_render.specs.Frame.{frame_size}
 use Rattle.reel_writer.specs.Reel.{frames_of}
-use Rattle.single_run.specs.Scanned.{IsScanned}
-use Rattle.station.specs.Worked.{HasCounted}
+use Rattle.station.specs.Stepped.{HasStepped}
 use Rattle.station.proofs.rounds.worker.Given as goal
 
 -- no round has stopped
@@ -12,12 +11,9 @@ invariant-loop g l = record {
   ending : l.end ≡ frames_of g.N.Work.job;
   short : l.end ≤ 262144;
   number : l.seat.number ≡ l.fn.seat.number;
-  few : l.seat.loads ≤ 2 * l.counter;
   closed : l.seat.units.pending ≡ 0;
-  asked : HasCounted l.fn.seat.units l.seat.loads l.seat.units;
   room : length l.room ≡ frame_size g.N.Work.job;
   unfailed : l.seat.has_failed ≡ false;
-  scan : IsScanned g.S.Scans.world g.S.Scans.faults g.S.Scans.loads l.seat.loads ⊥ l.fn.seat.scan l.seat.scan;
-  same : g.S.Scans.same l.fn.seat.scan l.seat.scan;
   marks : l.seat.marks ≡ l.fn.seat.marks;
+  stepped : HasStepped g.N.Work.files g.S.Scans.world g.S.Scans.faults g.S.Scans.loads g.S.Scans.same (2 * l.counter) l.fn.seat l.seat;
 }

@@ -1,9 +1,8 @@
-use Rattle.std.proofs.Common.{◌≡◌, ◌∙◌, ap, arith, false, length, refl, rules, subst, sym}
+use Rattle.std.proofs.Common.{◌∙◌, ap, arith, length, refl, rules, subst, sym}
 use Rattle.std.proofs.lemmas.List.{length_push, map-append}
 use Rattle.std.proofs.lemmas.List.Elements.{All-push}
-use Rattle.frame_share.specs.Units.{fresh as unasked}
-use Rattle.shared_station.specs.Marks.{fresh}
 use Rattle.station.specs.Seats.{HasGiven}
+use Rattle.station.specs.Stepped.{IsFresh}
 use Rattle.station.proofs.Seating.{all_came, given_more, has_room, more_came, more_left, next_number, not_all_came, numbered_more, units_amount, units_closed, units_left}
 use Rattle.station.proofs.seats.seat_all.Goals as goal
 
@@ -18,10 +17,9 @@ loop-scan-preserved g c =
       capacity = search rules;
       len = omega (arith, more, c.loop-scan.invariant.len, c.push_within.ensures.len);
       scans = rw (c.push_within.ensures.items, map-append, c.loop-scan.invariant.scans) refl;
-      fresh = rw c.push_within.ensures.items (All-push (λ s. (s.marks ≡ fresh) × (s.loads ≡ 0) × (s.has_failed ≡ false)) c.loop-scan.seats.items _ c.loop-scan.invariant.fresh (c.split.ensures.new, refl, refl));
+      fresh = rw c.push_within.ensures.items (All-push (λ s. IsFresh s) c.loop-scan.seats.items _ c.loop-scan.invariant.fresh (record { marks = c.split.ensures.new; units = c.split-in-loop-scan.ensures.new; none = refl; unfailed = refl }));
       numbers = rw (c.push_within.ensures.items, more) (numbered_more (λ s. s.number) c.loop-scan.seats.items _ _ (search rules) c.loop-scan.invariant.number c.loop-scan.invariant.numbers);
       given = given_more _ _ _ _ _ _ c.loop-scan.invariant.given c.split.ensures.new c.split.ensures.all more;
-      unasked = rw c.push_within.ensures.items (All-push (λ s. s.units ≡ unasked) c.loop-scan.seats.items _ c.loop-scan.invariant.unasked c.split-in-loop-scan.ensures.new);
       shares = units_left _ _ _ _ _ c.split-in-loop-scan.ensures.new c.split-in-loop-scan.ensures.all c.loop-scan.invariant.shares more;
       amount = units_amount _ _ _ c.split-in-loop-scan.ensures.new c.split-in-loop-scan.ensures.all ∙ c.loop-scan.invariant.amount;
       closed = units_closed _ _ _ c.split-in-loop-scan.ensures.all c.loop-scan.invariant.closed;
@@ -58,7 +56,6 @@ returns g c =
       numbers = λ k d lt. inv.numbers k d (omega (arith, lt, size));
       fresh = inv.fresh;
       given = subst (λ n. HasGiven c.args.marks.now n c.loop-scan.marks) size inv.given;
-      unasked = inv.unasked;
       shares = let shares = inv.shares in omega (arith, shares, size);
       amount = inv.amount;
     }

@@ -1,7 +1,6 @@
-use Rattle.std.proofs.Common.{◌≡◌, ℕ, ◌<◌, ◌+◌, ◌++◌, All, get_or, length, map, false, vec_len, vec_capacity}
-use Rattle.frame_share.specs.Units.{fresh as unasked}
-use Rattle.shared_station.specs.Marks.{fresh}
+use Rattle.std.proofs.Common.{◌≡◌, ℕ, ◌<◌, ◌+◌, ◌++◌, All, get_or, length, map, vec_len, vec_capacity}
 use Rattle.station.specs.Seats.{HasGiven}
+use Rattle.station.specs.Stepped.{IsFresh}
 use Rattle.station.proofs.seats.seat_all.Given as goal
 
 abbrev pub invariant-loop-scan : goal.invariant-loop-scan
@@ -14,9 +13,8 @@ invariant-loop-scan g l = record {
   len : vec_len l.seats ≡ length l.yielded;
   scans : map (λ s. s.scan) l.seats.items ≡ l.yielded;
   numbers : (k : ℕ) (d : _) → k < length l.yielded → (get_or l.seats.items k d).number ≡ k;
-  fresh : All (λ s. (s.marks ≡ fresh) × (s.loads ≡ 0) × (s.has_failed ≡ false)) l.seats.items;
+  fresh : All (λ s. IsFresh s) l.seats.items;
   given : HasGiven l.initial.marks (length l.yielded) l.marks;
-  unasked : All (λ s. s.units ≡ unasked) l.seats.items;
   shares : l.units.parts + length l.yielded ≡ l.initial.units.parts;
   amount : l.units.amount ≡ l.initial.units.amount;
   closed : l.units.pending ≡ 0;

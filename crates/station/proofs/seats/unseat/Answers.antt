@@ -1,10 +1,11 @@
-use Rattle.std.proofs.Common.{◌≡◌, ◌+◌, ◌≤◌, ◌∙◌, ap, arith, length, map, refl, subst, sym}
+use Rattle.std.proofs.Common.{◌+◌, ◌≤◌, ◌∙◌, ap, arith, length, map, refl, subst, sym}
 use Rattle.std.proofs.lemmas.List.{length_push, map-append}
 use Rattle.std.proofs.lemmas.List.Sums.{sum_by_push}
 use Rattle.std.specs.Prelude.{sum_by}
 use Rattle.frame_share.specs.Units.{Tally}
 use Rattle.shared_station.specs.Marks.{Tallies}
-use Rattle.station.specs.Seats.{HasTaken, IsOnePart}
+use Rattle.station.specs.Seats.{HasTaken}
+use Rattle.station.specs.Stepped.{WasCounted}
 use Rattle.station.proofs.Seating.{all_came, few_loads, has_room, item_of, more_came, not_all_came, taken_more}
 use Rattle.station.proofs.seats.unseat.Goals as goal
 
@@ -15,9 +16,8 @@ loop-seat-preserved g c =
     let inv = c.loop-seat.invariant in
     let whole = inv.left ∙ c.into_iter-seat-iterator.ensures.into_iter_gives.0 in
     let more = length_push came seat in
-    let lent : seat.loads ≤ 2097152 = item_of (λ s. s.loads ≤ 2097152) _ came _ _ seat whole c.in-Some.ensures.steps.0 c.requires.few in
-    let one : IsOnePart seat.marks = item_of (λ s. IsOnePart s.marks) _ came _ _ seat whole c.in-Some.ensures.steps.0 c.requires.one in
-    let counted : (seat.units.parts ≡ 1) × (seat.units.amount ≡ seat.loads) = item_of (λ s. (s.units.parts ≡ 1) × (s.units.amount ≡ s.loads)) _ came _ _ seat whole c.in-Some.ensures.steps.0 c.requires.counted in
+    let counted : WasCounted seat = item_of (λ s. WasCounted s) _ came _ _ seat whole c.in-Some.ensures.steps.0 c.requires.counted in
+    let lent = counted.few in
     record {
       can = tt;
       ends = tt;
@@ -29,9 +29,9 @@ loop-seat-preserved g c =
       few = let before = inv.few in omega (arith, before, lent, more);
       source = let before = inv.source in omega (arith, before, ap (λ (t : Tallies). t.source.amount) c.join.ensures.all, sum_by_push (λ s. s.marks.source.amount) came seat);
       changed = let before = inv.changed in omega (arith, before, ap (λ (t : Tallies). t.changed.amount) c.join.ensures.all, sum_by_push (λ s. s.marks.changed.amount) came seat);
-      taken = taken_more _ _ _ seat.marks _ _ inv.taken one c.join.ensures.all more;
-      shares = let was = inv.shares in omega (arith, was, ap (λ (u : Tally). u.parts) c.join-in-loop-seat.ensures.all, counted.0, more);
-      amount = let was = inv.amount in omega (arith, was, ap (λ (u : Tally). u.amount) c.join-in-loop-seat.ensures.all, counted.1);
+      taken = taken_more _ _ _ seat.marks _ _ inv.taken counted.marks c.join.ensures.all more;
+      shares = let was = inv.shares in omega (arith, was, ap (λ (u : Tally). u.parts) c.join-in-loop-seat.ensures.all, counted.parts, more);
+      amount = let was = inv.amount in omega (arith, was, ap (λ (u : Tally). u.amount) c.join-in-loop-seat.ensures.all, counted.amount);
     }
 
 pub overflow_add-loads : goal.overflow_add-loads
@@ -40,8 +40,8 @@ overflow_add-loads g c =
     let inv = c.loop-seat.invariant in
     let whole = inv.left ∙ c.into_iter-seat-iterator.ensures.into_iter_gives.0 in
     let within = not_all_came _ came _ _ c.in-Some.seat whole c.in-Some.ensures.steps.0 in
-    let lent : c.in-Some.seat.loads ≤ 2097152 = item_of (λ s. s.loads ≤ 2097152) _ came _ _ c.in-Some.seat whole c.in-Some.ensures.steps.0 c.requires.few in
-    let fits = few_loads _ _ _ _ inv.few lent within (subst (λ n. n ≤ 16) c.args.seats.ok.0 c.requires.some) in
+    let counted : WasCounted c.in-Some.seat = item_of (λ s. WasCounted s) _ came _ _ c.in-Some.seat whole c.in-Some.ensures.steps.0 c.requires.counted in
+    let fits = few_loads _ _ _ _ inv.few counted.few within (subst (λ n. n ≤ 16) c.args.seats.ok.0 c.requires.some) in
     omega (arith, fits)
 
 pub push_within-requires : goal.push_within-requires

@@ -3,6 +3,7 @@ use Rattle.std.specs.Prelude.{Err}
 use Rattle.conform_job.specs.Job.{JobData, need_at}
 use Rattle.conform_job.specs.declared.need.Need.{Need}
 use Rattle.single_run.proofs.Asking.{IsKnown, known_at}
+use Rattle.single_run.proofs.Counting.{loaded_along, loaded_within}
 use Rattle.single_run.proofs.Running.{err_same}
 use Rattle.single_run.proofs.Scanning.{scanned_along, scanned_as}
 use Rattle.station.proofs.sharing.make_shared.Goals as goal
@@ -17,8 +18,18 @@ side_of-requires-2-clause-known g c =
 
 pub returns-in-Err-side_of-clause-scan : goal.returns-in-Err-side_of-clause-scan
 returns-in-Err-side_of-clause-scan g c =
-    let first = c.in-Ok.ensures.later in
-    let second = c.in-Err-side_of.ensures.later in
+    let first = c.side_of.ensures.loads.later in
+    let second = c.side_of-2.ensures.loads.later in
     scanned_along g.S.Scans.world g.S.Scans.faults g.S.Scans.loads c.args.scan.now c.side_of.new.scan c.side_of-2.new.scan (c.side_of.new.loads - c.args.loads.now) (c.side_of-2.new.loads - c.side_of.new.loads) (c.side_of-2.new.loads - c.args.loads.now) _ _
     (omega (arith, first, second)) (λ same. cc) c.in-Ok.ensures.scan
     (scanned_as g.S.Scans.world g.S.Scans.faults g.S.Scans.loads c.side_of.new.scan c.side_of-2.new.scan _ _ _ _ refl (λ is. ap Err (err_same _ _ is)) (λ is. ap Err (err_same _ _ is)) c.in-Err-side_of.ensures.scan)
+
+-- at most one load a side
+pub returns-in-Err-clause-loads : goal.returns-in-Err-clause-loads
+returns-in-Err-clause-loads g c = loaded_within 1 2 _ _ _ _ (omega arith) c.side_of.ensures.loads
+
+pub returns-in-Err-side_of-clause-loads : goal.returns-in-Err-side_of-clause-loads
+returns-in-Err-side_of-clause-loads g c = loaded_along 1 1 2 _ _ _ _ _ _ (omega arith) c.side_of.ensures.loads c.side_of-2.ensures.loads
+
+pub returns-clause-loads : goal.returns-clause-loads
+returns-clause-loads g c = loaded_along 1 1 2 _ _ _ _ _ _ (omega arith) c.side_of.ensures.loads c.side_of-2.ensures.loads

@@ -11,4 +11,5 @@ invariant_of-self g c =
       claimed_as g.N.Work.job g.N.Work.files g.N.Start.start g.D.Disk.tells g.D.Disk.history g.D.Disk.faults v c.args.worker c.self.invariant.0
           c.claim.result c.claim.new.self (search rules) (search rules) c.claim.ensures.answer c.claim.ensures.log,
       ap (λ (l : Log). l.workers) c.claim.ensures.log ∙ claim_workers s.board c.args.worker c.claim.result ∙ c.self.invariant.1,
+      c.self.invariant.2,
     )

@@ -18,6 +18,7 @@ invariant_of-self g c =
           c.args.frame.now.index c.finish.new.self c.finished.new.self (search rules) (search rules) (search rules) c.finish.ensures.run c.finish.ensures.none_lost c.finish.ensures.others c.finish.ensures.spares
           (c.in-Ok.ensures.finished) (search rules) c.in-Ok.ensures.acked c.in-Ok.ensures.steady,
       ap (λ (l : Log). l.workers) c.finished.ensures ∙ c.self.invariant.1,
+      c.finish.ensures.same ∙ c.self.invariant.2,
     )
 
 pub invariant_of-self-in-Err : goal.invariant_of-self-in-Err
@@ -28,6 +29,7 @@ invariant_of-self-in-Err g c =
           c.args.frame.now.index c.finish.new.self c.stop.new.self (search rules) (search rules) (search rules) c.finish.ensures.run c.finish.ensures.none_lost c.finish.ensures.others c.finish.ensures.spares
           c.add.new.self.total c.in-Err.ensures.closed c.stop.ensures (search rules) (search rules),
       ap (λ (l : Log). l.workers) c.stop.ensures ∙ c.self.invariant.1,
+      c.finish.ensures.same ∙ c.self.invariant.2,
     )
 
 pub returns-in-Ok-clause-others : goal.returns-in-Ok-clause-others

@@ -8,4 +8,5 @@ invariant_of-station g c = (
       (record { source = c.open-source_book.result.0.total; disk = c.open-disk_book.result.0.total; memory = c.open-memory_book.result.0.total; changed = c.open-changed_book.result.0.total })
       c.requires.beginning (search rules) (search rules) (search rules) (search rules),
   c.requires.workers,
+  c.requires.lent,
 )

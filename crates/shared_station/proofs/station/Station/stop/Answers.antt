@@ -13,6 +13,7 @@ invariant_of-self g c =
           c.args.why Source c.stop.new.self c.add.new.self.total s.totals.disk.total s.totals.memory.total s.totals.changed.total
           (search rules) (search rules) c.requires.why c.in-Source.is c.stop.ensures (search rules) refl refl refl,
       ap (λ (l : Log). l.workers) c.stop.ensures ∙ c.self.invariant.1,
+      c.self.invariant.2,
     )
 
 pub invariant_of-self-in-Memory : goal.invariant_of-self-in-Memory
@@ -23,6 +24,7 @@ invariant_of-self-in-Memory g c =
           c.args.why Memory c.stop.new.self s.totals.source.total s.totals.disk.total c.add-in-Memory.new.self.total s.totals.changed.total
           (search rules) (search rules) c.requires.why c.in-Memory.is c.stop.ensures refl refl (search rules) refl,
       ap (λ (l : Log). l.workers) c.stop.ensures ∙ c.self.invariant.1,
+      c.self.invariant.2,
     )
 
 pub invariant_of-self-in-Changed : goal.invariant_of-self-in-Changed
@@ -33,4 +35,5 @@ invariant_of-self-in-Changed g c =
           c.args.why (Changed _ _ _) c.stop.new.self s.totals.source.total s.totals.disk.total s.totals.memory.total c.add-in-Changed.new.self.total
           (search rules) (search rules) c.requires.why c.in-Changed.is c.stop.ensures refl refl refl (search rules),
       ap (λ (l : Log). l.workers) c.stop.ensures ∙ c.self.invariant.1,
+      c.self.invariant.2,
     )
