@@ -6,7 +6,7 @@ use Rattle.scan_source.specs.World.{World}
 use Rattle.conform_job.specs.Job.{JobData}
 use Rattle.reel_disk.specs.Disk.{view_of}
 use Rattle.project_job.specs.Laws.{OneJob}
-use Rattle.project_run.specs.Crew.{HasFailed, told_by}
+use Rattle.project_crew.specs.Crew.{HasFailed, told_by}
 use Rattle.command_words.specs.Commands.{Spells}
 use Rattle.command_words.specs.declared.command.Command.{Command}
 use Rattle.outcome_line.specs.declared.outcome.Outcome.{Outcome}
@@ -24,7 +24,7 @@ module _ (house : House) {S : Type 0} (world_of : S → Option World) (faults lo
     pub last : S
     pub tells : told_by world_of scans ≡ world_of first
     pub answered : Answered house words (scan_state world_of faults loads heads first) (scan_state world_of faults loads heads last) folders folders_after sink sink_after result
-    pub failed : HasRisen (faults first) (faults last) → HasFailed world_of faults loads same scans scans_after
+    pub failed : HasRisen (faults first) (faults last) → HasFailed faults scans scans_after
 
   pub first_answered : (scans scans_after : List S) → 1 ≤ length scans → length scans_after ≡ length scans
       → ((first last : S) → slice_get scans 0 ≡ Some first → slice_get scans_after 0 ≡ Some last → Answered house words (scan_state world_of faults loads heads first) (scan_state world_of faults loads heads last) folders folders_after sink sink_after result)
@@ -51,13 +51,13 @@ module _ (house : House) {S : Type 0} (world_of : S → Option World) (faults lo
         (subst (λ told. AdoptsJob words told folders.reel.tells world (view_of folders.old.history) job) one.tells adopts)
 
     pub alone_complete : OneJob → (command : Command) (world : World) → Spells words command → told_by world_of scans ≡ Some world → IsAccepted command world folders
-        → (HasFailed world_of faults loads same scans scans_after → ⊥) → HasNotRisen folders.reel.faults folders_after.reel.faults → HasNotRisen folders.old.faults folders_after.old.faults → HasNotRisen sink.faults sink_after.faults → IsComplete command result
+        → (HasFailed faults scans scans_after → ⊥) → HasNotRisen folders.reel.faults folders_after.reel.faults → HasNotRisen folders.old.faults folders_after.old.faults → HasNotRisen sink.faults sink_after.faults → IsComplete command result
     alone_complete laws command world spells is accepted scans_steady =
         answered_complete laws words (scan_state world_of faults loads heads one.first) (scan_state world_of faults loads heads one.last) folders folders_after sink sink_after result one.answered
         command world spells (sym one.tells ∙ is) accepted (λ risen. scans_steady (one.failed risen))
 
     pub alone_unfailed : (command : Command) → Spells words command
-        → (HasFailed world_of faults loads same scans scans_after → ⊥) → HasNotRisen folders.reel.faults folders_after.reel.faults → HasNotRisen folders.old.faults folders_after.old.faults → HasNotRisen sink.faults sink_after.faults → IsUnfailed command result
+        → (HasFailed faults scans scans_after → ⊥) → HasNotRisen folders.reel.faults folders_after.reel.faults → HasNotRisen folders.old.faults folders_after.old.faults → HasNotRisen sink.faults sink_after.faults → IsUnfailed command result
     alone_unfailed command spells scans_steady =
         answered_unfailed words (scan_state world_of faults loads heads one.first) (scan_state world_of faults loads heads one.last) folders folders_after sink sink_after result one.answered
         command spells (λ risen. scans_steady (one.failed risen))

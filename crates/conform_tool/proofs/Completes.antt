@@ -32,7 +32,7 @@ use Rattle.single_run.specs.declared.run_end.RunEnd.{RunEnd}
 use Rattle.single_run.specs.declared.run_end.RunEnd.TheVariants as ends
 use Rattle.project_job.specs.Jobs.{ComesTo, HasPlanned, IsOfJob}
 use Rattle.project_job.specs.Laws.{OneJob}
-use Rattle.project_run.specs.Crew.{HasFailed, IsCrewReply, told_by}
+use Rattle.project_crew.specs.Crew.{HasFailed, IsCrewReply, told_by}
 use Rattle.project_run.specs.Run.{DiskState, IsJobRun, IsOfRun, IsRunReply, outcome_of_end}
 use Rattle.project_adopt.specs.Adopt.{GoesOn, IsAdoption, IsAdoptReply, IsRest, IsUnadopted}
 use Rattle.project_adopt.specs.Adopt as adopted
@@ -408,7 +408,7 @@ module _ (laws : OneJob) {S : Type 0} (world_of : S → Option World) (faults lo
   crew_complete reached output (inr none) no_source no_disk = planned_complete laws (told_by world_of scans) world path reached is (place.job, place.comes) none.why none.kind no_source
 
   pub crew_answered_complete : (share : ℕ) (sink sink_after : SinkState) (result : Outcome) → CrewAnswered world_of faults loads same path workers scans scans_after disk disk_after sink sink_after result
-      → (HasFailed world_of faults loads same scans scans_after → ⊥) → HasNotRisen disk.faults disk_after.faults → HasNotRisen sink.faults sink_after.faults → IsComplete (commands.Run path workers share) result
+      → (HasFailed faults scans scans_after → ⊥) → HasNotRisen disk.faults disk_after.faults → HasNotRisen sink.faults sink_after.faults → IsComplete (commands.Run path workers share) result
   crew_answered_complete share sink sink_after result answered scans_steady disk_steady sink_steady =
       put_complete (commands.Run path workers share) sink sink_after answered.reached answered.output result answered.put sink_steady (elim answered.crewed [
         | inl crewed ↦ crew_complete answered.reached answered.output crewed.reply (λ source. scans_steady (crewed.source_fault source)) (λ failed. disk_steady (crewed.disk_fault failed))
@@ -455,7 +455,7 @@ answered_unfailed words scan scan_after folders folders_after sink sink_after re
 pub crew_unfailed : {S : Type 0} (world_of : S → Option World) (faults loads : S → ℕ) (same : S → S → Type 0) (path : List ℕ) (workers share : ℕ) (scans scans_after : List S) (disk disk_after : DiskState) (sink sink_after : SinkState) (result : Outcome)
     → CrewAnswered world_of faults loads same path workers scans scans_after disk disk_after sink sink_after result
     → (command : Command) → command ≡ commands.Run path workers share
-    → (HasFailed world_of faults loads same scans scans_after → ⊥) → HasNotRisen disk.faults disk_after.faults → HasNotRisen sink.faults sink_after.faults → IsUnfailed command result
+    → (HasFailed faults scans scans_after → ⊥) → HasNotRisen disk.faults disk_after.faults → HasNotRisen sink.faults sink_after.faults → IsUnfailed command result
 crew_unfailed world_of faults loads same path workers share scans scans_after disk disk_after sink sink_after result answered command is scans_steady disk_steady sink_steady =
     subst (λ k. IsUnfailed k result) (sym is)
     (put_unfailed (commands.Run path workers share) sink sink_after answered.reached answered.output result answered.put sink_steady (elim answered.crewed [

@@ -11,7 +11,7 @@ use Rattle.command_words.proofs.Commands.{one_spelled}
 use Rattle.outcome_line.specs.Output.{line_of, IsMade}
 use Rattle.outcome_line.specs.declared.outcome.Outcome.{Outcome}
 use Rattle.outcome_line.specs.declared.outcome.Outcome.TheVariants as outcomes
-use Rattle.project_run.specs.Crew.{HasFailed, IsCrewReply, told_by}
+use Rattle.project_crew.specs.Crew.{HasFailed, IsCrewReply, told_by}
 use Rattle.project_run.specs.Run.{DiskState, IsLeftAlone, IsOfRun}
 use Rattle.conform_tool.specs.Answer.{SinkState, IsFoundIn, IsPut, IsLinePut}
 use Rattle.conform_tool.proofs.Answering.{done_unrefused, put_refused}
@@ -74,7 +74,7 @@ module _ {S : Type 0} (world : S → Option World) (faults loads : S → ℕ) (s
       → MatchResult r (λ output. IsPut sink sink_after outcomes.Done output.items result) (λ outcome. IsLinePut sink sink_after outcome result)
       → MatchResult r (λ text. IsCrewReply world faults loads same path workers scans scans_after disk disk_after outcomes.Done text.items) (λ outcome. IsCrewReply world faults loads same path workers scans scans_after disk disk_after outcome (line_of outcome))
       → MatchResult r (λ text. Unit {0}) IsOfRun
-      → (r ≡ Err outcomes.SourceFault → HasFailed world faults loads same scans scans_after)
+      → (r ≡ Err outcomes.SourceFault → HasFailed faults scans scans_after)
       → (r ≡ Err outcomes.DiskFault → HasRisen disk.faults disk_after.faults)
       → disk.faults ≤ disk_after.faults
       → CrewAnswered world faults loads same path workers scans scans_after disk disk_after sink sink_after result

@@ -22,7 +22,7 @@ use Rattle.project_job.specs.Jobs.{ComesTo, IsOfJob}
 use Rattle.project_job.specs.Laws.{OneJob}
 use Rattle.project_adopt.specs.Adopt.{GoesOn, IsAdoptReply, IsOldSound, of_old_project}
 use Rattle.project_run.specs.Run.{DiskState, IsOfRun, IsRunReply, outcome_of_end}
-use Rattle.project_run.specs.Crew.{IsCrewReply, told_by}
+use Rattle.project_crew.specs.Crew.{IsCrewReply, told_by}
 use Rattle.command_words.specs.declared.command.Command.TheVariants as commands
 use Rattle.outcome_line.specs.Output.{status_of}
 use Rattle.outcome_line.specs.declared.outcome.Outcome.{Outcome}

@@ -6,8 +6,9 @@ use Rattle.command_words.specs.declared.command.Command.TheVariants as commands
 use Rattle.outcome_line.specs.Output.{line_of}
 use Rattle.outcome_line.specs.declared.outcome.Outcome.{Outcome}
 use Rattle.outcome_line.specs.declared.outcome.Outcome.TheVariants as outcomes
+use Rattle.project_run.specs.Run.{Reaches}
 use Rattle.conform_tool.specs.Commands.{meaning_of}
-use Rattle.conform_tool.specs.Reply.{IsKindOf, IsReply, IsWholeReply, Reaches}
+use Rattle.conform_tool.specs.Reply.{IsKindOf, IsReply, IsWholeReply}
 use Rattle.conform_tool.specs.States.{Folders, House, ScanState}
 
 module _ (house : House) (kind : Command) (scan scan_after : ScanState) (folders : Folders) (no_disk : IsKindOf kind outcomes.DiskFault → ⊥)

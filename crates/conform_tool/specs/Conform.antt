@@ -10,7 +10,7 @@ use Rattle.command_words.specs.declared.command.Command.TheVariants as commands
 use Rattle.outcome_line.specs.Output.{line_of}
 use Rattle.outcome_line.specs.declared.outcome.Outcome.{Outcome}
 use Rattle.outcome_line.specs.declared.outcome.Outcome.TheVariants.{Done, SourceFault, DiskFault, NoMemory}
-use Rattle.project_run.specs.Crew.{HasFailed, IsCrewReply}
+use Rattle.project_crew.specs.Crew.{HasFailed, IsCrewReply}
 use Rattle.project_run.specs.Run.{DiskState, IsOfRun}
 use Rattle.conform_tool.specs.Answer.{SinkState, IsPut}
 
@@ -26,7 +26,7 @@ module _ {S : Type 0} (world : S → Option World) (faults loads : S → ℕ) (s
     pub reply : IsCrewReply world faults loads same path workers scans scans_after disk disk_after reached output
     pub line : reached ≢ Done → output ≡ line_of reached
     pub kind : (reached ≡ Done) ⊎ IsOfRun reached
-    pub source_fault : reached ≡ SourceFault → HasFailed world faults loads same scans scans_after
+    pub source_fault : reached ≡ SourceFault → HasFailed faults scans scans_after
     pub disk_fault : reached ≡ DiskFault → HasRisen disk.faults disk_after.faults
     pub disk_later : disk.faults ≤ disk_after.faults
 

@@ -1,11 +1,9 @@
 -- What a command that was spelled comes to.
 --     CallsDisk, CallsOld command      it makes calls on the folder of the reel, on that of an old reel
 --     IsKindOf command outcome      the outcomes that it may come to
---     Reaches result IsReply      what a call came to is such a reply
 --     IsReply command before after reached output      the command came to this outcome with this output
 --     IsWholeReply house      the same, with what it did to the folders, in this house
-use Rattle.std.specs.Prelude.{◌≡◌, ◌≢◌, ◌≤◌, ℕ, List, Vec, Result, MatchResult}
-use Rattle.std.specs.Global.{Global}
+use Rattle.std.specs.Prelude.{◌≡◌, ◌≢◌, ◌≤◌, ℕ, List}
 use Rattle.cf_base.specs.Count.{HasRisen}
 use Rattle.outcome_line.specs.Output.{line_of}
 use Rattle.command_words.specs.declared.command.Command.{Command}
@@ -38,10 +36,6 @@ IsKindOf command (OldRefused refusal) = CallsOld command
 IsKindOf command (OldOtherJob kept wanted) = CallsOld command
 IsKindOf command (OldBadLedger len) = CallsOld command
 IsKindOf command other = CallsDisk command
-
--- what a call of a command came to: its output, or an outcome with its line
-abbrev pub Reaches : Result (Vec ℕ Global) Outcome → (Outcome → List ℕ → Type 0) → Type 0
-Reaches result IsReply = MatchResult result (λ output. IsReply Done output.items) (λ outcome. IsReply outcome (line_of outcome))
 
 pub record IsReply (command : Command) (before after : ScanState) (reached : Outcome) (output : List ℕ) : Type 0 where
   pub right : (meaning_of command).IsRight reached output before after

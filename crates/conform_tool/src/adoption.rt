@@ -1,10 +1,10 @@
 //! The command `adopt`.
 ghost use Rattle.std.specs.Prelude.{◌≡◌, ◌≢◌, ◌⊎◌, ◌≤◌, Err, IfErr};
 ghost use Rattle.cf_base.specs.Count.{HasRisen};
-ghost use Rattle.conform_tool.specs.Reply.{IsReply, Reaches};
+ghost use Rattle.conform_tool.specs.Reply.{IsReply};
 ghost use Rattle.conform_tool.specs.States.{scan_state};
 ghost use Rattle.project_adopt.specs.Adopt.{IsAdoptReply};
-ghost use Rattle.project_run.specs.Run.{IsLeftAlone, disk_state};
+ghost use Rattle.project_run.specs.Run.{IsLeftAlone, Reaches, disk_state};
 ghost use Rattle.command_words.specs.declared.command.Command.TheVariants as commands;
 
 use cf_base::PathText;
@@ -34,10 +34,11 @@ pub fn adopt<S: Scans, D: Disk>(
     ensures disk_steady { result ≢ Err Outcome.DiskFault → D.faults disk.new ≡ D.faults disk.old }
     ensures old_steady { result ≢ Err Outcome.DiskFault → D.faults old.new ≡ D.faults old.old }
     ensures disk_later { D.faults disk.old ≤ D.faults disk.new }
+    ensures disk_same { D.loans disk.new ≡ D.loans disk.old }
     ensures old_later { D.faults old.old ≤ D.faults old.new }
     ensures untouched { IfErr result (IsLeftAlone disk.old disk.new) }
     ensures old_untouched { IfErr result (IsLeftAlone old.old old.new) }
-    ensures old_same { D.same old.old old.new }
+    ensures old_same { D.loans old.new ≡ D.loans old.old }
     ensures same { S.same scan.old scan.new }
 {
     match project_adopt::adopt(alloc, path, old_path, scan, disk, old) {

@@ -1,8 +1,9 @@
 //! The command `list`.
 ghost use Rattle.std.specs.Prelude.{◌≡◌, ◌≤◌, IfOk, IsOkAnd, Err};
 ghost use Rattle.edl_events.specs.Lists.{list_of};
+ghost use Rattle.project_run.specs.Run.{Reaches};
 ghost use Rattle.conform_tool.specs.Faults.{IfFault};
-ghost use Rattle.conform_tool.specs.Reply.{IsReply, Reaches};
+ghost use Rattle.conform_tool.specs.Reply.{IsReply};
 ghost use Rattle.conform_tool.specs.States.{scan_state};
 ghost use Rattle.printed_tables.specs.Table.{event_table};
 ghost use Rattle.command_words.specs.declared.command.Command.TheVariants as commands;

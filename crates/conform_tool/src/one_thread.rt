@@ -6,10 +6,10 @@ ghost use Rattle.reel_disk.specs.Disk.{view_of};
 ghost use Rattle.conform_tool.specs.Answer.{Answered, IsFoundIn, IsLinePut, IsPut, IsUncalled, sink_state, texts_of};
 ghost use Rattle.conform_tool.specs.Complete.{IsAccepted, IsComplete, IsUnfailed, NoCallFailed};
 ghost use Rattle.conform_tool.specs.Headline.{AdoptsJob, RunsJob, KeepsItsPromise, HasEnded};
-ghost use Rattle.conform_tool.specs.Reply.{CallsDisk, CallsOld, IsWholeReply, Reaches};
+ghost use Rattle.conform_tool.specs.Reply.{CallsDisk, CallsOld, IsWholeReply};
 ghost use Rattle.conform_tool.specs.States.{folders_of, house_of, scan_state};
 ghost use Rattle.command_words.specs.Commands.{HasCounts, IsNoCommand, Spells};
-ghost use Rattle.project_run.specs.Run.{IsLeftAlone};
+ghost use Rattle.project_run.specs.Run.{IsLeftAlone, Reaches};
 
 use crate::adoption::adopt;
 use crate::contact::sheet;
@@ -60,7 +60,8 @@ pub fn answer<S: Scans, D: Disk, K: Sink>(
     ensures no_call { IsUncalled CallsDisk (texts_of words.now) → disk.new ≡ disk.old }
     ensures no_old_call { IsUncalled CallsOld (texts_of words.now) → old.new ≡ old.old }
     ensures unread { IsNoCommand (texts_of words.now) → scan.new ≡ scan.old }
-    ensures old_same { D.same old.old old.new }
+    ensures disk_same { D.loans disk.new ≡ D.loans disk.old }
+    ensures old_same { D.loans old.new ≡ D.loans old.old }
 
     // The headline.
     ensures headline { (world : World) (job : JobData) → RunsJob (texts_of words.now) (S.world scan.old) D.tells world job
@@ -113,7 +114,8 @@ pub(crate) fn answer_found<S: Scans, D: Disk, K: Sink, C: Counter>(
     ensures no_call { (words : List (List ℕ)) → IsFoundIn words found → IsUncalled CallsDisk words → disk.new ≡ disk.old }
     ensures no_old_call { (words : List (List ℕ)) → IsFoundIn words found → IsUncalled CallsOld words → old.new ≡ old.old }
     ensures unread { (words : List (List ℕ)) → IsFoundIn words found → IsNoCommand words → scan.new ≡ scan.old }
-    ensures old_same { D.same old.old old.new }
+    ensures disk_same { D.loans disk.new ≡ D.loans disk.old }
+    ensures old_same { D.loans old.new ≡ D.loans old.old }
 {
     let Some(command) = found else {
         return put_line(alloc, &Outcome::Usage, out);
@@ -145,7 +147,8 @@ fn carried_out<S: Scans, D: Disk, C: Counter>(
     ensures old_untouched { IfErr result (IsLeftAlone old.old old.new) }
     ensures no_call { (CallsDisk command.now → ⊥) → disk.new ≡ disk.old }
     ensures no_old_call { (CallsOld command.now → ⊥) → old.new ≡ old.old }
-    ensures old_same { D.same old.old old.new }
+    ensures disk_same { D.loans disk.new ≡ D.loans disk.old }
+    ensures old_same { D.loans old.new ≡ D.loans old.old }
 {
     match command {
         Command::Frame(path) => frame(alloc, path, scan),

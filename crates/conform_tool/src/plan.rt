@@ -1,5 +1,6 @@
 //! The command `plan`.
-ghost use Rattle.conform_tool.specs.Reply.{IsReply, Reaches};
+ghost use Rattle.project_run.specs.Run.{Reaches};
+ghost use Rattle.conform_tool.specs.Reply.{IsReply};
 ghost use Rattle.conform_tool.specs.States.{scan_state};
 ghost use Rattle.command_words.specs.declared.command.Command.TheVariants as commands;
 

@@ -1,7 +1,8 @@
 //! The command `pull`.
 ghost use Rattle.std.specs.Prelude.{◌≤◌, IfOk};
+ghost use Rattle.project_run.specs.Run.{Reaches};
 ghost use Rattle.conform_tool.specs.Commands.Pull.{IsPullForm};
-ghost use Rattle.conform_tool.specs.Reply.{IsReply, Reaches};
+ghost use Rattle.conform_tool.specs.Reply.{IsReply};
 ghost use Rattle.conform_tool.specs.States.{scan_state};
 ghost use Rattle.command_words.specs.declared.command.Command.TheVariants as commands;
 ghost use Rattle.project_job.specs.Jobs.{AreCounted};

@@ -2,9 +2,9 @@
 ghost use Rattle.std.specs.Prelude.{◌≡◌, ◌≢◌, ◌≤◌, Err, IfErr};
 ghost use Rattle.cf_base.specs.Count.{HasRisen};
 ghost use Rattle.command_words.specs.Lines.{HasCount};
-ghost use Rattle.conform_tool.specs.Reply.{IsReply, Reaches};
+ghost use Rattle.conform_tool.specs.Reply.{IsReply};
 ghost use Rattle.conform_tool.specs.States.{scan_state};
-ghost use Rattle.project_run.specs.Run.{IsLeftAlone, IsRunReply, disk_state};
+ghost use Rattle.project_run.specs.Run.{IsLeftAlone, IsRunReply, Reaches, disk_state};
 ghost use Rattle.command_words.specs.declared.command.Command.TheVariants as commands;
 
 use cf_base::PathText;
@@ -32,6 +32,7 @@ pub fn run<S: Scans, D: Disk>(
     ensures disk_fault { result ≡ Err Outcome.DiskFault → HasRisen (D.faults disk.old) (D.faults disk.new) }
     ensures disk_steady { result ≢ Err Outcome.DiskFault → D.faults disk.new ≡ D.faults disk.old }
     ensures disk_later { D.faults disk.old ≤ D.faults disk.new }
+    ensures disk_same { D.loans disk.new ≡ D.loans disk.old }
     ensures untouched { IfErr result (IsLeftAlone disk.old disk.new) }
     ensures same { S.same scan.old scan.new }
 {

@@ -11,7 +11,7 @@ ghost use Rattle.conform_tool.specs.Headline.{AdoptsJob, RunsJob, KeepsItsPromis
 ghost use Rattle.conform_tool.specs.Reply.{CallsDisk, CallsOld};
 ghost use Rattle.conform_tool.specs.States.{folders_of, house_of, scan_state};
 ghost use Rattle.conform_job.specs.Job.{JobData};
-ghost use Rattle.project_run.specs.Crew.{HasFailed, told_by};
+ghost use Rattle.project_crew.specs.Crew.{HasFailed, told_by};
 ghost use Rattle.project_run.specs.Run.{IsLeftAlone, disk_state};
 ghost use Rattle.scan_source.specs.World.{World};
 
@@ -19,8 +19,8 @@ use crate::one_thread::{answer_found, put_line, put_result};
 use cf_base::{PathText, Sink};
 use command_words::{Command, command_of};
 use outcome_line::Outcome;
+use project_crew::{CrewEnded, run_crewed};
 use project_job::job_laws;
-use project_run::{CrewEnded, run_crewed};
 use reel_disk::Disk;
 use reel_qc::{Counter, Forked, Probe, Tone};
 use scan_source::Scans;
@@ -86,7 +86,8 @@ pub fn conform<S: Scans + Send, D: Disk + Send, K: Sink, R: Threads + Wait + Syn
     ensures old_untouched { IsLeftAlone old.old old.new result.outcome }
     ensures no_call { IsUncalled CallsDisk (texts_of words.now) → result.disk ≡ disk }
     ensures no_old_call { IsUncalled CallsOld (texts_of words.now) → old.new ≡ old.old }
-    ensures old_same { D.same old.old old.new }
+    ensures disk_same { D.loans result.disk ≡ D.loans disk }
+    ensures old_same { D.loans old.new ≡ D.loans old.old }
 
     // The headline, for any number of workers.
     ensures headline { (world : World) (job : JobData) → RunsJob (texts_of words.now) (told_by S.world scans.items) D.tells world job
@@ -101,11 +102,11 @@ pub fn conform<S: Scans + Send, D: Disk + Send, K: Sink, R: Threads + Wait + Syn
     ensures complete { (command : Command) (world : World) → Spells (texts_of words.now) command
         → told_by S.world scans.items ≡ Some world
         → IsAccepted command world (folders_of D.tells D.history D.faults disk old.old)
-        → (HasFailed S.world S.faults S.loads S.same scans.items result.scans.items → ⊥)
+        → (HasFailed S.faults scans.items result.scans.items → ⊥)
         → NoCallFailed D.faults disk result.disk → NoCallFailed D.faults old.old old.new → NoCallFailed K.faults out.old out.new
         → IsComplete command result.outcome }
     ensures unfailed { (command : Command) → Spells (texts_of words.now) command
-        → (HasFailed S.world S.faults S.loads S.same scans.items result.scans.items → ⊥)
+        → (HasFailed S.faults scans.items result.scans.items → ⊥)
         → NoCallFailed D.faults disk result.disk → NoCallFailed D.faults old.old old.new → NoCallFailed K.faults out.old out.new
         → IsUnfailed command result.outcome }
 {
@@ -190,6 +191,7 @@ fn by_crew<S: Scans + Send, D: Disk + Send, K: Sink, R: Threads + Wait + Sync>(
     ensures handed_back { vec_len result.scans ≡ vec_len scans }
     ensures later { K.faults out.old ≤ K.faults out.new }
     ensures untouched { IsLeftAlone disk result.disk result.outcome }
+    ensures disk_same { D.loans result.disk ≡ D.loans disk }
 {
     let CrewEnded {
         result,
@@ -241,7 +243,8 @@ fn by_one<S: Scans, D: Disk, K: Sink, C: Counter>(
     ensures old_untouched { IsLeftAlone old.old old.new result.outcome }
     ensures no_call { (words : List (List ℕ)) → IsFoundIn words found → IsUncalled CallsDisk words → result.disk ≡ disk }
     ensures no_old_call { (words : List (List ℕ)) → IsFoundIn words found → IsUncalled CallsOld words → old.new ≡ old.old }
-    ensures old_same { D.same old.old old.new }
+    ensures disk_same { D.loans result.disk ≡ D.loans disk }
+    ensures old_same { D.loans old.new ≡ D.loans old.old }
 {
     let outcome = answer_found(
         alloc,

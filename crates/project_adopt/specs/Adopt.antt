@@ -3,12 +3,14 @@
 --     IsAdoptReply      the project came to a job, or to none
 --     GoesOn      then so did the old one, or to none
 --     HasAdopted      both came to a job: frames were taken over, the rest was run, and the crash promise of both together
---     IsOldSound      what that promise has as a premise where it speaks of the source files
-use Rattle.std.specs.Prelude.{◌≡◌, ◌⊎◌, ℕ, ◌+◌, true, List, [], ◌∷◌, ◌++◌, codes, decimal, Option, None, IfSome, Result, Ok, MatchResult}
+--     OnDisks, Ends, OneHasRisen      what a call made of both folders, what it came to, and a fault of one of them
+--     IsOldSound, IsOldSoundIn      what that promise has as a premise where it speaks of the source files
+use Rattle.std.specs.Prelude.{◌≡◌, ◌⊎◌, ℕ, ◌+◌, Bool, true, List, [], ◌∷◌, ◌++◌, codes, decimal, Option, None, IfSome, Result, Ok, MatchResult}
+use Rattle.cf_base.specs.Count.{HasRisen}
 use Rattle.scan_source.specs.World.{World, file_at}
 use Rattle.conform_job.specs.Answers.{count_after}
 use Rattle.conform_job.specs.Job.{JobData}
-use Rattle.reel_disk.specs.Disk.{Files, moment_of, view_of, IsStill}
+use Rattle.reel_disk.specs.Disk.{Files, History, moment_of, view_of, IsStill}
 use Rattle.reel_disk.specs.Runs.{Spares}
 use Rattle.resume_ledger.specs.Ledger.{IsInForce}
 use Rattle.resume_ledger.specs.Sound.{IsSound, WritesOnly}
@@ -26,7 +28,7 @@ use Rattle.printed_text.specs.Text.{spaced_line}
 use Rattle.outcome_line.specs.declared.outcome.Outcome.{Outcome}
 use Rattle.outcome_line.specs.declared.outcome.Outcome.TheVariants as outcome
 use Rattle.project_job.specs.Jobs.{ComesTo, cube_count}
-use Rattle.project_run.specs.Run.{DiskState, IsJobRun, IsOfRun, IsUnplanned, outcome_of_end}
+use Rattle.project_run.specs.Run.{DiskState, IsJobRun, IsOfRun, IsUnplanned, OnDisk, outcome_of_end}
 
 -- the frames of the reel, those that were acknowledged at the opening, those that were taken over, and the rendered ones
 abbrev pub adopt_text : Adopted → Report → List ℕ
@@ -54,6 +56,10 @@ outcome_of_fault fault.NoMemory = outcome.NoMemory
 abbrev pub IsOldSound : JobData → World → Files → Type 0
 IsOldSound old world files = IsSound old.parts.digest (frames_of old) (reel_of old (file_at world)) files
 
+-- the same over the source files that are told
+abbrev pub IsOldSoundIn : Option World → JobData → Files → Type 0
+IsOldSoundIn told old files = IfSome told (λ world. IsOldSound old world files)
+
 -- What a run that ended so comes to behind an adoption: the outcome of its end, or want of memory for the report.
 pub record IsReplyTo (job : JobData) (done : Adopted) (how : RunEnd) (report : Report) (reached : Outcome) (output : List ℕ) : Type 0 where
   pub reached_is : (reached ≡ outcome_of_end job.parts.reels how) ⊎ (reached ≡ outcome.NoMemory)
@@ -75,6 +81,20 @@ pub record IsUnadopted (why : AdoptFault) (disk disk_after : DiskState) (loads l
   pub reached_is : reached ≡ outcome_of_fault why
   pub unchanged : disk_after ≡ disk
   pub unloaded : loads_after ≡ loads
+
+-- what a call made of the old folder and of the new one, as `OnDisk` says it of one
+abbrev pub OnDisks : {D : Type 0} {A : Type 1} → Bool → (D → History) → (D → ℕ) → (old old_after disk disk_after : D)
+    → (DiskState → DiskState → DiskState → DiskState → A) → A
+OnDisks tells history faults old old_after disk disk_after Made =
+    OnDisk tells history faults disk disk_after (OnDisk tells history faults old old_after Made)
+
+-- this is so of the outcome that a call came to, also of Done
+abbrev pub Ends : {A : Type 0} → Result A Outcome → (Outcome → Type 0) → Type 0
+Ends result Was = MatchResult result (λ text. Was outcome.Done) Was
+
+-- the count of faults of one of two disks rose
+abbrev pub OneHasRisen : {D : Type 0} → (D → ℕ) → (old old_after disk disk_after : D) → Type 0
+OneHasRisen faults old old_after disk disk_after = HasRisen (faults old) (faults old_after) ⊎ HasRisen (faults disk) (faults disk_after)
 
 -- The crash promise. At every moment each frame that a crash leaves acknowledged is the definition's, and no acknowledgement
 -- is lost; at Done the folder has the whole reel.
@@ -119,7 +139,7 @@ pub record HasAdopted (job : JobData) (told : Option World) (old_path : List ℕ
   pub went : IsAdoption job old_job told old old_after disk disk_after planned loads_after reached output
   -- the crash promise; where the old folder may hold anything, nothing is said of the source files
   pub promise : disk.tells ≡ true → IsPromised job None disk disk_after reached
-  pub sound : disk.tells ≡ true → IfSome told (λ world. IsOldSound old_job world (view_of old.history)) → IsPromised job told disk disk_after reached
+  pub sound : disk.tells ≡ true → IsOldSoundIn told old_job (view_of old.history) → IsPromised job told disk disk_after reached
 
 -- The old project came to no job, and both folders are as they were.
 pub record HasNoOldJob (told : Option World) (old_path : List ℕ) (old old_after disk disk_after : DiskState) (loads loads_after : ℕ) (reached : Outcome) : Type 0 where

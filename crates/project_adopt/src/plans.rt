@@ -1,11 +1,10 @@
 //! From the paths of two projects to their jobs.
-ghost use Rattle.std.specs.Prelude.{◌≡◌, ◌≢◌, ◌≤◌, ◌⊎◌, Err, IfErr, MatchResult};
+ghost use Rattle.std.specs.Prelude.{◌≡◌, ◌≢◌, ◌≤◌, Err, IfErr, MatchResult};
 ghost use Rattle.cf_base.specs.Count.{HasRisen};
 ghost use Rattle.conform_job.specs.Answers.{AreInfosOf};
-ghost use Rattle.outcome_line.specs.Output.{line_of};
 ghost use Rattle.project_job.specs.Asked.{HasInspectedFor};
-ghost use Rattle.project_run.specs.Run.{IsLeftAlone, disk_state};
-ghost use Rattle.project_adopt.specs.Adopt.{GoesOn, IsAdoptReply, IsJobOver, IsOfAdopt};
+ghost use Rattle.project_run.specs.Run.{IsLeftAlone, Reaches};
+ghost use Rattle.project_adopt.specs.Adopt.{GoesOn, IsAdoptReply, IsJobOver, IsOfAdopt, OnDisks, OneHasRisen};
 
 use crate::reels::adopt_jobs;
 use crate::report::of_old_project;
@@ -34,9 +33,9 @@ pub fn adopt<S: Scans, D: Disk>(
     disk: &mut D,
     old: &mut D,
 ) -> Result<Vec<u8>, Outcome>
-    ensures folders { MatchResult result
-        (λ text. IsAdoptReply (S.world scan.old) path.now old_path.now (disk_state D.tells D.history D.faults old.old) (disk_state D.tells D.history D.faults old.new) (disk_state D.tells D.history D.faults disk.old) (disk_state D.tells D.history D.faults disk.new) (S.loads scan.old) (S.loads scan.new) Outcome.Done text.items)
-        (λ outcome. IsAdoptReply (S.world scan.old) path.now old_path.now (disk_state D.tells D.history D.faults old.old) (disk_state D.tells D.history D.faults old.new) (disk_state D.tells D.history D.faults disk.old) (disk_state D.tells D.history D.faults disk.new) (S.loads scan.old) (S.loads scan.new) outcome (line_of outcome)) }
+    ensures folders { Reaches result (OnDisks D.tells D.history D.faults old.old old.new disk.old disk.new
+        (λ old_was old_is was is.
+        IsAdoptReply (S.world scan.old) path.now old_path.now old_was old_is was is (S.loads scan.old) (S.loads scan.new))) }
     ensures kind { MatchResult result (λ text. Unit {0}) IsOfAdopt }
 
     ensures failed { result ≡ Err Outcome.SourceFault → HasRisen (S.faults scan.old) (S.faults scan.new) }
@@ -46,12 +45,13 @@ pub fn adopt<S: Scans, D: Disk>(
     ensures refused_heads { IfErr result (HasInspectedFor (S.world scan.old) path.now (S.heads scan.old) (S.heads scan.new)) }
     ensures same { S.same scan.old scan.new }
 
-    ensures disk_fault { result ≡ Err Outcome.DiskFault → HasRisen (D.faults old.old) (D.faults old.new) ⊎ HasRisen (D.faults disk.old) (D.faults disk.new) }
+    ensures disk_fault { result ≡ Err Outcome.DiskFault → OneHasRisen D.faults old.old old.new disk.old disk.new }
     ensures disk_steady { result ≢ Err Outcome.DiskFault → D.faults disk.new ≡ D.faults disk.old }
     ensures disk_later { D.faults disk.old ≤ D.faults disk.new }
+    ensures disk_same { D.loans disk.new ≡ D.loans disk.old }
     ensures old_steady { result ≢ Err Outcome.DiskFault → D.faults old.new ≡ D.faults old.old }
     ensures old_later { D.faults old.old ≤ D.faults old.new }
-    ensures old_same { D.same old.old old.new }
+    ensures old_same { D.loans old.new ≡ D.loans old.old }
     ensures untouched { IfErr result (IsLeftAlone disk.old disk.new) }
     ensures old_untouched { IfErr result (IsLeftAlone old.old old.new) }
 {
@@ -76,9 +76,9 @@ fn adopt_onto<S: Scans, D: Disk>(
 ) -> Result<Vec<u8>, Outcome>
     requires infos { AreInfosOf job.now.parts (S.world scan.old) job.now.infos }
     requires over { IsJobOver (S.world scan.old) job.now }
-    ensures folders { MatchResult result
-        (λ text. GoesOn job.now (S.world scan.old) old_path.now (disk_state D.tells D.history D.faults old.old) (disk_state D.tells D.history D.faults old.new) (disk_state D.tells D.history D.faults disk.old) (disk_state D.tells D.history D.faults disk.new) (S.loads scan.old) (S.loads scan.new) Outcome.Done text.items)
-        (λ outcome. GoesOn job.now (S.world scan.old) old_path.now (disk_state D.tells D.history D.faults old.old) (disk_state D.tells D.history D.faults old.new) (disk_state D.tells D.history D.faults disk.old) (disk_state D.tells D.history D.faults disk.new) (S.loads scan.old) (S.loads scan.new) outcome (line_of outcome)) }
+    ensures folders { Reaches result (OnDisks D.tells D.history D.faults old.old old.new disk.old disk.new
+        (λ old_was old_is was is.
+        GoesOn job.now (S.world scan.old) old_path.now old_was old_is was is (S.loads scan.old) (S.loads scan.new))) }
     ensures kind { MatchResult result (λ text. Unit {0}) IsOfAdopt }
 
     ensures failed { result ≡ Err Outcome.SourceFault → HasRisen (S.faults scan.old) (S.faults scan.new) }
@@ -87,12 +87,13 @@ fn adopt_onto<S: Scans, D: Disk>(
     ensures world { S.world scan.new ≡ S.world scan.old }
     ensures same { S.same scan.old scan.new }
 
-    ensures disk_fault { result ≡ Err Outcome.DiskFault → HasRisen (D.faults old.old) (D.faults old.new) ⊎ HasRisen (D.faults disk.old) (D.faults disk.new) }
+    ensures disk_fault { result ≡ Err Outcome.DiskFault → OneHasRisen D.faults old.old old.new disk.old disk.new }
     ensures disk_steady { result ≢ Err Outcome.DiskFault → D.faults disk.new ≡ D.faults disk.old }
     ensures disk_later { D.faults disk.old ≤ D.faults disk.new }
+    ensures disk_same { D.loans disk.new ≡ D.loans disk.old }
     ensures old_steady { result ≢ Err Outcome.DiskFault → D.faults old.new ≡ D.faults old.old }
     ensures old_later { D.faults old.old ≤ D.faults old.new }
-    ensures old_same { D.same old.old old.new }
+    ensures old_same { D.loans old.new ≡ D.loans old.old }
     ensures untouched { IfErr result (IsLeftAlone disk.old disk.new) }
     ensures old_untouched { IfErr result (IsLeftAlone old.old old.new) }
 {

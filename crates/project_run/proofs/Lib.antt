@@ -1,4 +1,3 @@
-pub mod Crews
 pub mod Leaving
 pub mod Looking
 pub mod Runs

@@ -1,11 +1,7 @@
 -- From a run of a job to its reply.
-use Rattle.std.proofs.Common.{◌≡◌, ℕ, ◌+◌, ◌<◌, List, length, Option, Some, None, Ok, Err, IfSome, MatchResult, Result, refl, subst, inl, inr}
+use Rattle.std.proofs.Common.{◌≡◌, ℕ, ◌+◌, List, Option, Some, None, Ok, Err, IfSome, MatchResult, Result, refl, subst, inl, inr}
 use Rattle.std.specs.Prelude.{Bool, ◌⊎◌}
-use Rattle.std.proofs.lemmas.Option.{slice_get_cases}
-use Rattle.cf_base.specs.declared.key.Key.{Key}
-use Rattle.cf_base.specs.declared.reel.ReelEntry.{ReelEntry}
 use Rattle.scan_source.specs.World.{World, file_at}
-use Rattle.source_reels.specs.Reels.{path_of_key}
 use Rattle.frame_share.specs.declared.step.ShareStep.{ShareStep}
 use Rattle.conform_job.specs.Answers.{count_after}
 use Rattle.conform_job.specs.Job.{JobData}
@@ -27,13 +23,6 @@ use Rattle.outcome_line.specs.declared.outcome.Outcome.TheVariants as outcomes
 pub match_each : {A B : Type 0} (r : Result A B) (P P' : A → Type 0) (Q Q' : B → Type 0) → MatchResult r P Q → ((a : A) → P a → P' a) → ((b : B) → Q b → Q' b) → MatchResult r P' Q'
 match_each (Ok a) P P' Q Q' is first second = first a is
 match_each (Err b) P P' Q Q' is first second = second b is
-
--- a key that has a path is of a reel in the table
-pub in_table : (entries : List ReelEntry) (key : Key) (path : List ℕ) → Some path ≡ path_of_key entries key → key.reel < length entries
-in_table entries key path has = elim (slice_get_cases entries key.reel).1 [
-  | inl at ↦ at.1
-  | inr past ↦ absurd (let none : ◌≡◌ {A = Option (List ℕ)} (Some path) None = rw past.1 at has in cc)
-]
 
 -- the scan tells what it tells
 pub tells_itself : (told : Option World) → Tells told told

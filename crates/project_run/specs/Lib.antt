@@ -1,4 +1,3 @@
-pub mod Crew
 pub mod Look
 pub mod Quality
 pub mod Run

@@ -1,9 +1,12 @@
 -- The command `run`: the reel of a project's job, rendered into the reel folder. All of it is this project's own rule.
 --     DiskState, disk_state      what a disk tells at a moment, and its count of faults
+--     OnDisk      what a call made of a disk
+--     Reaches result IsReply      what a call came to is such a reply
 --     HasRun      the project came to a job, and the job was run in the folder
 --     IsUnplanned      it came to none, and the folder is as it was
-use Rattle.std.specs.Prelude.{◌≡◌, ◌⊎◌, ℕ, ◌+◌, ◌≤◌, Bool, true, List, [], ◌∷◌, ◌++◌, codes, decimal, slice_get, unwrap_or, Option, Some, IfSome, Ok, Err}
+use Rattle.std.specs.Prelude.{◌≡◌, ◌⊎◌, ℕ, ◌+◌, ◌≤◌, Bool, true, List, [], ◌∷◌, ◌++◌, codes, decimal, slice_get, unwrap_or, Option, Some, IfSome, Result, Ok, Err, MatchResult, Vec}
 use Rattle.std.specs.Option.{option_map}
+use Rattle.std.specs.declared.alloc.Global.{Global}
 use Rattle.cf_base.specs.Count.{HasRisen}
 use Rattle.cf_base.specs.declared.reel.ReelEntry.{ReelEntry}
 use Rattle.scan_source.specs.World.{World, file_at}
@@ -24,6 +27,7 @@ use Rattle.single_run.specs.declared.run_end.RunEnd.TheVariants as ends
 use Rattle.project_job.specs.Asked.{HasLoadedFor}
 use Rattle.project_job.specs.Jobs.{ComesTo, HasPlanned, IsOfJob, AreLoaded, cube_count}
 use Rattle.printed_text.specs.Text.{spaced_line}
+use Rattle.outcome_line.specs.Output.{line_of}
 use Rattle.outcome_line.specs.declared.outcome.Outcome.{Outcome}
 use Rattle.outcome_line.specs.declared.outcome.Outcome.TheVariants as outcome
 
@@ -39,6 +43,14 @@ pub record DiskState : Type 0 where
 -- of a disk, by its meanings
 abbrev pub disk_state : {D : Type 0} → Bool → (D → History) → (D → ℕ) → D → DiskState
 disk_state tells history faults disk = record { tells = tells; history = history disk; faults = faults disk }
+
+-- what a call made of a disk, by its meanings: this is so of the disk before the call and of the disk after it
+abbrev pub OnDisk : {D : Type 0} {A : Type 1} → Bool → (D → History) → (D → ℕ) → (before after : D) → (DiskState → DiskState → A) → A
+OnDisk tells history faults before after Made = Made (disk_state tells history faults before) (disk_state tells history faults after)
+
+-- what a call of a command came to: its output, or an outcome with its line
+abbrev pub Reaches : Result (Vec ℕ Global) Outcome → (Outcome → List ℕ → Type 0) → Type 0
+Reaches result IsReply = MatchResult result (λ output. IsReply outcome.Done output.items) (λ reached. IsReply reached (line_of reached))
 
 -- the frames of the reel, those that were acknowledged at the opening, and the rendered ones
 abbrev pub run_text : Report → List ℕ

@@ -2,9 +2,8 @@
 ghost use Rattle.std.specs.Prelude.{◌≡◌, ◌≢◌, ◌≤◌, Err, IfErr, MatchResult};
 ghost use Rattle.cf_base.specs.Count.{HasRisen};
 ghost use Rattle.conform_job.specs.Answers.{AreInfosOf};
-ghost use Rattle.outcome_line.specs.Output.{line_of};
 ghost use Rattle.project_job.specs.Asked.{HasInspectedFor};
-ghost use Rattle.project_run.specs.Run.{IsJobRun, IsLeftAlone, IsOfRun, IsRunReply, IsShareCount, disk_state};
+ghost use Rattle.project_run.specs.Run.{IsJobRun, IsLeftAlone, IsOfRun, IsRunReply, IsShareCount, OnDisk, Reaches};
 
 use crate::report::reply_of;
 use cf_base::PathText;
@@ -13,7 +12,7 @@ use outcome_line::Outcome;
 use project_job::planned;
 use reel_disk::Disk;
 use scan_source::Scans;
-use station::run_alone;
+use single_run::run_alone;
 use std::alloc::Global;
 use std::marker::Brand;
 
@@ -30,9 +29,8 @@ pub fn run<S: Scans, D: Disk>(
     disk: &mut D,
 ) -> Result<Vec<u8>, Outcome>
     requires { IsShareCount share }
-    ensures folder { MatchResult result
-        (λ text. IsRunReply (S.world scan.old) path.now share (disk_state D.tells D.history D.faults disk.old) (disk_state D.tells D.history D.faults disk.new) (S.loads scan.old) (S.loads scan.new) Outcome.Done text.items)
-        (λ outcome. IsRunReply (S.world scan.old) path.now share (disk_state D.tells D.history D.faults disk.old) (disk_state D.tells D.history D.faults disk.new) (S.loads scan.old) (S.loads scan.new) outcome (line_of outcome)) }
+    ensures folder { Reaches result (OnDisk D.tells D.history D.faults disk.old disk.new
+        (λ was is. IsRunReply (S.world scan.old) path.now share was is (S.loads scan.old) (S.loads scan.new))) }
     ensures kind { MatchResult result (λ text. Unit {0}) IsOfRun }
 
     ensures failed { result ≡ Err Outcome.SourceFault → HasRisen (S.faults scan.old) (S.faults scan.new) }
@@ -45,6 +43,7 @@ pub fn run<S: Scans, D: Disk>(
     ensures disk_fault { result ≡ Err Outcome.DiskFault → HasRisen (D.faults disk.old) (D.faults disk.new) }
     ensures disk_steady { result ≢ Err Outcome.DiskFault → D.faults disk.new ≡ D.faults disk.old }
     ensures disk_later { D.faults disk.old ≤ D.faults disk.new }
+    ensures disk_same { D.loans disk.new ≡ D.loans disk.old }
     ensures untouched { IfErr result (IsLeftAlone disk.old disk.new) }
 {
     let job = match planned(alloc, path, scan) {
@@ -67,9 +66,8 @@ fn run_job<S: Scans, D: Disk>(
 ) -> Result<Vec<u8>, Outcome>
     requires share { IsShareCount share }
     requires infos { AreInfosOf job.now.parts (S.world scan.old) job.now.infos }
-    ensures ran { MatchResult result
-        (λ text. IsJobRun job.now (S.world scan.old) share (disk_state D.tells D.history D.faults disk.old) (disk_state D.tells D.history D.faults disk.new) (S.loads scan.old) (S.loads scan.new) Outcome.Done text.items)
-        (λ outcome. IsJobRun job.now (S.world scan.old) share (disk_state D.tells D.history D.faults disk.old) (disk_state D.tells D.history D.faults disk.new) (S.loads scan.old) (S.loads scan.new) outcome (line_of outcome)) }
+    ensures ran { Reaches result (OnDisk D.tells D.history D.faults disk.old disk.new
+        (λ was is. IsJobRun job.now (S.world scan.old) share was is (S.loads scan.old) (S.loads scan.new))) }
     ensures kind { MatchResult result (λ text. Unit {0}) IsOfRun }
 
     ensures failed { result ≡ Err Outcome.SourceFault → HasRisen (S.faults scan.old) (S.faults scan.new) }
@@ -81,6 +79,7 @@ fn run_job<S: Scans, D: Disk>(
     ensures disk_fault { result ≡ Err Outcome.DiskFault → HasRisen (D.faults disk.old) (D.faults disk.new) }
     ensures disk_steady { result ≢ Err Outcome.DiskFault → D.faults disk.new ≡ D.faults disk.old }
     ensures disk_later { D.faults disk.old ≤ D.faults disk.new }
+    ensures disk_same { D.loans disk.new ≡ D.loans disk.old }
 {
     let (end, report, _) = run_alone::<Brand, S, D>(alloc, job, scan, disk, u32::from(share));
     reply_of(alloc, job, end, &report)

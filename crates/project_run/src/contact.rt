@@ -4,10 +4,9 @@ ghost use Rattle.cf_base.specs.Count.{HasRisen};
 ghost use Rattle.cf_base.specs.declared.file.FileId.TheVariants as file;
 ghost use Rattle.reel_disk.specs.Runs.{Extends, Spares};
 ghost use Rattle.reel_writer.specs.Reel.{frames_of};
-ghost use Rattle.outcome_line.specs.Output.{line_of};
 ghost use Rattle.project_job.specs.Asked.{HasInspectedFor};
 ghost use Rattle.project_run.specs.Look.{IsOfLook};
-ghost use Rattle.project_run.specs.Run.{IsLeftAlone, disk_state};
+ghost use Rattle.project_run.specs.Run.{IsLeftAlone, OnDisk, Reaches};
 ghost use Rattle.project_run.specs.Sheet.{HasSheet, IsSheetReply, IsSheeted, sheet_text};
 
 use crate::progress::outcome_of_fault;
@@ -35,9 +34,8 @@ pub fn sheet<S: Scans, D: Disk>(
     disk: &mut D,
     tone: &Tone,
 ) -> Result<Vec<u8>, Outcome>
-    ensures folder { MatchResult result
-        (λ text. IsSheetReply tone.now.table (S.world scan.old) path.now (disk_state D.tells D.history D.faults disk.old) (disk_state D.tells D.history D.faults disk.new) (S.loads scan.old) (S.loads scan.new) Outcome.Done text.items)
-        (λ outcome. IsSheetReply tone.now.table (S.world scan.old) path.now (disk_state D.tells D.history D.faults disk.old) (disk_state D.tells D.history D.faults disk.new) (S.loads scan.old) (S.loads scan.new) outcome (line_of outcome)) }
+    ensures folder { Reaches result (OnDisk D.tells D.history D.faults disk.old disk.new
+        (λ was is. IsSheetReply tone.now.table (S.world scan.old) path.now was is (S.loads scan.old) (S.loads scan.new))) }
     ensures kind { MatchResult result (λ text. Unit {0}) IsOfLook }
 
     ensures failed { result ≡ Err Outcome.SourceFault → HasRisen (S.faults scan.old) (S.faults scan.new) }
@@ -50,6 +48,7 @@ pub fn sheet<S: Scans, D: Disk>(
     ensures disk_fault { result ≡ Err Outcome.DiskFault → HasRisen (D.faults disk.old) (D.faults disk.new) }
     ensures disk_steady { result ≢ Err Outcome.DiskFault → D.faults disk.new ≡ D.faults disk.old }
     ensures disk_later { D.faults disk.old ≤ D.faults disk.new }
+    ensures disk_same { D.loans disk.new ≡ D.loans disk.old }
     ensures untouched { IfErr result (IsLeftAlone disk.old disk.new) }
 {
     let job = match planned(alloc, path, scan) {
@@ -69,15 +68,14 @@ fn sheet_of<D: Disk>(
     disk: &mut D,
     tone: &Tone,
 ) -> Result<Vec<u8>, Outcome>
-    ensures made { MatchResult result
-        (λ text. HasSheet tone.now.table job.now (disk_state D.tells D.history D.faults disk.old) (disk_state D.tells D.history D.faults disk.new) Outcome.Done text.items)
-        (λ outcome. HasSheet tone.now.table job.now (disk_state D.tells D.history D.faults disk.old) (disk_state D.tells D.history D.faults disk.new) outcome (line_of outcome)) }
+    ensures made { Reaches result (OnDisk D.tells D.history D.faults disk.old disk.new (HasSheet tone.now.table job.now)) }
     ensures kind { MatchResult result (λ text. Unit {0}) IsOfLook }
     ensures never { result ≢ Err Outcome.SourceFault }
 
     ensures disk_fault { result ≡ Err Outcome.DiskFault → HasRisen (D.faults disk.old) (D.faults disk.new) }
     ensures disk_steady { result ≢ Err Outcome.DiskFault → D.faults disk.new ≡ D.faults disk.old }
     ensures disk_later { D.faults disk.old ≤ D.faults disk.new }
+    ensures disk_same { D.loans disk.new ≡ D.loans disk.old }
 {
     match Ledger::look(alloc, disk, job.digest(), job.timeline().count()) {
         Ok(view) => {
@@ -98,9 +96,8 @@ fn sheeted<D: Disk>(
     tone: &Tone,
 ) -> Result<Vec<u8>, Outcome>
     requires size { length view.now.gates ≡ frames_of job.now }
-    ensures sheeted { MatchResult result
-        (λ text. IsSheeted tone.now.table job.now view.now (disk_state D.tells D.history D.faults disk.old) (disk_state D.tells D.history D.faults disk.new) Outcome.Done text.items)
-        (λ outcome. IsSheeted tone.now.table job.now view.now (disk_state D.tells D.history D.faults disk.old) (disk_state D.tells D.history D.faults disk.new) outcome (line_of outcome)) }
+    ensures sheeted { Reaches result (OnDisk D.tells D.history D.faults disk.old disk.new
+        (IsSheeted tone.now.table job.now view.now)) }
     ensures past { D.tells ≡ true → Extends (D.history disk.old) (D.history disk.new) }
     ensures spares { D.tells ≡ true → Spares (D.history disk.old) (D.history disk.new) (λ q. q ≡ file.Sheet) }
     ensures kind { MatchResult result (λ text. Unit {0}) IsOfLook }
@@ -109,6 +106,7 @@ fn sheeted<D: Disk>(
     ensures disk_fault { result ≡ Err Outcome.DiskFault → HasRisen (D.faults disk.old) (D.faults disk.new) }
     ensures disk_steady { result ≢ Err Outcome.DiskFault → D.faults disk.new ≡ D.faults disk.old }
     ensures disk_later { D.faults disk.old ≤ D.faults disk.new }
+    ensures disk_same { D.loans disk.new ≡ D.loans disk.old }
 {
     match make_sheet(alloc, disk, job, view, tone) {
         Ok(done) => match sheet_text(alloc, done) {

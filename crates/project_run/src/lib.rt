@@ -1,12 +1,11 @@
-//! The reel of a project's job in the reel folder: a run on one thread (`run`) or by a crew (`run_crewed`), how far it is
-//! (`status`), whether what is done is still whole (`verify`), counts over it (`qc`), and its contact sheet (`sheet`), as the
-//! text that the command puts, or the outcome that it comes to.
+//! The reel of a project's job in the reel folder: a run on one thread (`run`), how far it is (`status`), whether what is done is
+//! still whole (`verify`), counts over it (`qc`), and its contact sheet (`sheet`), as the text that the command puts, or the
+//! outcome that it comes to.
 #![tactic(auto)]
 
 mod alone;
 mod check;
 mod contact;
-mod crew;
 mod progress;
 mod quality;
 mod report;
@@ -14,7 +13,6 @@ mod report;
 pub use alone::run;
 pub use check::verify;
 pub use contact::sheet;
-pub use crew::{CrewEnded, run_crewed};
 pub use progress::status;
 pub use quality::qc;
-pub use report::{outcome_of_end, put_count};
+pub use report::{outcome_of_end, put_count, reply_of};

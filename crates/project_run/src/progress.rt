@@ -1,10 +1,9 @@
 //! The command `status`.
 ghost use Rattle.std.specs.Prelude.{◌≡◌, ◌≢◌, ◌≤◌, Ok, Err, IfErr, IfOk, MatchResult};
 ghost use Rattle.cf_base.specs.Count.{HasRisen};
-ghost use Rattle.outcome_line.specs.Output.{line_of};
 ghost use Rattle.project_job.specs.Asked.{HasInspectedFor};
 ghost use Rattle.project_run.specs.Look.{IsOfLook, outcome_of_fault};
-ghost use Rattle.project_run.specs.Run.{IsLeftAlone, disk_state};
+ghost use Rattle.project_run.specs.Run.{IsLeftAlone, OnDisk, Reaches};
 ghost use Rattle.project_run.specs.Status.{IsStatus, IsStatusReply, status_text};
 
 use crate::report::put_count;
@@ -28,9 +27,8 @@ pub fn status<S: Scans, D: Disk>(
     scan: &mut S,
     disk: &mut D,
 ) -> Result<Vec<u8>, Outcome>
-    ensures folder { MatchResult result
-        (λ text. IsStatusReply (S.world scan.old) path.now (disk_state D.tells D.history D.faults disk.old) (disk_state D.tells D.history D.faults disk.new) (S.loads scan.old) (S.loads scan.new) Outcome.Done text.items)
-        (λ outcome. IsStatusReply (S.world scan.old) path.now (disk_state D.tells D.history D.faults disk.old) (disk_state D.tells D.history D.faults disk.new) (S.loads scan.old) (S.loads scan.new) outcome (line_of outcome)) }
+    ensures folder { Reaches result (OnDisk D.tells D.history D.faults disk.old disk.new
+        (λ was is. IsStatusReply (S.world scan.old) path.now was is (S.loads scan.old) (S.loads scan.new))) }
     ensures kind { MatchResult result (λ text. Unit {0}) IsOfLook }
 
     ensures failed { result ≡ Err Outcome.SourceFault → HasRisen (S.faults scan.old) (S.faults scan.new) }
@@ -43,6 +41,7 @@ pub fn status<S: Scans, D: Disk>(
     ensures disk_fault { result ≡ Err Outcome.DiskFault → HasRisen (D.faults disk.old) (D.faults disk.new) }
     ensures disk_steady { result ≢ Err Outcome.DiskFault → D.faults disk.new ≡ D.faults disk.old }
     ensures disk_later { D.faults disk.old ≤ D.faults disk.new }
+    ensures disk_same { D.loans disk.new ≡ D.loans disk.old }
     ensures untouched { IfErr result (IsLeftAlone disk.old disk.new) }
 {
     let job = match planned(alloc, path, scan) {
@@ -57,15 +56,14 @@ pub fn status<S: Scans, D: Disk>(
 
 /// How many frames of a job the reel folder acknowledges, or the outcome that was reached.
 fn status_of<D: Disk>(alloc: Global, job: &Job, disk: &mut D) -> Result<Vec<u8>, Outcome>
-    ensures status { MatchResult result
-        (λ text. IsStatus job.now (disk_state D.tells D.history D.faults disk.old) (disk_state D.tells D.history D.faults disk.new) Outcome.Done text.items)
-        (λ outcome. IsStatus job.now (disk_state D.tells D.history D.faults disk.old) (disk_state D.tells D.history D.faults disk.new) outcome (line_of outcome)) }
+    ensures status { Reaches result (OnDisk D.tells D.history D.faults disk.old disk.new (IsStatus job.now)) }
     ensures kind { MatchResult result (λ text. Unit {0}) IsOfLook }
     ensures never { result ≢ Err Outcome.SourceFault }
 
     ensures disk_fault { result ≡ Err Outcome.DiskFault → HasRisen (D.faults disk.old) (D.faults disk.new) }
     ensures disk_steady { result ≢ Err Outcome.DiskFault → D.faults disk.new ≡ D.faults disk.old }
     ensures disk_later { D.faults disk.old ≤ D.faults disk.new }
+    ensures disk_same { D.loans disk.new ≡ D.loans disk.old }
 {
     let count = job.timeline().count();
     match Ledger::peek(alloc, disk, job.digest(), count) {

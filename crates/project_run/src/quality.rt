@@ -4,11 +4,10 @@ ghost use Rattle.cf_base.specs.Count.{HasRisen};
 ghost use Rattle.reel_disk.specs.Disk.{view_of, IsStill};
 ghost use Rattle.reel_writer.specs.Reel.{frames_of};
 ghost use Rattle.resume_ledger.specs.Look.{IsViewOf};
-ghost use Rattle.outcome_line.specs.Output.{line_of};
 ghost use Rattle.project_job.specs.Asked.{HasInspectedFor};
 ghost use Rattle.project_run.specs.Look.{IsOfLook};
 ghost use Rattle.project_run.specs.Quality.{IsCounted, IsQcReply, IsTabled};
-ghost use Rattle.project_run.specs.Run.{IsLeftAlone, disk_state};
+ghost use Rattle.project_run.specs.Run.{IsLeftAlone, OnDisk, Reaches};
 
 use crate::progress::outcome_of_fault;
 use cf_base::PathText;
@@ -36,9 +35,8 @@ pub fn qc<S: Scans, D: Disk, C: Counter>(
     probes: &[Probe],
 ) -> Result<Vec<u8>, Outcome>
     requires ready { C.ready }
-    ensures folder { MatchResult result
-        (λ text. IsQcReply (map (λ p. p.kind) probes.now) (S.world scan.old) path.now (disk_state D.tells D.history D.faults disk.old) (disk_state D.tells D.history D.faults disk.new) (S.loads scan.old) (S.loads scan.new) Outcome.Done text.items)
-        (λ outcome. IsQcReply (map (λ p. p.kind) probes.now) (S.world scan.old) path.now (disk_state D.tells D.history D.faults disk.old) (disk_state D.tells D.history D.faults disk.new) (S.loads scan.old) (S.loads scan.new) outcome (line_of outcome)) }
+    ensures folder { Reaches result (OnDisk D.tells D.history D.faults disk.old disk.new
+        (λ was is. IsQcReply (map (λ p. p.kind) probes.now) (S.world scan.old) path.now was is (S.loads scan.old) (S.loads scan.new))) }
     ensures kind { MatchResult result (λ text. Unit {0}) IsOfLook }
 
     ensures failed { result ≡ Err Outcome.SourceFault → HasRisen (S.faults scan.old) (S.faults scan.new) }
@@ -51,6 +49,7 @@ pub fn qc<S: Scans, D: Disk, C: Counter>(
     ensures disk_fault { result ≡ Err Outcome.DiskFault → HasRisen (D.faults disk.old) (D.faults disk.new) }
     ensures disk_steady { result ≢ Err Outcome.DiskFault → D.faults disk.new ≡ D.faults disk.old }
     ensures disk_later { D.faults disk.old ≤ D.faults disk.new }
+    ensures disk_same { D.loans disk.new ≡ D.loans disk.old }
     ensures untouched { IfErr result (IsLeftAlone disk.old disk.new) }
 {
     let job = match planned(alloc, path, scan) {
@@ -72,15 +71,15 @@ fn tabled<D: Disk, C: Counter>(
     probes: &[Probe],
 ) -> Result<Vec<u8>, Outcome>
     requires ready { C.ready }
-    ensures tabled { MatchResult result
-        (λ text. IsTabled (map (λ p. p.kind) probes.now) job.now (disk_state D.tells D.history D.faults disk.old) (disk_state D.tells D.history D.faults disk.new) Outcome.Done text.items)
-        (λ outcome. IsTabled (map (λ p. p.kind) probes.now) job.now (disk_state D.tells D.history D.faults disk.old) (disk_state D.tells D.history D.faults disk.new) outcome (line_of outcome)) }
+    ensures tabled { Reaches result (OnDisk D.tells D.history D.faults disk.old disk.new
+        (IsTabled (map (λ p. p.kind) probes.now) job.now)) }
     ensures kind { MatchResult result (λ text. Unit {0}) IsOfLook }
     ensures never { result ≢ Err Outcome.SourceFault }
 
     ensures disk_fault { result ≡ Err Outcome.DiskFault → HasRisen (D.faults disk.old) (D.faults disk.new) }
     ensures disk_steady { result ≢ Err Outcome.DiskFault → D.faults disk.new ≡ D.faults disk.old }
     ensures disk_later { D.faults disk.old ≤ D.faults disk.new }
+    ensures disk_same { D.loans disk.new ≡ D.loans disk.old }
 {
     match Ledger::look(alloc, disk, job.digest(), job.timeline().count()) {
         Ok(view) => {
@@ -104,9 +103,8 @@ fn counted<D: Disk, C: Counter>(
     requires ready { C.ready }
     requires size { length view.now.gates ≡ frames_of job.now }
     requires view { D.tells ≡ true → IsViewOf job.now.parts.digest (frames_of job.now) (view_of (D.history disk.old)) view.now }
-    ensures counted { MatchResult result
-        (λ text. IsCounted (map (λ p. p.kind) probes.now) job.now view.now (disk_state D.tells D.history D.faults disk.old) Outcome.Done text.items)
-        (λ outcome. IsCounted (map (λ p. p.kind) probes.now) job.now view.now (disk_state D.tells D.history D.faults disk.old) outcome (line_of outcome)) }
+    ensures counted { Reaches result (OnDisk D.tells D.history D.faults disk.old disk.new
+        (λ was is. IsCounted (map (λ p. p.kind) probes.now) job.now view.now was)) }
     ensures still { D.tells ≡ true → IsStill (D.history disk.old) (D.history disk.new) }
     ensures kind { MatchResult result (λ text. Unit {0}) IsOfLook }
     ensures never { result ≢ Err Outcome.SourceFault }
@@ -114,6 +112,7 @@ fn counted<D: Disk, C: Counter>(
     ensures disk_fault { result ≡ Err Outcome.DiskFault → HasRisen (D.faults disk.old) (D.faults disk.new) }
     ensures disk_steady { result ≢ Err Outcome.DiskFault → D.faults disk.new ≡ D.faults disk.old }
     ensures disk_later { D.faults disk.old ≤ D.faults disk.new }
+    ensures disk_same { D.loans disk.new ≡ D.loans disk.old }
 {
     match quality_table(alloc, counter, probes, disk, job, view) {
         Ok(text) => Ok(text),

@@ -11,17 +11,12 @@ use conform_job::Job;
 use dpx_header::FrameInfo;
 use outcome_line::Outcome;
 use printed_text::{put_bytes, put_number};
+use single_run::{Report, RunEnd};
 use source_reels::Seen;
-use station::{Report, RunEnd};
 use std::alloc::{AllocError, Global};
 
-/// The report of a run that ended so, or its outcome.
-pub(crate) fn reply_of(
-    alloc: Global,
-    job: &Job,
-    end: RunEnd,
-    report: &Report,
-) -> Result<Vec<u8>, Outcome>
+/// The report of a run that ended so, or its outcome; want of memory where there is none for the report.
+pub fn reply_of(alloc: Global, job: &Job, end: RunEnd, report: &Report) -> Result<Vec<u8>, Outcome>
     requires { IsKnown job.now end }
     ensures reply { MatchResult result
         (λ text. IsReplyOf job.now end report.now Outcome.Done text.items)
@@ -81,8 +76,7 @@ fn changed(job: &Job, key: Key, was: FrameInfo, now: Seen) -> Outcome
     requires { info_at job.now.infos key ≡ Some was }
     ensures { result ≡ outcomes.Changed (name_in job.now.parts.reels key.reel) key was now }
 {
-    let _ = job.count();
-    let _ = job.path_of(key);
+    job.recall();
     Outcome::Changed {
         reel: *job.reels().name_of(key.reel),
         key,

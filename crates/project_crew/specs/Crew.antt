@@ -32,6 +32,10 @@ abbrev pub told_by : {S : Type 0} → (S → Option World) → List S → Option
 told_by world [] = None
 told_by world (scan ∷ scans) = world scan
 
+-- the count of one of the scans rose
+abbrev pub HasFailed : {S : Type 0} → (S → ℕ) → List S → List S → Type 0
+HasFailed faults old new = (k : ℕ) × (k < length old) × ((scan : _) → HasRisen (faults (slice_index_or old k scan)) (faults (slice_index_or new k scan)))
+
 module _ {S : Type 0} (world : S → Option World) (faults loads : S → ℕ) (same : S → S → Type 0) where
   -- so many loads were made of the first scan, and none of them failed; the others are untouched
   pub record HasFirstLoaded (texts : ℕ) (old new : List S) : Type 0 where
@@ -41,10 +45,6 @@ module _ {S : Type 0} (world : S → Option World) (faults loads : S → ℕ) (s
     pub told : (scan : S) → world (slice_index_or new 0 scan) ≡ world (slice_index_or old 0 scan)
     pub lent : (scan : S) → same (slice_index_or old 0 scan) (slice_index_or new 0 scan)
     pub others : drop 1 new ≡ drop 1 old
-
-  -- the count of one of the scans rose
-  abbrev pub HasFailed : List S → List S → Type 0
-  HasFailed old new = (k : ℕ) × (k < length old) × ((scan : S) → HasRisen (faults (slice_index_or old k scan)) (faults (slice_index_or new k scan)))
 
   -- The job was run in the folder by a crew. At every moment of the run each frame that a crash leaves acknowledged is the
   -- definition's, and no acknowledgement is lost; at Done the folder has the whole reel.

@@ -1,9 +1,9 @@
 -- The project comes to its job, which a crew runs in the folder.
 use Rattle.std.proofs.Common.{◌≡◌, ◌<◌, get_or, length, rules}
-use Rattle.project_run.proofs.Crews.{all_tell, crewed, error_as, failed_before, failed_first, first_loaded, still_tell, uncrewed}
+use Rattle.project_crew.proofs.Crews.{all_tell, crewed, error_as, failed_before, failed_first, first_loaded, still_tell, uncrewed}
 use Rattle.project_run.proofs.Runs.{match_each}
 use Rattle.project_run.proofs.Leaving.{end_unrefused, left_by}
-use Rattle.project_run.proofs.crew.run_crewed.Goals as goal
+use Rattle.project_crew.proofs.crew.run_crewed.Goals as goal
 
 pub returns-in-Err-clause-reply : goal.returns-in-Err-clause-reply
 returns-in-Err-clause-reply g c =

@@ -21,7 +21,7 @@ use Rattle.project_job.specs.Asked.{HasLoadedFor}
 use Rattle.project_job.specs.Jobs.{HasPlanned, IsOfJob, AreLoaded, cube_count}
 use Rattle.outcome_line.specs.declared.outcome.Outcome.{Outcome}
 use Rattle.outcome_line.specs.declared.outcome.Outcome.TheVariants as outcomes
-use Rattle.project_run.specs.Crew.{HasFailed, HasFirstLoaded, IsCrewJobRun, IsCrewReply, told_by}
+use Rattle.project_crew.specs.Crew.{HasFailed, HasFirstLoaded, IsCrewJobRun, IsCrewReply, told_by}
 use Rattle.project_run.specs.Run.{DiskState, IsReplyOf}
 
 -- an error is the same error of another result
@@ -33,7 +33,7 @@ error_as a b same = ap Err (same_error a b same)
 
 module _ {S : Type 0} (world : S → Option World) (faults loads : S → ℕ) (same : S → S → Type 0) where
   -- a load that failed raised the count of its scan
-  pub has_failed : (workers all : ℕ) (Failed : Type 0) (old new : List S) → AreWorked world faults loads same workers all Failed old new → Failed → HasFailed world faults loads same old new
+  pub has_failed : (workers all : ℕ) (Failed : Type 0) (old new : List S) → AreWorked world faults loads same workers all Failed old new → Failed → HasFailed faults old new
   has_failed workers all Failed old new worked is =
       let at = worked.failed is in
       (at.0, at.1, λ scan. (worked.each at.0 scan at.1).failed at.2)
@@ -101,15 +101,15 @@ module _ {S : Type 0} (world : S → Option World) (faults loads : S → ℕ) (s
 
     -- a count that rose later rose over both
     pub failed_before : (scans new : List S) (first : S) → 0 < length scans → get_or scans 0 first ≡ first → faults used ≡ faults first
-        → HasFailed world faults loads same (set scans 0 used) new → HasFailed world faults loads same scans new
+        → HasFailed faults (set scans 0 used) new → HasFailed faults scans new
     failed_before [] new first some is steady failed = absurd (omega (arith, some))
     failed_before (scan ∷ scans) new first some is steady failed = by failed.0 failed.1 failed.2
       where
-        by : (k : ℕ) → k < length (used ∷ scans) → ((d : S) → HasRisen (faults (get_or (used ∷ scans) k d)) (faults (get_or new k d))) → HasFailed world faults loads same (scan ∷ scans) new
+        by : (k : ℕ) → k < length (used ∷ scans) → ((d : S) → HasRisen (faults (get_or (used ∷ scans) k d)) (faults (get_or new k d))) → HasFailed faults (scan ∷ scans) new
         by zero lt rose = (zero, omega arith, λ d. subst (λ n. HasRisen n (faults (get_or new 0 d))) (steady ∙ ap faults (sym is)) (rose d))
         by (suc k) lt rose = (suc k, lt, λ d. rose d)
 
-    pub failed_first : (scans : List S) (first : S) → 0 < length scans → get_or scans 0 first ≡ first → HasRisen (faults first) (faults used) → HasFailed world faults loads same scans (set scans 0 used)
+    pub failed_first : (scans : List S) (first : S) → 0 < length scans → get_or scans 0 first ≡ first → HasRisen (faults first) (faults used) → HasFailed faults scans (set scans 0 used)
     failed_first [] first some is rose = absurd (omega (arith, some))
     failed_first (scan ∷ scans) first some is rose = (0, omega arith, λ d. subst (λ n. HasRisen n (faults used)) (ap faults (sym is)) rose)
 

@@ -1,9 +1,9 @@
 -- A crew's run is the reply of its command.
 use Rattle.std.proofs.Common.{◌≡◌, length, rules, refl}
 use Rattle.std.specs.Prelude.{vec_len}
-use Rattle.project_run.proofs.Crews.{crew_job_run, has_failed}
+use Rattle.project_crew.proofs.Crews.{crew_job_run, has_failed}
 use Rattle.project_run.proofs.Runs.{match_each}
-use Rattle.project_run.proofs.crew.run_job.Goals as goal
+use Rattle.project_crew.proofs.crew.run_job.Goals as goal
 
 pub run_crew-end-requires-clause-job : goal.run_crew-end-requires-clause-job
 run_crew-end-requires-clause-job g c κs within = refl

@@ -1,16 +1,15 @@
 //! A run by a crew.
-ghost use Rattle.std.specs.Prelude.{◌≡◌, ◌≢◌, ◌≤◌, true, All, AllPairs, Err, IfErr, MatchResult, length, vec_len};
+ghost use Rattle.std.specs.Prelude.{◌≡◌, ◌≤◌, true, All, AllPairs, Err, IfErr, MatchResult, vec_len};
 ghost use Rattle.cf_base.specs.Count.{HasRisen};
 ghost use Rattle.conform_job.specs.Answers.{AreInfosOf};
-ghost use Rattle.outcome_line.specs.Output.{line_of};
-ghost use Rattle.project_run.specs.Crew.{HasFailed, IsCrewJobRun, IsCrewReply, told_by};
-ghost use Rattle.project_run.specs.Run.{IsLeftAlone, IsOfRun, IsShareCount, disk_state};
+ghost use Rattle.project_crew.specs.Crew.{HasFailed, IsCrewJobRun, IsCrewReply, told_by};
+ghost use Rattle.project_run.specs.Run.{IsLeftAlone, IsOfRun, IsShareCount, OnDisk, Reaches};
 
-use crate::report::reply_of;
 use cf_base::PathText;
 use conform_job::Job;
 use outcome_line::Outcome;
 use project_job::planned;
+use project_run::reply_of;
 use reel_disk::Disk;
 use scan_source::Scans;
 use station::{Crew, run_crew};
@@ -49,15 +48,15 @@ pub fn run_crewed<S: Scans + Send, D: Disk + Send, R: Threads + Wait + Sync>(
     requires share { IsShareCount share }
     requires no_fault { D.faults disk ≡ 0 }
     requires first_moment { D.tells ≡ true → (D.history disk).now ≡ 0 }
-    ensures reply { MatchResult result.result
-        (λ text. IsCrewReply S.world S.faults S.loads S.same path.now workers scans.items result.scans.items (disk_state D.tells D.history D.faults disk) (disk_state D.tells D.history D.faults result.disk) Outcome.Done text.items)
-        (λ outcome. IsCrewReply S.world S.faults S.loads S.same path.now workers scans.items result.scans.items (disk_state D.tells D.history D.faults disk) (disk_state D.tells D.history D.faults result.disk) outcome (line_of outcome)) }
+    ensures reply { Reaches result.result (OnDisk D.tells D.history D.faults disk result.disk
+        (IsCrewReply S.world S.faults S.loads S.same path.now workers scans.items result.scans.items)) }
     ensures kind { MatchResult result.result (λ text. Unit {0}) IsOfRun }
     ensures handed_back { vec_len result.scans ≡ vec_len scans }
 
-    ensures failed { result.result ≡ Err Outcome.SourceFault → HasFailed S.world S.faults S.loads S.same scans.items result.scans.items }
+    ensures failed { result.result ≡ Err Outcome.SourceFault → HasFailed S.faults scans.items result.scans.items }
     ensures disk_fault { result.result ≡ Err Outcome.DiskFault → HasRisen (D.faults disk) (D.faults result.disk) }
     ensures disk_later { D.faults disk ≤ D.faults result.disk }
+    ensures disk_same { D.loans result.disk ≡ D.loans disk }
     ensures untouched { IfErr result.result (IsLeftAlone disk result.disk) }
 {
     let job = match planned(alloc, path, &mut scans[0]) {
@@ -93,17 +92,17 @@ fn run_job<S: Scans + Send, D: Disk + Send, R: Threads + Wait + Sync>(
     requires infos { AreInfosOf job.now.parts (told_by S.world scans.items) job.now.infos }
     requires no_fault { D.faults disk ≡ 0 }
     requires first_moment { D.tells ≡ true → (D.history disk).now ≡ 0 }
-    ensures ran { MatchResult result.result
-        (λ text. IsCrewJobRun S.world S.faults S.loads S.same job.now (told_by S.world scans.items) workers scans.items result.scans.items (disk_state D.tells D.history D.faults disk) (disk_state D.tells D.history D.faults result.disk) Outcome.Done text.items)
-        (λ outcome. IsCrewJobRun S.world S.faults S.loads S.same job.now (told_by S.world scans.items) workers scans.items result.scans.items (disk_state D.tells D.history D.faults disk) (disk_state D.tells D.history D.faults result.disk) outcome (line_of outcome)) }
+    ensures ran { Reaches result.result (OnDisk D.tells D.history D.faults disk result.disk
+        (IsCrewJobRun S.world S.faults S.loads S.same job.now (told_by S.world scans.items) workers scans.items result.scans.items)) }
     ensures kind { MatchResult result.result (λ text. Unit {0}) IsOfRun }
     ensures handed_back { vec_len result.scans ≡ vec_len scans }
 
-    ensures failed { result.result ≡ Err Outcome.SourceFault → HasFailed S.world S.faults S.loads S.same scans.items result.scans.items }
+    ensures failed { result.result ≡ Err Outcome.SourceFault → HasFailed S.faults scans.items result.scans.items }
     ensures disk_fault { result.result ≡ Err Outcome.DiskFault → HasRisen (D.faults disk) (D.faults result.disk) }
     ensures disk_later { D.faults disk ≤ D.faults result.disk }
+    ensures disk_same { D.loans result.disk ≡ D.loans disk }
 {
-    let _ = job.count();
+    job.recall();
     let Crew {
         end,
         report,
