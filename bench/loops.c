@@ -1,5 +1,5 @@
 // The pixel rules as plain loops, for bench/look, bench/render, bench/qc and bench/sheet to set the program's beside: picoseconds of
-// processor time a pixel (and a sum, so that no loop is left out) of the copied lines of a frame that was decoded just before, of
+// processor time a pixel (and a sum, so that no loop is left out) of a cut's lines, from a frame that was decoded just before, of
 // a dissolve, of a look of one dimension with 1,024 places, of one of three with 33 a side, of the three counts of the quality
 // table, and of the contact sheet's boxes of 16 by 16 pixels. Where each code lies between two places is found once, as in the
 // program.
@@ -111,16 +111,19 @@ static void boxes(void) {
 
 enum { FRAME = 1556 * WIDE };
 
-static uint32_t file[FRAME], frame[FRAME];
+static uint32_t file[FRAME], frame[FRAME], made[FRAME];
 
-// A frame is decoded, and then its lines are copied into one line, one after another.
+// A frame is decoded, and then its lines are made, one after another: the words in a buffer of one line, without their two lowest
+// bits, and from there the bytes.
 static void decode(void) {
     for (int n = 0; n < FRAME; n++) frame[n] = __builtin_bswap32(file[n]) & ~3u;
 }
 
-static void copy(void) {
-    for (int y = 0; y < FRAME / WIDE; y++)
-        for (int x = 0; x < WIDE; x++) out[x] = frame[y * WIDE + x];
+static void cut(void) {
+    for (int y = 0; y < FRAME / WIDE; y++) {
+        for (int x = 0; x < WIDE; x++) out[x] = frame[y * WIDE + x] & ~3u;
+        for (int x = 0; x < WIDE; x++) made[y * WIDE + x] = __builtin_bswap32(out[x]);
+    }
 }
 
 static void nothing(void) {}
@@ -154,7 +157,7 @@ int main(void) {
         for (int n = 0; n < 1024; n++) on_line[c][n] = spot(n, c, LONG), on_cube[c][n] = spot(n, c, SIDE);
     for (int n = 0; n < PIXELS; n++) old[n] = (uint32_t)rand() << 2, incoming[n] = (uint32_t)rand() << 2;
     for (int n = 0; n < FRAME; n++) file[n] = n;
-    measure("copy", decode, copy, FRAME);
+    measure("cut", decode, cut, FRAME);
     measure("dissolve", nothing, dissolve, PIXELS);
     measure("1D", nothing, look_1d, PIXELS);
     measure("3D", nothing, look_3d, PIXELS);
