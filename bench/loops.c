@@ -111,14 +111,17 @@ static void boxes(void) {
 
 enum { FRAME = 1556 * WIDE };
 
-static uint32_t file[FRAME], frame[FRAME], made[FRAME];
+static uint32_t source[FRAME], file[FRAME], frame[FRAME], made[FRAME], written[FRAME];
 
-// A frame is decoded, and then its lines are made, one after another: the words in a buffer of one line, without their two lowest
-// bits, and from there the bytes.
+// What a run does before the lines of a cut, so that as much of the memory is in the caches: the frame before is written, and a
+// file is read and decoded.
 static void decode(void) {
+    memcpy(written, made, sizeof made);
+    memcpy(file, source, sizeof file);
     for (int n = 0; n < FRAME; n++) frame[n] = __builtin_bswap32(file[n]) & ~3u;
 }
 
+// The lines are made one after another: the words in a buffer of one line, without their two lowest bits, and from there the bytes.
 static void cut(void) {
     for (int y = 0; y < FRAME / WIDE; y++) {
         for (int x = 0; x < WIDE; x++) out[x] = frame[y * WIDE + x] & ~3u;
@@ -156,7 +159,7 @@ int main(void) {
     for (int c = 0; c < 3; c++)
         for (int n = 0; n < 1024; n++) on_line[c][n] = spot(n, c, LONG), on_cube[c][n] = spot(n, c, SIDE);
     for (int n = 0; n < PIXELS; n++) old[n] = (uint32_t)rand() << 2, incoming[n] = (uint32_t)rand() << 2;
-    for (int n = 0; n < FRAME; n++) file[n] = n;
+    for (int n = 0; n < FRAME; n++) source[n] = n;
     measure("cut", decode, cut, FRAME);
     measure("dissolve", nothing, dissolve, PIXELS);
     measure("1D", nothing, look_1d, PIXELS);
