@@ -35,8 +35,7 @@ impl Tone {
         ensures value { result ≡ slice_index self.now.table code }
         ensures table { IsToneTable self.now.table }
     {
-        // What holds of the table is said of its own value.
-        let _ = self.table.at(code);
+        self.table.recall();
         (self.curve)(code)
     }
 }
