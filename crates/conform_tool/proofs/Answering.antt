@@ -6,7 +6,7 @@ use Rattle.conform_tool.specs.Answer.{SinkState, IsPut, IsLinePut, IsUnread, Ans
 use Rattle.command_words.specs.Commands.{Spells, IsNoCommand}
 use Rattle.outcome_line.specs.Output.{line_of, IsMade}
 use Rattle.conform_tool.specs.Commands.{meaning_of}
-use Rattle.conform_tool.specs.Reply.{IsKindOf, IsWholeReply}
+use Rattle.conform_tool.specs.Reply.{IsKindOf, IsReplyOverFolders}
 use Rattle.conform_tool.specs.States.{Folders, House, ScanState}
 use Rattle.reel_qc.specs.declared.probe.ProbeKind.{ProbeKind}
 use Rattle.project_adopt.specs.Adopt.{GoesOn, IsAdoption, IsAdoptReply, IsPromised, IsRest, IsUnadopted}
@@ -17,7 +17,8 @@ use Rattle.reconform.specs.declared.adopting.AdoptFault.TheVariants as fault
 use Rattle.project_run.specs.Look.{HasFound, HasSeen, IsLookReply, outcome_of_fault}
 use Rattle.project_run.specs.Sheet.{HasSheet}
 use Rattle.project_run.specs.Quality.{IsCounted}
-use Rattle.project_run.specs.Run.{DiskState, IsJobRun, IsRefusal, IsRunReply, IsUnplanned}
+use Rattle.project_run.specs.Calls.{DiskState, IsRefusal}
+use Rattle.project_run.specs.Run.{IsJobRun, IsRunReply, IsUnplanned}
 use Rattle.project_run.specs.Status.{IsStatus}
 use Rattle.project_run.specs.Verify.{IsChecked}
 use Rattle.conform_job.specs.Job.{JobData}
@@ -71,7 +72,7 @@ answered_unread words scan folders sink sink_after result (inl put) = record {
 answered_unread words scan folders sink sink_after result (inr put) = absurd put.0
 
 pub answered_by : {house : House} (words : List (List ℕ)) (command : Command) (scan scan_after : ScanState) (folders folders_after : Folders) (sink sink_after : SinkState) (result reached : Outcome) (output : List ℕ)
-    → Spells words command → IsWholeReply house command scan scan_after folders folders_after reached output → IsPut sink sink_after reached output result
+    → Spells words command → IsReplyOverFolders house command scan scan_after folders folders_after reached output → IsPut sink sink_after reached output result
     → Answered house words scan scan_after folders folders_after sink sink_after result
 answered_by {house = house} words command scan scan_after folders folders_after sink sink_after result reached output spelled whole put = record {
   reached = reached;
@@ -79,7 +80,7 @@ answered_by {house = house} words command scan scan_after folders folders_after 
   put = put;
   usage = λ same. absurd (subst (IsKindOf command) same whole.reply.kind);
   no_command = λ none. absurd (none command spelled);
-  reply = λ other spells. inl (subst (λ c. IsWholeReply house c scan scan_after folders folders_after reached output) (one_spelled words command other spelled spells) whole);
+  reply = λ other spells. inl (subst (λ c. IsReplyOverFolders house c scan scan_after folders folders_after reached output) (one_spelled words command other spelled spells) whole);
 }
 
 -- an outcome whose line is made is none of these
@@ -100,12 +101,7 @@ ran_instead job told disk disk_after loads loads_after reached output ran = reco
   frames = ran.frames;
   log = ran.log;
   ran = ran.ran;
-  run = ran.run;
-  acked = ran.acked;
-  whole = ran.whole;
-  sound_has = ran.sound_has;
-  spares = ran.spares;
-  writes = ran.writes;
+  keeps = ran.keeps;
   loaded = ran.loaded;
   changed = ran.changed;
 }
@@ -281,7 +277,7 @@ folder_instead house (commands.Demo count) before after folders folders_after re
 
 -- an outcome whose line found no memory
 or_no_memory : {house : House} (command : Command) (before after : ScanState) (folders folders_after : Folders) (outcome : Outcome) (output : List ℕ) → IsMade outcome
-    → IsWholeReply house command before after folders folders_after outcome output → IsWholeReply house command before after folders folders_after outcomes.NoMemory (line_of outcomes.NoMemory)
+    → IsReplyOverFolders house command before after folders folders_after outcome output → IsReplyOverFolders house command before after folders folders_after outcomes.NoMemory (line_of outcomes.NoMemory)
 or_no_memory command before after folders folders_after outcome output made whole = record {
   reply = record {
     right = memory_right command (line_of outcomes.NoMemory) before after;
@@ -304,7 +300,7 @@ or_no_memory command before after folders folders_after outcome output made whol
 }
 
 pub answered_line : {house : House} (words : List (List ℕ)) (command : Command) (scan scan_after : ScanState) (folders folders_after : Folders) (sink sink_after : SinkState) (result reached : Outcome)
-    → Spells words command → IsWholeReply house command scan scan_after folders folders_after reached (line_of reached) → IsLinePut sink sink_after reached result
+    → Spells words command → IsReplyOverFolders house command scan scan_after folders folders_after reached (line_of reached) → IsLinePut sink sink_after reached result
     → Answered house words scan scan_after folders folders_after sink sink_after result
 answered_line words command scan scan_after folders folders_after sink sink_after result reached spelled whole (inl put) =
     answered_by words command scan scan_after folders folders_after sink sink_after result _ _ spelled whole put

@@ -33,7 +33,8 @@ use Rattle.single_run.specs.declared.run_end.RunEnd.TheVariants as ends
 use Rattle.project_job.specs.Jobs.{ComesTo, HasPlanned, IsOfJob}
 use Rattle.project_job.specs.Laws.{OneJob}
 use Rattle.project_crew.specs.Crew.{HasFailed, IsCrewReply, told_by}
-use Rattle.project_run.specs.Run.{DiskState, IsJobRun, IsOfRun, IsRunReply, outcome_of_end}
+use Rattle.project_run.specs.Calls.{DiskState}
+use Rattle.project_run.specs.Run.{IsJobRun, IsOfRun, IsRunReply, outcome_of_end}
 use Rattle.project_adopt.specs.Adopt.{GoesOn, IsAdoption, IsAdoptReply, IsRest, IsUnadopted}
 use Rattle.project_adopt.specs.Adopt as adopted
 use Rattle.reconform.specs.Adopt.{HasAnswered}
@@ -64,10 +65,10 @@ use Rattle.conform_tool.specs.Commands.Demo.{IsDemoReply}
 use Rattle.conform_tool.specs.Commands.Plan.{IsPlanForm}
 use Rattle.conform_tool.specs.Commands.Pull.{IsPullForm}
 use Rattle.conform_tool.specs.Meaning.{IsThrough}
-use Rattle.conform_tool.specs.Reply.{IsKindOf, IsWholeReply}
+use Rattle.conform_tool.specs.Reply.{IsKindOf, IsReplyOverFolders}
 use Rattle.conform_tool.specs.States.{Folders, House, ScanState}
 use Rattle.conform_tool.specs.Answer.{SinkState, IsPut, Answered}
-use Rattle.conform_tool.specs.Conform.{CrewAnswered}
+use Rattle.conform_tool.specs.Conform.{AnsweredByCrew}
 use Rattle.conform_tool.specs.Complete.{IsAccepted, HasNotRisen, IsComplete, IsUnfailed}
 use Rattle.conform_tool.proofs.Headlines.{at_world}
 use Rattle.conform_tool.proofs.Replies.{replied_run}
@@ -340,7 +341,7 @@ module _ (laws : OneJob) (world : World) (path old_path : List ℕ) (disk old : 
 -- ---- one thread
 
 reply_complete : {house : House} → OneJob → (command : Command) (world : World) (scan scan_after : ScanState) (folders folders_after : Folders) (reached : Outcome) (output : List ℕ) → scan.world ≡ Some world → IsAccepted command world folders
-    → IsWholeReply house command scan scan_after folders folders_after reached output → reached ≢ outcomes.SourceFault → reached ≢ outcomes.DiskFault → IsComplete command reached
+    → IsReplyOverFolders house command scan scan_after folders folders_after reached output → reached ≢ outcomes.SourceFault → reached ≢ outcomes.DiskFault → IsComplete command reached
 reply_complete laws (commands.Frame path) world scan scan_after folders folders_after reached output is accepted whole no_source no_disk =
     let right = whole.reply.right in
     let file = at_world scan.world world (λ files. right.0 ≡ file_at files path) is right.1 in
@@ -407,7 +408,7 @@ module _ (laws : OneJob) {S : Type 0} (world_of : S → Option World) (faults lo
   ]
   crew_complete reached output (inr none) no_source no_disk = planned_complete laws (told_by world_of scans) world path reached is (place.job, place.comes) none.why none.kind no_source
 
-  pub crew_answered_complete : (share : ℕ) (sink sink_after : SinkState) (result : Outcome) → CrewAnswered world_of faults loads same path workers scans scans_after disk disk_after sink sink_after result
+  pub crew_answered_complete : (share : ℕ) (sink sink_after : SinkState) (result : Outcome) → AnsweredByCrew world_of faults loads same path workers scans scans_after disk disk_after sink sink_after result
       → (HasFailed faults scans scans_after → ⊥) → HasNotRisen disk.faults disk_after.faults → HasNotRisen sink.faults sink_after.faults → IsComplete (commands.Run path workers share) result
   crew_answered_complete share sink sink_after result answered scans_steady disk_steady sink_steady =
       put_complete (commands.Run path workers share) sink sink_after answered.reached answered.output result answered.put sink_steady (elim answered.crewed [
@@ -453,7 +454,7 @@ answered_unfailed words scan scan_after folders folders_after sink sink_after re
     ])
 
 pub crew_unfailed : {S : Type 0} (world_of : S → Option World) (faults loads : S → ℕ) (same : S → S → Type 0) (path : List ℕ) (workers share : ℕ) (scans scans_after : List S) (disk disk_after : DiskState) (sink sink_after : SinkState) (result : Outcome)
-    → CrewAnswered world_of faults loads same path workers scans scans_after disk disk_after sink sink_after result
+    → AnsweredByCrew world_of faults loads same path workers scans scans_after disk disk_after sink sink_after result
     → (command : Command) → command ≡ commands.Run path workers share
     → (HasFailed faults scans scans_after → ⊥) → HasNotRisen disk.faults disk_after.faults → HasNotRisen sink.faults sink_after.faults → IsUnfailed command result
 crew_unfailed world_of faults loads same path workers share scans scans_after disk disk_after sink sink_after result answered command is scans_steady disk_steady sink_steady =

@@ -12,11 +12,12 @@ use Rattle.outcome_line.specs.Output.{line_of, IsMade}
 use Rattle.outcome_line.specs.declared.outcome.Outcome.{Outcome}
 use Rattle.outcome_line.specs.declared.outcome.Outcome.TheVariants as outcomes
 use Rattle.project_crew.specs.Crew.{HasFailed, IsCrewReply, told_by}
-use Rattle.project_run.specs.Run.{DiskState, IsLeftAlone, IsOfRun}
+use Rattle.project_run.specs.Calls.{DiskState, IsLeftAlone}
+use Rattle.project_run.specs.Run.{IsOfRun}
 use Rattle.conform_tool.specs.Answer.{SinkState, IsFoundIn, IsPut, IsLinePut}
 use Rattle.conform_tool.proofs.Answering.{done_unrefused, put_refused}
 use Rattle.conform_tool.proofs.Replies.{told_any}
-use Rattle.conform_tool.specs.Conform.{CrewAnswered, IsAlone, IsCrewed}
+use Rattle.conform_tool.specs.Conform.{AnsweredByCrew, IsAlone, IsCausedByCrew}
 
 module _ {S : Type 0} (world : S → Option World) (faults loads : S → ℕ) (same : S → S → Type 0) (path : List ℕ) (workers : ℕ) (scans scans_after : List S) (disk disk_after : DiskState) where
   -- a line for which no memory is left: the outcome is another, and all else is as it was
@@ -35,12 +36,7 @@ module _ {S : Type 0} (world : S → Option World) (faults loads : S → ℕ) (s
       steps = ran.steps;
       log = ran.log;
       ran = ran.ran;
-      run = ran.run;
-      acked = ran.acked;
-      whole = ran.whole;
-      sound_has = ran.sound_has;
-      spares = ran.spares;
-      writes = ran.writes;
+      keeps = ran.keeps;
       scans = ran.scans;
       changed = ran.changed;
     };
@@ -59,8 +55,8 @@ module _ {S : Type 0} (world : S → Option World) (faults loads : S → ℕ) (s
     others = uncrewed.others;
   })
 
-  crewed_memory : (outcome : Outcome) (output : List ℕ) → IsMade outcome → IsCrewed world faults loads same path workers scans scans_after disk disk_after outcome output
-      → IsCrewed world faults loads same path workers scans scans_after disk disk_after outcomes.NoMemory (line_of outcomes.NoMemory)
+  crewed_memory : (outcome : Outcome) (output : List ℕ) → IsMade outcome → IsCausedByCrew world faults loads same path workers scans scans_after disk disk_after outcome output
+      → IsCausedByCrew world faults loads same path workers scans scans_after disk disk_after outcomes.NoMemory (line_of outcomes.NoMemory)
   crewed_memory outcome output made crewed = record {
     reply = crew_memory outcome output made crewed.reply;
     line = λ _. refl;
@@ -77,7 +73,7 @@ module _ {S : Type 0} (world : S → Option World) (faults loads : S → ℕ) (s
       → (r ≡ Err outcomes.SourceFault → HasFailed faults scans scans_after)
       → (r ≡ Err outcomes.DiskFault → HasRisen disk.faults disk_after.faults)
       → disk.faults ≤ disk_after.faults
-      → CrewAnswered world faults loads same path workers scans scans_after disk disk_after sink sink_after result
+      → AnsweredByCrew world faults loads same path workers scans scans_after disk disk_after sink sink_after result
   crew_answered (Ok text) sink sink_after result put reply kind source failed later = record {
     reached = outcomes.Done;
     output = text.items;
@@ -119,7 +115,7 @@ module _ {S : Type 0} (world : S → Option World) (faults loads : S → ℕ) (s
   }
 
   pub crew_unread : (sink sink_after : SinkState) (result : Outcome) → scans_after ≡ scans → disk_after ≡ disk → IsLinePut sink sink_after outcomes.NoMemory result
-      → CrewAnswered world faults loads same path workers scans scans_after disk disk_after sink sink_after result
+      → AnsweredByCrew world faults loads same path workers scans scans_after disk disk_after sink sink_after result
   crew_unread sink sink_after result untouched_scans untouched_disk (inl put) = record {
     reached = outcomes.NoMemory;
     output = line_of outcomes.NoMemory;
@@ -161,7 +157,7 @@ alone_found words found says none path workers share spells = none path workers 
 
 -- the same answer, by the words
 pub crew_as : {S : Type 0} (world : S → Option World) (faults loads : S → ℕ) (same : S → S → Type 0) (p path : List ℕ) (w workers : ℕ) (scans scans_after : List S) (disk disk_after : DiskState) (sink sink_after : SinkState) (result : Outcome)
-    → (p ≡ path) × (w ≡ workers) → CrewAnswered world faults loads same p w scans scans_after disk disk_after sink sink_after result → CrewAnswered world faults loads same path workers scans scans_after disk disk_after sink sink_after result
+    → (p ≡ path) × (w ≡ workers) → AnsweredByCrew world faults loads same p w scans scans_after disk disk_after sink sink_after result → AnsweredByCrew world faults loads same path workers scans scans_after disk disk_after sink sink_after result
 crew_as world faults loads same p path w workers scans scans_after disk disk_after sink sink_after result is answered =
-    subst (λ q. CrewAnswered world faults loads same q workers scans scans_after disk disk_after sink sink_after result) is.0
-    (subst (λ n. CrewAnswered world faults loads same p n scans scans_after disk disk_after sink sink_after result) is.1 answered)
+    subst (λ q. AnsweredByCrew world faults loads same q workers scans scans_after disk disk_after sink sink_after result) is.0
+    (subst (λ n. AnsweredByCrew world faults loads same p n scans scans_after disk disk_after sink sink_after result) is.1 answered)

@@ -9,13 +9,13 @@ use Rattle.command_words.specs.declared.command.Command.TheVariants as commands
 use Rattle.outcome_line.specs.declared.outcome.Outcome.{Outcome}
 use Rattle.outcome_line.specs.declared.outcome.Outcome.TheVariants as outcomes
 use Rattle.conform_tool.specs.Commands.Demo.{IsDemoReply}
-use Rattle.conform_tool.specs.Reply.{IsKindOf, IsReply, IsWholeReply}
+use Rattle.conform_tool.specs.Reply.{IsKindOf, IsReplyOverScan, IsReplyOverFolders}
 use Rattle.conform_tool.specs.States.{Folders, House, ScanState}
 use Rattle.conform_tool.proofs.Replies.{reply_of}
 
 -- with no call on either, nothing failed
 untouched : {house : House} (count : ℕ) (scan : ScanState) (folders : Folders) (reached : Outcome) (output : List ℕ)
-    → IsReply (commands.Demo count) scan scan reached output → (reached ≢ outcomes.DiskFault) → IsWholeReply house (commands.Demo count) scan scan folders folders reached output
+    → IsReplyOverScan (commands.Demo count) scan scan reached output → (reached ≢ outcomes.DiskFault) → IsReplyOverFolders house (commands.Demo count) scan scan folders folders reached output
 untouched count scan folders reached output reply works = record {
   reply = reply;
   folder = refl;
@@ -27,7 +27,7 @@ untouched count scan folders reached output reply works = record {
   old_later = omega arith;
 }
 
-shown : (count : ℕ) (scan : ScanState) (output : List ℕ) → IsShown (file_at (demo_world count)) output → IsReply (commands.Demo count) scan scan outcomes.Done output
+shown : (count : ℕ) (scan : ScanState) (output : List ℕ) → IsShown (file_at (demo_world count)) output → IsReplyOverScan (commands.Demo count) scan scan outcomes.Done output
 shown count scan output is =
     reply_of (commands.Demo count) scan scan outcomes.Done output tt is (λ not_done. absurd (not_done refl)) (λ same. absurd (cc)) (λ _. refl) (omega arith) refl refl refl
 
@@ -50,7 +50,7 @@ instead_replied count (outcomes.SinkFault instead) output is = absurd is
 instead_replied count outcomes.NoMemory output is = (tt, is, λ same. cc, λ same. cc)
 
 instead : {house : House} (count : ℕ) (scan : ScanState) (folders : Folders) (outcome : Outcome) → IsInstead (file_at (demo_world count)) outcome
-    → IsWholeReply house (commands.Demo count) scan scan folders folders outcome (line_of outcome)
+    → IsReplyOverFolders house (commands.Demo count) scan scan folders folders outcome (line_of outcome)
 instead count scan folders outcome is =
     let replied = instead_replied count outcome (line_of outcome) is in
     untouched count scan folders outcome (line_of outcome)
@@ -59,12 +59,12 @@ instead count scan folders outcome is =
 
 by_result : (house : House) (count : ℕ) (scan : ScanState) (folders : Folders) (result : Result (Vec ℕ Global) Outcome)
     → MatchResult result (λ text. IsShown (file_at (demo_world count)) text.items) (IsInstead (file_at (demo_world count)))
-    → MatchResult result (λ text. IsWholeReply house (commands.Demo count) scan scan folders folders outcomes.Done text.items) (λ outcome. IsWholeReply house (commands.Demo count) scan scan folders folders outcome (line_of outcome))
+    → MatchResult result (λ text. IsReplyOverFolders house (commands.Demo count) scan scan folders folders outcomes.Done text.items) (λ outcome. IsReplyOverFolders house (commands.Demo count) scan scan folders folders outcome (line_of outcome))
 by_result house count scan folders (Ok text) is = untouched count scan folders outcomes.Done text.items (shown count scan text.items is) (λ same. cc)
 by_result house count scan folders (Err outcome) is = instead count scan folders outcome is
 
 pub demo_replied : (house : House) (command : Command) (count : ℕ) (scan : ScanState) (folders : Folders) (result : Result (Vec ℕ Global) Outcome) → command ≡ commands.Demo count
     → MatchResult result (λ text. IsShown (file_at (demo_world count)) text.items) (IsInstead (file_at (demo_world count)))
-    → MatchResult result (λ text. IsWholeReply house command scan scan folders folders outcomes.Done text.items) (λ outcome. IsWholeReply house command scan scan folders folders outcome (line_of outcome))
+    → MatchResult result (λ text. IsReplyOverFolders house command scan scan folders folders outcomes.Done text.items) (λ outcome. IsReplyOverFolders house command scan scan folders folders outcome (line_of outcome))
 demo_replied house command count scan folders result same is =
-    subst (λ c. MatchResult result (λ text. IsWholeReply house c scan scan folders folders outcomes.Done text.items) (λ outcome. IsWholeReply house c scan scan folders folders outcome (line_of outcome))) (sym same) (by_result house count scan folders result is)
+    subst (λ c. MatchResult result (λ text. IsReplyOverFolders house c scan scan folders folders outcomes.Done text.items) (λ outcome. IsReplyOverFolders house c scan scan folders folders outcome (line_of outcome))) (sym same) (by_result house count scan folders result is)

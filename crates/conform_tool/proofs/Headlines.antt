@@ -21,7 +21,8 @@ use Rattle.single_run.specs.declared.run_end.RunEnd.TheVariants as ends
 use Rattle.project_job.specs.Jobs.{ComesTo, IsOfJob}
 use Rattle.project_job.specs.Laws.{OneJob}
 use Rattle.project_adopt.specs.Adopt.{GoesOn, IsAdoptReply, IsOldSound, of_old_project}
-use Rattle.project_run.specs.Run.{DiskState, IsOfRun, IsRunReply, outcome_of_end}
+use Rattle.project_run.specs.Calls.{DiskState}
+use Rattle.project_run.specs.Run.{IsOfRun, IsRunReply, outcome_of_end}
 use Rattle.project_crew.specs.Crew.{IsCrewReply, told_by}
 use Rattle.command_words.specs.declared.command.Command.TheVariants as commands
 use Rattle.outcome_line.specs.Output.{status_of}
@@ -30,7 +31,7 @@ use Rattle.outcome_line.specs.declared.outcome.Outcome.TheVariants as outcomes
 use Rattle.conform_tool.specs.Reply.{IsKindOf}
 use Rattle.conform_tool.specs.States.{Folders, House, ScanState}
 use Rattle.conform_tool.specs.Answer.{SinkState, IsPut, IsUnread, Answered}
-use Rattle.conform_tool.specs.Conform.{CrewAnswered}
+use Rattle.conform_tool.specs.Conform.{AnsweredByCrew}
 use Rattle.conform_tool.specs.Headline.{AdoptsJob, RunsJob, IsEmptyFolder, IsBeginning, left_with, KeepsItsPromise, HasEnded}
 
 pub at_world : (told : Option World) (world : World) (P : World → Type 0) → told ≡ Some world → IfSome told P → P world
@@ -187,7 +188,7 @@ module _ (laws : OneJob) (job : JobData) (world : World) (path : List ℕ) (come
   reply_promise told disk disk_after loads loads_after reached output Ended is tells done (inl has) =
       run_promise job has.job told world disk.history disk_after.history Ended is
       (laws.one (file_at world) path has.job.parts job.parts (at_world told world (λ w. ComesTo (file_at w) path (Ok has.job.parts)) is has.comes) comes)
-      (has.ran.run tells) has.ran.sound_has (λ ended. has.ran.acked (how_done _ _ _ (done ended) has.ran.reply.reached_is) tells)
+      (has.ran.keeps.run tells) has.ran.keeps.sound_has (λ ended. has.ran.keeps.acked (how_done _ _ _ (done ended) has.ran.reply.reached_is) tells)
   reply_promise told disk disk_after loads loads_after reached output Ended is tells done (inr none) =
       subst (λ (after : DiskState). KeepsItsPromise job world disk.history after.history Ended) (sym none.untouched)
       (still_promise job world disk.history Ended (λ ended. job_not_done reached none.kind (done ended)))
@@ -198,7 +199,7 @@ module _ (laws : OneJob) (job : JobData) (world : World) (path : List ℕ) (come
   crew_promise world_of faults loads same workers scans scans_after disk disk_after reached output Ended is tells done (inl has) =
       run_promise job has.job (told_by world_of scans) world disk.history disk_after.history Ended is
       (laws.one (file_at world) path has.job.parts job.parts (at_world (told_by world_of scans) world (λ w. ComesTo (file_at w) path (Ok has.job.parts)) is has.comes) comes)
-      (has.ran.run tells) has.ran.sound_has (λ ended. has.ran.acked (how_done _ _ _ (done ended) has.ran.reply.reached_is) tells)
+      (has.ran.keeps.run tells) has.ran.keeps.sound_has (λ ended. has.ran.keeps.acked (how_done _ _ _ (done ended) has.ran.reply.reached_is) tells)
   crew_promise world_of faults loads same workers scans scans_after disk disk_after reached output Ended is tells done (inr none) =
       subst (λ (after : DiskState). KeepsItsPromise job world disk.history after.history Ended) (sym none.untouched)
       (still_promise job world disk.history Ended (λ ended. job_not_done reached none.kind (done ended)))
@@ -269,7 +270,7 @@ answered_adoption laws words scan scan_after folders folders_after sink sink_aft
 
 -- by the answer of a crew
 pub crew_answered_promise : (laws : OneJob) {S : Type 0} (world_of : S → Option World) (faults loads : S → ℕ) (same : S → S → Type 0) (path : List ℕ) (workers : ℕ) (scans scans_after : List S) (disk disk_after : DiskState) (sink sink_after : SinkState) (result : Outcome)
-    → CrewAnswered world_of faults loads same path workers scans scans_after disk disk_after sink sink_after result
+    → AnsweredByCrew world_of faults loads same path workers scans scans_after disk disk_after sink sink_after result
     → (world : World) (job : JobData) → told_by world_of scans ≡ Some world → disk.tells ≡ true → ComesTo (file_at world) path (Ok job.parts)
     → KeepsItsPromise job world disk.history disk_after.history (HasEnded result)
 crew_answered_promise laws world_of faults loads same path workers scans scans_after disk disk_after sink sink_after result answered world job is tells comes = elim answered.crewed [

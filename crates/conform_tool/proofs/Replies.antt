@@ -24,7 +24,7 @@ use Rattle.project_run.specs.Look.{IsOfLook}
 use Rattle.project_run.specs.Verify.{IsOfVerify}
 use Rattle.conform_tool.specs.ByFile.{ByFile, IsRightBy}
 use Rattle.conform_tool.specs.Commands.{meaning_of}
-use Rattle.conform_tool.specs.Reply.{CallsDisk, IsKindOf, IsReply}
+use Rattle.conform_tool.specs.Reply.{CallsDisk, IsKindOf, IsReplyOverScan}
 use Rattle.conform_tool.specs.States.{ScanState}
 use Rattle.command_words.specs.declared.command.Command.{Command}
 use Rattle.command_words.specs.declared.command.Command.TheVariants as commands
@@ -101,7 +101,7 @@ pub reply_of : (command : Command) (before after : ScanState) (reached : Outcome
     → (reached ≢ SourceFault → after.faults ≡ before.faults)
     → before.faults ≤ after.faults → (meaning_of command).HasLoaded before after reached
     → (meaning_of command).LooksAtHeads before after reached → after.world ≡ before.world
-    → IsReply command before after reached output
+    → IsReplyOverScan command before after reached output
 reply_of command before after reached output kind right line cause steady later loads heads world = record {
   right = right;
   line = line;

@@ -6,14 +6,14 @@ use Rattle.command_words.specs.declared.command.Command.TheVariants as commands
 use Rattle.outcome_line.specs.Output.{line_of}
 use Rattle.outcome_line.specs.declared.outcome.Outcome.{Outcome}
 use Rattle.outcome_line.specs.declared.outcome.Outcome.TheVariants as outcomes
-use Rattle.project_run.specs.Run.{Reaches}
+use Rattle.project_run.specs.Calls.{Replies}
 use Rattle.conform_tool.specs.Commands.{meaning_of}
-use Rattle.conform_tool.specs.Reply.{IsKindOf, IsReply, IsWholeReply}
+use Rattle.conform_tool.specs.Reply.{IsKindOf, IsReplyOverScan, IsReplyOverFolders}
 use Rattle.conform_tool.specs.States.{Folders, House, ScanState}
 
 module _ (house : House) (kind : Command) (scan scan_after : ScanState) (folders : Folders) (no_disk : IsKindOf kind outcomes.DiskFault → ⊥)
     (leaves : (reached : Outcome) (output : List ℕ) → (meaning_of kind).UsesDisk house scan scan_after folders folders reached output) where
-  unmoved : (reached : Outcome) (output : List ℕ) → IsReply kind scan scan_after reached output → IsWholeReply house kind scan scan_after folders folders reached output
+  unmoved : (reached : Outcome) (output : List ℕ) → IsReplyOverScan kind scan scan_after reached output → IsReplyOverFolders house kind scan scan_after folders folders reached output
   unmoved reached output reply = record {
     reply = reply;
     folder = leaves reached output;
@@ -25,20 +25,20 @@ module _ (house : House) (kind : Command) (scan scan_after : ScanState) (folders
     old_later = omega arith;
   }
 
-  reached_unmoved : (result : Result (Vec ℕ Global) Outcome) → Reaches result (IsReply kind scan scan_after) → Reaches result (IsWholeReply house kind scan scan_after folders folders)
+  reached_unmoved : (result : Result (Vec ℕ Global) Outcome) → Replies result (IsReplyOverScan kind scan scan_after) → Replies result (IsReplyOverFolders house kind scan scan_after folders folders)
   reached_unmoved (Ok text) reply = unmoved outcomes.Done text.items reply
   reached_unmoved (Err outcome) reply = unmoved outcome (line_of outcome) reply
 
   -- of a command that is of this kind
   replied_unmoved : (command : Command) (result : Result (Vec ℕ Global) Outcome) → command ≡ kind
-      → Reaches result (IsReply kind scan scan_after) → Reaches result (IsWholeReply house command scan scan_after folders folders)
+      → Replies result (IsReplyOverScan kind scan scan_after) → Replies result (IsReplyOverFolders house command scan scan_after folders folders)
   replied_unmoved command result same reply =
-      subst (λ c. Reaches result (IsWholeReply house c scan scan_after folders folders)) (sym same) (reached_unmoved result reply)
+      subst (λ c. Replies result (IsReplyOverFolders house c scan scan_after folders folders)) (sym same) (reached_unmoved result reply)
 
 pub plan_replied : (house : House) (command : Command) (path : List ℕ) (scan scan_after : ScanState) (folders : Folders) (result : Result (Vec ℕ Global) Outcome) → command ≡ commands.Plan path
-    → Reaches result (IsReply (commands.Plan path) scan scan_after) → Reaches result (IsWholeReply house command scan scan_after folders folders)
+    → Replies result (IsReplyOverScan (commands.Plan path) scan scan_after) → Replies result (IsReplyOverFolders house command scan scan_after folders folders)
 plan_replied house command path scan scan_after folders = replied_unmoved house (commands.Plan path) scan scan_after folders (λ none. none) (λ reached output. refl) command
 
 pub pull_replied : (house : House) (command : Command) (path : List ℕ) (margin : ℕ) (scan scan_after : ScanState) (folders : Folders) (result : Result (Vec ℕ Global) Outcome) → command ≡ commands.Pull path margin
-    → Reaches result (IsReply (commands.Pull path margin) scan scan_after) → Reaches result (IsWholeReply house command scan scan_after folders folders)
+    → Replies result (IsReplyOverScan (commands.Pull path margin) scan scan_after) → Replies result (IsReplyOverFolders house command scan scan_after folders folders)
 pull_replied house command path margin scan scan_after folders = replied_unmoved house (commands.Pull path margin) scan scan_after folders (λ none. none) (λ reached output. refl) command

@@ -1,6 +1,6 @@
 -- What the top call answers and puts.
 --     texts_of words      what the words say
---     SinkState, sink_state      what a sink tells at a moment, and its count
+--     SinkState, sink_state, OnSink      what a sink tells at a moment, and its count; and what was made of one
 --     IsUnread      an outcome that was reached before anything was read
 --     IsUncalled Calls words      the words spell no command that makes such calls
 --     Answered      the answer to these words, over one scan and the two folders, in this house
@@ -11,7 +11,7 @@ use Rattle.cf_base.specs.Count.{HasRisen}
 use Rattle.cf_base.specs.Sink.{AppendsPrefix}
 use Rattle.command_words.specs.Commands.{Spells, IsNoCommand}
 use Rattle.outcome_line.specs.Output.{status_of, line_of, IsMade}
-use Rattle.conform_tool.specs.Reply.{IsWholeReply}
+use Rattle.conform_tool.specs.Reply.{IsReplyOverFolders}
 use Rattle.conform_tool.specs.States.{Folders, House, ScanState}
 use Rattle.command_words.specs.declared.command.Command.{Command}
 use Rattle.outcome_line.specs.declared.outcome.Outcome.{Outcome}
@@ -26,6 +26,10 @@ pub record SinkState : Type 0 where
 
 abbrev pub sink_state : {K : Type 0} → (K → Option (List ℕ)) → (K → ℕ) → K → SinkState
 sink_state written faults sink = record { written = written sink; faults = faults sink }
+
+-- what was made of a sink, by its meanings: this is so of the sink before and of the sink after
+abbrev pub OnSink : {K : Type 0} {A : Type 1} → (K → Option (List ℕ)) → (K → ℕ) → (before after : K) → (SinkState → SinkState → A) → A
+OnSink written faults before after Made = Made (sink_state written faults before) (sink_state written faults after)
 
 -- The output of the outcome that was reached stands behind what the sink had, and the outcome is answered. Or the sink failed,
 -- a prefix of the output stands there, and the answer keeps the outcome's status.
@@ -63,4 +67,4 @@ pub record Answered (house : House) (words : List (List ℕ)) (scan scan_after :
   pub usage : reached ≡ Usage → IsNoCommand words
   pub no_command : IsNoCommand words → IsUnread Usage scan scan_after folders folders_after reached output ⊎ IsUnread NoMemory scan scan_after folders folders_after reached output
   -- words of a command: its reply, or no memory was left to read them
-  pub reply : (command : Command) → Spells words command → IsWholeReply house command scan scan_after folders folders_after reached output ⊎ IsUnread NoMemory scan scan_after folders folders_after reached output
+  pub reply : (command : Command) → Spells words command → IsReplyOverFolders house command scan scan_after folders folders_after reached output ⊎ IsUnread NoMemory scan scan_after folders folders_after reached output

@@ -8,7 +8,7 @@ use Rattle.reel_disk.specs.Disk.{view_of}
 use Rattle.resume_ledger.specs.Ledger.{IsFit}
 use Rattle.reel_writer.specs.Reel.{frames_of}
 use Rattle.project_job.specs.Jobs.{ComesTo}
-use Rattle.project_run.specs.Run.{DiskState}
+use Rattle.project_run.specs.Calls.{DiskState}
 use Rattle.project_adopt.specs.Adopt.{IsOldSound}
 
 -- It comes to a job, and the folder is unsealed or has this job's ledger.

@@ -1,7 +1,7 @@
 -- What the top call answers to the words of a run with several workers.
 --     IsAlone words      the words are no such run
 --     IsFirst scans scan      the scan is the first of them
---     CrewAnswered      the answer to them, over all scans
+--     AnsweredByCrew      the answer to them, over all scans
 use Rattle.std.specs.Prelude.{◌≡◌, ◌≢◌, ◌⊎◌, ℕ, ◌≤◌, List, slice_get, Option, Some}
 use Rattle.cf_base.specs.Count.{HasRisen}
 use Rattle.scan_source.specs.World.{World}
@@ -11,7 +11,8 @@ use Rattle.outcome_line.specs.Output.{line_of}
 use Rattle.outcome_line.specs.declared.outcome.Outcome.{Outcome}
 use Rattle.outcome_line.specs.declared.outcome.Outcome.TheVariants.{Done, SourceFault, DiskFault, NoMemory}
 use Rattle.project_crew.specs.Crew.{HasFailed, IsCrewReply}
-use Rattle.project_run.specs.Run.{DiskState, IsOfRun}
+use Rattle.project_run.specs.Calls.{DiskState}
+use Rattle.project_run.specs.Run.{IsOfRun}
 use Rattle.conform_tool.specs.Answer.{SinkState, IsPut}
 
 abbrev pub IsAlone : List (List ℕ) → Type 0
@@ -22,7 +23,7 @@ IsFirst scans scan = slice_get scans 0 ≡ Some scan
 
 module _ {S : Type 0} (world : S → Option World) (faults loads : S → ℕ) (same : S → S → Type 0) where
   -- The run came to this outcome with this output, and each fault has its cause.
-  pub record IsCrewed (path : List ℕ) (workers : ℕ) (scans scans_after : List S) (disk disk_after : DiskState) (reached : Outcome) (output : List ℕ) : Type 0 where
+  pub record IsCausedByCrew (path : List ℕ) (workers : ℕ) (scans scans_after : List S) (disk disk_after : DiskState) (reached : Outcome) (output : List ℕ) : Type 0 where
     pub reply : IsCrewReply world faults loads same path workers scans scans_after disk disk_after reached output
     pub line : reached ≢ Done → output ≡ line_of reached
     pub kind : (reached ≡ Done) ⊎ IsOfRun reached
@@ -37,8 +38,8 @@ module _ {S : Type 0} (world : S → Option World) (faults loads : S → ℕ) (s
     pub untouched_scans : scans_after ≡ scans
     pub untouched_disk : disk_after ≡ disk
 
-  pub record CrewAnswered (path : List ℕ) (workers : ℕ) (scans scans_after : List S) (disk disk_after : DiskState) (sink sink_after : SinkState) (result : Outcome) : Type 0 where
+  pub record AnsweredByCrew (path : List ℕ) (workers : ℕ) (scans scans_after : List S) (disk disk_after : DiskState) (sink sink_after : SinkState) (result : Outcome) : Type 0 where
     pub reached : Outcome
     pub output : List ℕ
     pub put : IsPut sink sink_after reached output result
-    pub crewed : IsCrewed path workers scans scans_after disk disk_after reached output ⊎ WereUnread scans scans_after disk disk_after reached output
+    pub crewed : IsCausedByCrew path workers scans scans_after disk disk_after reached output ⊎ WereUnread scans scans_after disk disk_after reached output

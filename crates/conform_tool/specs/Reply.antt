@@ -1,8 +1,8 @@
 -- What a command that was spelled comes to.
 --     CallsDisk, CallsOld command      it makes calls on the folder of the reel, on that of an old reel
 --     IsKindOf command outcome      the outcomes that it may come to
---     IsReply command before after reached output      the command came to this outcome with this output
---     IsWholeReply house      the same, with what it did to the folders, in this house
+--     IsReplyOverScan command before after reached output      the command came to this outcome with this output
+--     IsReplyOverFolders house      the same, with what it did to the folders, in this house
 use Rattle.std.specs.Prelude.{◌≡◌, ◌≢◌, ◌≤◌, ℕ, List}
 use Rattle.cf_base.specs.Count.{HasRisen}
 use Rattle.outcome_line.specs.Output.{line_of}
@@ -37,7 +37,7 @@ IsKindOf command (OldOtherJob kept wanted) = CallsOld command
 IsKindOf command (OldBadLedger len) = CallsOld command
 IsKindOf command other = CallsDisk command
 
-pub record IsReply (command : Command) (before after : ScanState) (reached : Outcome) (output : List ℕ) : Type 0 where
+pub record IsReplyOverScan (command : Command) (before after : ScanState) (reached : Outcome) (output : List ℕ) : Type 0 where
   pub right : (meaning_of command).IsRight reached output before after
   pub line : reached ≢ Done → output ≡ line_of reached
   -- causes
@@ -51,8 +51,8 @@ pub record IsReply (command : Command) (before after : ScanState) (reached : Out
   pub world : after.world ≡ before.world
 
 -- The reply of a command, with what it did to the folders, whose fault has its cause.
-pub record IsWholeReply (house : House) (command : Command) (before after : ScanState) (folders folders_after : Folders) (reached : Outcome) (output : List ℕ) : Type 0 where
-  pub reply : IsReply command before after reached output
+pub record IsReplyOverFolders (house : House) (command : Command) (before after : ScanState) (folders folders_after : Folders) (reached : Outcome) (output : List ℕ) : Type 0 where
+  pub reply : IsReplyOverScan command before after reached output
   pub folder : (meaning_of command).UsesDisk house before after folders folders_after reached output
   pub old_folder : (CallsOld command → ⊥) → folders_after.old ≡ folders.old
   pub disk_fault : reached ≡ DiskFault → (meaning_of command).HasFailedDisk folders folders_after

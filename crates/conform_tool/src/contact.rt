@@ -1,10 +1,9 @@
 //! The command `sheet`.
-ghost use Rattle.std.specs.Prelude.{◌≡◌, ◌≢◌, ◌≤◌, Err, IfErr};
-ghost use Rattle.cf_base.specs.Count.{HasRisen};
-ghost use Rattle.conform_tool.specs.Reply.{IsReply};
-ghost use Rattle.conform_tool.specs.States.{scan_state};
+ghost use Rattle.std.specs.Prelude.{◌≡◌, Err, IfErr};
+ghost use Rattle.conform_tool.specs.Reply.{IsReplyOverScan};
+ghost use Rattle.conform_tool.specs.States.{OnScan};
 ghost use Rattle.project_run.specs.Sheet.{IsSheetReply};
-ghost use Rattle.project_run.specs.Run.{IsLeftAlone, Reaches, disk_state};
+ghost use Rattle.project_run.specs.Calls.{IsLeftAlone, LeavesDisk, OnDisk, Replies};
 ghost use Rattle.command_words.specs.declared.command.Command.TheVariants as commands;
 
 use cf_base::PathText;
@@ -23,15 +22,11 @@ pub fn sheet<S: Scans, D: Disk>(
     disk: &mut D,
     tone: &Tone,
 ) -> Result<Vec<u8>, Outcome>
-    ensures reply { Reaches result (IsReply (commands.Sheet path.now)
-        (scan_state S.world S.faults S.loads S.heads scan.old) (scan_state S.world S.faults S.loads S.heads scan.new)) }
-    ensures folder { Reaches result (IsSheetReply tone.now.table (S.world scan.old) path.now
-        (disk_state D.tells D.history D.faults disk.old) (disk_state D.tells D.history D.faults disk.new)
-        (S.loads scan.old) (S.loads scan.new)) }
-    ensures disk_fault { result ≡ Err Outcome.DiskFault → HasRisen (D.faults disk.old) (D.faults disk.new) }
-    ensures disk_steady { result ≢ Err Outcome.DiskFault → D.faults disk.new ≡ D.faults disk.old }
-    ensures disk_later { D.faults disk.old ≤ D.faults disk.new }
-    ensures disk_same { D.loans disk.new ≡ D.loans disk.old }
+    ensures reply { Replies result (OnScan S.world S.faults S.loads S.heads scan.old scan.new
+        (IsReplyOverScan (commands.Sheet path.now))) }
+    ensures folder { Replies result (OnDisk D.tells D.history D.faults disk.old disk.new
+        (λ was is. IsSheetReply tone.now.table (S.world scan.old) path.now was is (S.loads scan.old) (S.loads scan.new))) }
+    ensures disk { LeavesDisk D.faults D.loans (result ≡ Err Outcome.DiskFault) disk.old disk.new }
     ensures untouched { IfErr result (IsLeftAlone disk.old disk.new) }
     ensures same { S.same scan.old scan.new }
 {

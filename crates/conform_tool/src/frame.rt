@@ -1,14 +1,14 @@
 //! The command `frame`.
-ghost use Rattle.std.specs.Prelude.{◌≡◌, ◌+◌, ◌*◌, ◌≤◌, ◌++◌, min, length, IfOk, IfErr, IsOkAnd, Err};
+ghost use Rattle.std.specs.Prelude.{◌≡◌, ◌+◌, ◌*◌, ◌≤◌, ◌++◌, min, length, IfOk, IsOkAnd, Err};
 ghost use Rattle.std.specs.List.{flat_map};
 ghost use Rattle.byteorder.specs.Endian.{big_bytes};
 ghost use Rattle.dpx_header.specs.Frame.{IsFrame, need_of};
 ghost use Rattle.dpx_header.specs.Writing.{header_of};
 ghost use Rattle.dpx_pack.specs.Pixels.{pixels};
-ghost use Rattle.project_run.specs.Run.{Reaches};
+ghost use Rattle.project_run.specs.Calls.{Replies};
 ghost use Rattle.conform_tool.specs.Commands.Frame.{frame_head, frame_form};
-ghost use Rattle.conform_tool.specs.Reply.{IsReply};
-ghost use Rattle.conform_tool.specs.States.{scan_state};
+ghost use Rattle.conform_tool.specs.Reply.{IsReplyOverScan};
+ghost use Rattle.conform_tool.specs.States.{OnScan};
 ghost use Rattle.command_words.specs.declared.command.Command.TheVariants as commands;
 ghost use Rattle.scan_source.specs.Answers.{first_bytes};
 ghost use Rattle.dpx_header.specs.Reading.{info_of};
@@ -28,8 +28,8 @@ const MOST: u64 = 84_914_180;
 
 /// The pixels of the file at a path, under a new header: the whole file that is put, or the outcome that was reached.
 pub fn frame<S: Scans>(alloc: Global, path: &PathText, scan: &mut S) -> Result<Vec<u8>, Outcome>
-    ensures reply { Reaches result (IsReply (commands.Frame path.now)
-        (scan_state S.world S.faults S.loads S.heads scan.old) (scan_state S.world S.faults S.loads S.heads scan.new)) }
+    ensures reply { Replies result (OnScan S.world S.faults S.loads S.heads scan.old scan.new
+        (IsReplyOverScan (commands.Frame path.now))) }
     ensures same { S.same scan.old scan.new }
 {
     let front = match load(alloc, path, MOST, Which::Frame, scan) {

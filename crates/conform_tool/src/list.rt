@@ -1,10 +1,10 @@
 //! The command `list`.
-ghost use Rattle.std.specs.Prelude.{◌≡◌, ◌≤◌, IfOk, IsOkAnd, Err};
+ghost use Rattle.std.specs.Prelude.{◌≡◌, IfOk, IsOkAnd, Err};
 ghost use Rattle.edl_events.specs.Lists.{list_of};
-ghost use Rattle.project_run.specs.Run.{Reaches};
+ghost use Rattle.project_run.specs.Calls.{Replies};
 ghost use Rattle.conform_tool.specs.Faults.{IfFault};
-ghost use Rattle.conform_tool.specs.Reply.{IsReply};
-ghost use Rattle.conform_tool.specs.States.{scan_state};
+ghost use Rattle.conform_tool.specs.Reply.{IsReplyOverScan};
+ghost use Rattle.conform_tool.specs.States.{OnScan};
 ghost use Rattle.printed_tables.specs.Table.{event_table};
 ghost use Rattle.command_words.specs.declared.command.Command.TheVariants as commands;
 
@@ -23,8 +23,8 @@ pub fn list<S: Scans>(
     rate: Rate,
     scan: &mut S,
 ) -> Result<Vec<u8>, Outcome>
-    ensures reply { Reaches result (IsReply (commands.List path.now rate)
-        (scan_state S.world S.faults S.loads S.heads scan.old) (scan_state S.world S.faults S.loads S.heads scan.new)) }
+    ensures reply { Replies result (OnScan S.world S.faults S.loads S.heads scan.old scan.new
+        (IsReplyOverScan (commands.List path.now rate))) }
     ensures same { S.same scan.old scan.new }
 {
     let front = match load(alloc, path, MOST_LIST, Which::List, scan) {

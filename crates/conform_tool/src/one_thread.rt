@@ -3,13 +3,13 @@ ghost use Rattle.std.specs.Prelude.{◌≡◌, ◌≤◌, ℕ, List, length, map
 ghost use Rattle.conform_job.specs.Job.{JobData};
 ghost use Rattle.scan_source.specs.World.{World};
 ghost use Rattle.reel_disk.specs.Disk.{view_of};
-ghost use Rattle.conform_tool.specs.Answer.{Answered, IsFoundIn, IsLinePut, IsPut, IsUncalled, sink_state, texts_of};
+ghost use Rattle.conform_tool.specs.Answer.{Answered, IsFoundIn, IsLinePut, IsPut, IsUncalled, OnSink, texts_of};
 ghost use Rattle.conform_tool.specs.Complete.{IsAccepted, IsComplete, IsUnfailed, NoCallFailed};
 ghost use Rattle.conform_tool.specs.Headline.{AdoptsJob, RunsJob, KeepsItsPromise, HasEnded};
-ghost use Rattle.conform_tool.specs.Reply.{CallsDisk, CallsOld, IsWholeReply};
-ghost use Rattle.conform_tool.specs.States.{folders_of, house_of, scan_state};
+ghost use Rattle.conform_tool.specs.Reply.{CallsDisk, CallsOld, IsReplyOverFolders};
+ghost use Rattle.conform_tool.specs.States.{OnFolders, OnScan, folders_of, house_of};
 ghost use Rattle.command_words.specs.Commands.{HasCounts, IsNoCommand, Spells};
-ghost use Rattle.project_run.specs.Run.{IsLeftAlone, Reaches};
+ghost use Rattle.project_run.specs.Calls.{IsLeftAlone, Replies};
 
 use crate::adoption::adopt;
 use crate::contact::sheet;
@@ -47,10 +47,9 @@ pub fn answer<S: Scans, D: Disk, K: Sink>(
     tone: &Tone,
 ) -> Outcome
     requires few { length probes.now ≤ 16 }
-    ensures answered { Answered (house_of (map (λ p. p.kind) probes.now) tone.now.table) (texts_of words.now)
-        (scan_state S.world S.faults S.loads S.heads scan.old) (scan_state S.world S.faults S.loads S.heads scan.new)
-        (folders_of D.tells D.history D.faults disk.old old.old) (folders_of D.tells D.history D.faults disk.new old.new)
-        (sink_state K.written K.faults out.old) (sink_state K.written K.faults out.new) result }
+    ensures answered { OnSink K.written K.faults out.old out.new (OnFolders D.tells D.history D.faults disk.old old.old disk.new old.new
+        (OnScan S.world S.faults S.loads S.heads scan.old scan.new
+        (Answered (house_of (map (λ p. p.kind) probes.now) tone.now.table) (texts_of words.now)))) result }
     ensures later { K.faults out.old ≤ K.faults out.new }
     ensures same { S.same scan.old scan.new }
 
@@ -103,10 +102,9 @@ pub(crate) fn answer_found<S: Scans, D: Disk, K: Sink, C: Counter>(
     requires ready { C.ready }
     requires counts { IfSome found HasCounts }
     ensures answered { (words : List (List ℕ)) → IsFoundIn words found
-        → Answered (house_of (map (λ p. p.kind) probes.now) tone.now.table) words
-        (scan_state S.world S.faults S.loads S.heads scan.old) (scan_state S.world S.faults S.loads S.heads scan.new)
-        (folders_of D.tells D.history D.faults disk.old old.old) (folders_of D.tells D.history D.faults disk.new old.new)
-        (sink_state K.written K.faults out.old) (sink_state K.written K.faults out.new) result }
+        → OnSink K.written K.faults out.old out.new (OnFolders D.tells D.history D.faults disk.old old.old disk.new old.new
+        (OnScan S.world S.faults S.loads S.heads scan.old scan.new
+        (Answered (house_of (map (λ p. p.kind) probes.now) tone.now.table) words))) result }
     ensures later { K.faults out.old ≤ K.faults out.new }
     ensures same { S.same scan.old scan.new }
     ensures untouched { IsLeftAlone disk.old disk.new result }
@@ -139,9 +137,9 @@ fn carried_out<S: Scans, D: Disk, C: Counter>(
 ) -> Result<Vec<u8>, Outcome>
     requires ready { C.ready }
     requires counts { HasCounts command.now }
-    ensures reply { Reaches result (IsWholeReply (house_of (map (λ p. p.kind) probes.now) tone.now.table) command.now
-        (scan_state S.world S.faults S.loads S.heads scan.old) (scan_state S.world S.faults S.loads S.heads scan.new)
-        (folders_of D.tells D.history D.faults disk.old old.old) (folders_of D.tells D.history D.faults disk.new old.new)) }
+    ensures reply { Replies result (OnFolders D.tells D.history D.faults disk.old old.old disk.new old.new
+        (OnScan S.world S.faults S.loads S.heads scan.old scan.new
+        (IsReplyOverFolders (house_of (map (λ p. p.kind) probes.now) tone.now.table) command.now))) }
     ensures same { S.same scan.old scan.new }
     ensures untouched { IfErr result (IsLeftAlone disk.old disk.new) }
     ensures old_untouched { IfErr result (IsLeftAlone old.old old.new) }
@@ -178,9 +176,8 @@ pub(crate) fn put_result<K: Sink>(
     reached: &Result<Vec<u8>, Outcome>,
     out: &mut K,
 ) -> Outcome
-    ensures put { MatchResult reached.now
-        (λ output. IsPut (sink_state K.written K.faults out.old) (sink_state K.written K.faults out.new) Outcome.Done output.items result)
-        (λ outcome. IsLinePut (sink_state K.written K.faults out.old) (sink_state K.written K.faults out.new) outcome result) }
+    ensures put { OnSink K.written K.faults out.old out.new (λ was is. MatchResult reached.now
+        (λ output. IsPut was is Outcome.Done output.items result) (λ outcome. IsLinePut was is outcome result)) }
     ensures later { K.faults out.old ≤ K.faults out.new }
 {
     match reached {
@@ -191,7 +188,7 @@ pub(crate) fn put_result<K: Sink>(
 
 /// Puts the line of an outcome. One whose line is made and finds no memory becomes NoMemory.
 pub(crate) fn put_line<K: Sink>(alloc: Global, outcome: &Outcome, out: &mut K) -> Outcome
-    ensures put { IsLinePut (sink_state K.written K.faults out.old) (sink_state K.written K.faults out.new) outcome.now result }
+    ensures put { OnSink K.written K.faults out.old out.new IsLinePut outcome.now result }
     ensures later { K.faults out.old ≤ K.faults out.new }
 {
     match made_line(alloc, outcome) {
@@ -207,7 +204,7 @@ pub(crate) fn put_line<K: Sink>(alloc: Global, outcome: &Outcome, out: &mut K) -
 
 /// Puts the output of an outcome, in one piece.
 fn put<K: Sink>(output: &[u8], reached: &Outcome, out: &mut K) -> Outcome
-    ensures put { IsPut (sink_state K.written K.faults out.old) (sink_state K.written K.faults out.new) reached.now output.now result }
+    ensures put { OnSink K.written K.faults out.old out.new IsPut reached.now output.now result }
     ensures later { K.faults out.old ≤ K.faults out.new }
 {
     match out.put(output) {

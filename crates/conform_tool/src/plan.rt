@@ -1,7 +1,7 @@
 //! The command `plan`.
-ghost use Rattle.project_run.specs.Run.{Reaches};
-ghost use Rattle.conform_tool.specs.Reply.{IsReply};
-ghost use Rattle.conform_tool.specs.States.{scan_state};
+ghost use Rattle.project_run.specs.Calls.{Replies};
+ghost use Rattle.conform_tool.specs.Reply.{IsReplyOverScan};
+ghost use Rattle.conform_tool.specs.States.{OnScan};
 ghost use Rattle.command_words.specs.declared.command.Command.TheVariants as commands;
 
 use cf_base::PathText;
@@ -13,8 +13,8 @@ use std::alloc::Global;
 
 /// The plan of the job of the project at a path, or the outcome that was reached.
 pub fn plan<S: Scans>(alloc: Global, path: &PathText, scan: &mut S) -> Result<Vec<u8>, Outcome>
-    ensures reply { Reaches result (IsReply (commands.Plan path.now)
-        (scan_state S.world S.faults S.loads S.heads scan.old) (scan_state S.world S.faults S.loads S.heads scan.new)) }
+    ensures reply { Replies result (OnScan S.world S.faults S.loads S.heads scan.old scan.new
+        (IsReplyOverScan (commands.Plan path.now))) }
     ensures same { S.same scan.old scan.new }
 {
     let job = match planned(alloc, path, scan) {

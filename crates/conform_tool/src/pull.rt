@@ -1,9 +1,9 @@
 //! The command `pull`.
 ghost use Rattle.std.specs.Prelude.{◌≤◌, IfOk};
-ghost use Rattle.project_run.specs.Run.{Reaches};
+ghost use Rattle.project_run.specs.Calls.{Replies};
 ghost use Rattle.conform_tool.specs.Commands.Pull.{IsPullForm};
-ghost use Rattle.conform_tool.specs.Reply.{IsReply};
-ghost use Rattle.conform_tool.specs.States.{scan_state};
+ghost use Rattle.conform_tool.specs.Reply.{IsReplyOverScan};
+ghost use Rattle.conform_tool.specs.States.{OnScan};
 ghost use Rattle.command_words.specs.declared.command.Command.TheVariants as commands;
 ghost use Rattle.project_job.specs.Jobs.{AreCounted};
 
@@ -23,8 +23,8 @@ pub fn pull<S: Scans>(
     scan: &mut S,
 ) -> Result<Vec<u8>, Outcome>
     requires { margin ≤ 1000 }
-    ensures reply { Reaches result (IsReply (commands.Pull path.now margin)
-        (scan_state S.world S.faults S.loads S.heads scan.old) (scan_state S.world S.faults S.loads S.heads scan.new)) }
+    ensures reply { Replies result (OnScan S.world S.faults S.loads S.heads scan.old scan.new
+        (IsReplyOverScan (commands.Pull path.now margin))) }
     ensures same { S.same scan.old scan.new }
 {
     let job = match planned(alloc, path, scan) {

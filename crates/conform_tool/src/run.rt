@@ -1,10 +1,10 @@
 //! The command `run`, on one thread.
-ghost use Rattle.std.specs.Prelude.{◌≡◌, ◌≢◌, ◌≤◌, Err, IfErr};
-ghost use Rattle.cf_base.specs.Count.{HasRisen};
+ghost use Rattle.std.specs.Prelude.{◌≡◌, Err, IfErr};
 ghost use Rattle.command_words.specs.Lines.{HasCount};
-ghost use Rattle.conform_tool.specs.Reply.{IsReply};
-ghost use Rattle.conform_tool.specs.States.{scan_state};
-ghost use Rattle.project_run.specs.Run.{IsLeftAlone, IsRunReply, Reaches, disk_state};
+ghost use Rattle.conform_tool.specs.Reply.{IsReplyOverScan};
+ghost use Rattle.conform_tool.specs.States.{OnScan};
+ghost use Rattle.project_run.specs.Calls.{IsLeftAlone, LeavesDisk, OnDisk, Replies};
+ghost use Rattle.project_run.specs.Run.{IsRunReply};
 ghost use Rattle.command_words.specs.declared.command.Command.TheVariants as commands;
 
 use cf_base::PathText;
@@ -24,15 +24,11 @@ pub fn run<S: Scans, D: Disk>(
     disk: &mut D,
 ) -> Result<Vec<u8>, Outcome>
     requires { HasCount share }
-    ensures reply { Reaches result (IsReply (commands.Run path.now workers share)
-        (scan_state S.world S.faults S.loads S.heads scan.old) (scan_state S.world S.faults S.loads S.heads scan.new)) }
-    ensures folder { Reaches result (IsRunReply (S.world scan.old) path.now share
-        (disk_state D.tells D.history D.faults disk.old) (disk_state D.tells D.history D.faults disk.new)
-        (S.loads scan.old) (S.loads scan.new)) }
-    ensures disk_fault { result ≡ Err Outcome.DiskFault → HasRisen (D.faults disk.old) (D.faults disk.new) }
-    ensures disk_steady { result ≢ Err Outcome.DiskFault → D.faults disk.new ≡ D.faults disk.old }
-    ensures disk_later { D.faults disk.old ≤ D.faults disk.new }
-    ensures disk_same { D.loans disk.new ≡ D.loans disk.old }
+    ensures reply { Replies result (OnScan S.world S.faults S.loads S.heads scan.old scan.new
+        (IsReplyOverScan (commands.Run path.now workers share))) }
+    ensures folder { Replies result (OnDisk D.tells D.history D.faults disk.old disk.new
+        (λ was is. IsRunReply (S.world scan.old) path.now share was is (S.loads scan.old) (S.loads scan.new))) }
+    ensures disk { LeavesDisk D.faults D.loans (result ≡ Err Outcome.DiskFault) disk.old disk.new }
     ensures untouched { IfErr result (IsLeftAlone disk.old disk.new) }
     ensures same { S.same scan.old scan.new }
 {

@@ -4,15 +4,15 @@ ghost use Rattle.command_words.specs.Commands.{HasCounts, Spells};
 ghost use Rattle.command_words.specs.Lines.{HasCount};
 ghost use Rattle.command_words.specs.declared.command.Command.TheVariants as commands;
 ghost use Rattle.reel_disk.specs.Disk.{view_of};
-ghost use Rattle.conform_tool.specs.Answer.{Answered, IsFoundIn, IsUncalled, sink_state, texts_of};
-ghost use Rattle.conform_tool.specs.Conform.{CrewAnswered, IsAlone, IsFirst};
+ghost use Rattle.conform_tool.specs.Answer.{Answered, IsFoundIn, IsUncalled, OnSink, texts_of};
+ghost use Rattle.conform_tool.specs.Conform.{AnsweredByCrew, IsAlone, IsFirst};
 ghost use Rattle.conform_tool.specs.Complete.{IsAccepted, IsComplete, IsUnfailed, NoCallFailed};
 ghost use Rattle.conform_tool.specs.Headline.{AdoptsJob, RunsJob, KeepsItsPromise, HasEnded};
 ghost use Rattle.conform_tool.specs.Reply.{CallsDisk, CallsOld};
-ghost use Rattle.conform_tool.specs.States.{folders_of, house_of, scan_state};
+ghost use Rattle.conform_tool.specs.States.{OnFolders, OnScan, folders_of, house_of};
 ghost use Rattle.conform_job.specs.Job.{JobData};
 ghost use Rattle.project_crew.specs.Crew.{HasFailed, told_by};
-ghost use Rattle.project_run.specs.Run.{IsLeftAlone, disk_state};
+ghost use Rattle.project_run.specs.Calls.{IsLeftAlone, OnDisk};
 ghost use Rattle.scan_source.specs.World.{World};
 
 use crate::one_thread::{answer_found, put_line, put_result};
@@ -62,16 +62,14 @@ pub fn conform<S: Scans + Send, D: Disk + Send, K: Sink, R: Threads + Wait + Syn
     // A run with several workers.
     ensures crew { (path : List ℕ) (workers share : ℕ) → Spells (texts_of words.now) (commands.Run path workers share)
         → 2 ≤ workers
-        → CrewAnswered S.world S.faults S.loads S.same path workers scans.items result.scans.items
-        (disk_state D.tells D.history D.faults disk) (disk_state D.tells D.history D.faults result.disk)
-        (sink_state K.written K.faults out.old) (sink_state K.written K.faults out.new) result.outcome }
+        → OnSink K.written K.faults out.old out.new (OnDisk D.tells D.history D.faults disk result.disk
+        (AnsweredByCrew S.world S.faults S.loads S.same path workers scans.items result.scans.items)) result.outcome }
 
     // All else, with the first scan.
     ensures answered { IsAlone (texts_of words.now) → (first last : S) → IsFirst scans.items first → IsFirst result.scans.items last
-        → Answered (house_of (map (λ p. p.kind) probes.now) tone.now.table) (texts_of words.now)
-        (scan_state S.world S.faults S.loads S.heads first) (scan_state S.world S.faults S.loads S.heads last)
-        (folders_of D.tells D.history D.faults disk old.old) (folders_of D.tells D.history D.faults result.disk old.new)
-        (sink_state K.written K.faults out.old) (sink_state K.written K.faults out.new) result.outcome }
+        → OnSink K.written K.faults out.old out.new (OnFolders D.tells D.history D.faults disk old.old result.disk old.new
+        (OnScan S.world S.faults S.loads S.heads first last
+        (Answered (house_of (map (λ p. p.kind) probes.now) tone.now.table) (texts_of words.now)))) result.outcome }
     ensures others { IsAlone (texts_of words.now) → drop 1 result.scans.items ≡ drop 1 scans.items }
     ensures same { IsAlone (texts_of words.now) → (first last : S) → IsFirst scans.items first → IsFirst result.scans.items last
         → S.same first last }
@@ -185,9 +183,8 @@ fn by_crew<S: Scans + Send, D: Disk + Send, K: Sink, R: Threads + Wait + Sync>(
     requires one_world { AllPairs (λ a b. S.world a ≡ S.world b) scans.items }
     requires no_fault { D.faults disk ≡ 0 }
     requires first_moment { D.tells ≡ true → (D.history disk).now ≡ 0 }
-    ensures crew { CrewAnswered S.world S.faults S.loads S.same crew.now.project crew.now.workers scans.items result.scans.items
-        (disk_state D.tells D.history D.faults disk) (disk_state D.tells D.history D.faults result.disk)
-        (sink_state K.written K.faults out.old) (sink_state K.written K.faults out.new) result.outcome }
+    ensures crew { OnSink K.written K.faults out.old out.new (OnDisk D.tells D.history D.faults disk result.disk
+        (AnsweredByCrew S.world S.faults S.loads S.same crew.now.project crew.now.workers scans.items result.scans.items)) result.outcome }
     ensures handed_back { vec_len result.scans ≡ vec_len scans }
     ensures later { K.faults out.old ≤ K.faults out.new }
     ensures untouched { IsLeftAlone disk result.disk result.outcome }
@@ -231,10 +228,9 @@ fn by_one<S: Scans, D: Disk, K: Sink, C: Counter>(
     requires counts { IfSome found HasCounts }
     ensures answered { (words : List (List ℕ)) → IsFoundIn words found
         → (first last : S) → IsFirst scans.items first → IsFirst result.scans.items last
-        → Answered (house_of (map (λ p. p.kind) probes.now) tone.now.table) words
-        (scan_state S.world S.faults S.loads S.heads first) (scan_state S.world S.faults S.loads S.heads last)
-        (folders_of D.tells D.history D.faults disk old.old) (folders_of D.tells D.history D.faults result.disk old.new)
-        (sink_state K.written K.faults out.old) (sink_state K.written K.faults out.new) result.outcome }
+        → OnSink K.written K.faults out.old out.new (OnFolders D.tells D.history D.faults disk old.old result.disk old.new
+        (OnScan S.world S.faults S.loads S.heads first last
+        (Answered (house_of (map (λ p. p.kind) probes.now) tone.now.table) words))) result.outcome }
     ensures others { drop 1 result.scans.items ≡ drop 1 scans.items }
     ensures handed_back { vec_len result.scans ≡ vec_len scans }
     ensures same { (first last : S) → IsFirst scans.items first → IsFirst result.scans.items last → S.same first last }

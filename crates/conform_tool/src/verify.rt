@@ -1,9 +1,8 @@
 //! The command `verify`.
-ghost use Rattle.std.specs.Prelude.{◌≡◌, ◌≢◌, ◌≤◌, Err, IfErr};
-ghost use Rattle.cf_base.specs.Count.{HasRisen};
-ghost use Rattle.conform_tool.specs.Reply.{IsReply};
-ghost use Rattle.conform_tool.specs.States.{scan_state};
-ghost use Rattle.project_run.specs.Run.{IsLeftAlone, Reaches, disk_state};
+ghost use Rattle.std.specs.Prelude.{◌≡◌, Err, IfErr};
+ghost use Rattle.conform_tool.specs.Reply.{IsReplyOverScan};
+ghost use Rattle.conform_tool.specs.States.{OnScan};
+ghost use Rattle.project_run.specs.Calls.{IsLeftAlone, LeavesDisk, OnDisk, Replies};
 ghost use Rattle.project_run.specs.Verify.{IsVerifyReply};
 ghost use Rattle.command_words.specs.declared.command.Command.TheVariants as commands;
 
@@ -22,15 +21,11 @@ pub fn verify<S: Scans, D: Disk>(
     scan: &mut S,
     disk: &mut D,
 ) -> Result<Vec<u8>, Outcome>
-    ensures reply { Reaches result (IsReply (commands.Verify path.now)
-        (scan_state S.world S.faults S.loads S.heads scan.old) (scan_state S.world S.faults S.loads S.heads scan.new)) }
-    ensures folder { Reaches result (IsVerifyReply (S.world scan.old) path.now
-        (disk_state D.tells D.history D.faults disk.old) (disk_state D.tells D.history D.faults disk.new)
-        (S.loads scan.old) (S.loads scan.new)) }
-    ensures disk_fault { result ≡ Err Outcome.DiskFault → HasRisen (D.faults disk.old) (D.faults disk.new) }
-    ensures disk_steady { result ≢ Err Outcome.DiskFault → D.faults disk.new ≡ D.faults disk.old }
-    ensures disk_later { D.faults disk.old ≤ D.faults disk.new }
-    ensures disk_same { D.loans disk.new ≡ D.loans disk.old }
+    ensures reply { Replies result (OnScan S.world S.faults S.loads S.heads scan.old scan.new
+        (IsReplyOverScan (commands.Verify path.now))) }
+    ensures folder { Replies result (OnDisk D.tells D.history D.faults disk.old disk.new
+        (λ was is. IsVerifyReply (S.world scan.old) path.now was is (S.loads scan.old) (S.loads scan.new))) }
+    ensures disk { LeavesDisk D.faults D.loans (result ≡ Err Outcome.DiskFault) disk.old disk.new }
     ensures untouched { IfErr result (IsLeftAlone disk.old disk.new) }
     ensures same { S.same scan.old scan.new }
 {

@@ -27,7 +27,8 @@ use Rattle.single_run.specs.declared.run_end.RunEnd.TheVariants as ends
 use Rattle.single_run.proofs.Closing.{whole_reel}
 use Rattle.outcome_line.specs.declared.outcome.Outcome.{Outcome}
 use Rattle.outcome_line.specs.declared.outcome.Outcome.TheVariants as outcome
-use Rattle.project_run.specs.Run.{DiskState, IsOfRun, outcome_of_end}
+use Rattle.project_run.specs.Calls.{DiskState}
+use Rattle.project_run.specs.Run.{IsOfRun, outcome_of_end}
 use Rattle.project_adopt.specs.Adopt.{IsAdoption, IsOfAdopt, IsPromised, IsRest, outcome_of_fault}
 
 -- a run that came to Done has ended so
@@ -140,10 +141,10 @@ module _ (job old_job : JobData) (lent told : Option World) (tells_lent : Tells 
   module _ (done : Adopted) (adopted : WasAdopted job old_job tells (view_of h) (view_of before) (view_of between) done) (two : tells ≡ true → IsInForce Two (view_of between))
       (loads loads_after : ℕ) (reached : Outcome) (output : List ℕ) (rest : IsRest job told done (at tells between f_between) (at tells after f_after_all) loads loads_after reached output) where
     both_acked : reached ≡ outcome.Done → tells ≡ true → AreAllAcked job (moment_of after)
-    both_acked is t = rest.run.acked (done_ends job.parts.reels rest.run.how reached rest.run.reply.reached_is is) t
+    both_acked is t = rest.run.keeps.acked (done_ends job.parts.reels rest.run.how reached rest.run.reply.reached_is is) t
 
     both_ran : tells ≡ true → IsReelRun job lent before after
-    both_ran t = both_run job before between after (two t) lent told tells_lent (run t) (rest.run.run t)
+    both_ran t = both_run job before between after (two t) lent told tells_lent (run t) (rest.run.keeps.run t)
 
     kept_still : tells ≡ true → (k : ℕ) → HasKept job k (view_of before) → HasKept job k (view_of between)
     kept_still t = kept_on job old_job tells (view_of h) (view_of before) (view_of between) done adopted t (two t)
@@ -159,8 +160,8 @@ module _ (job old_job : JobData) (lent told : Option World) (tells_lent : Tells 
       untouched = tt;
       still = still;
       acked = both_acked;
-      spares = λ t. both_spare job before between after (two t) (kept_still t) (run t) (rest.run.run t) (spares t) (rest.run.spares t);
-      writes = λ t. both_write job before between after (two t) (kept_still t) (run t) (rest.run.run t) (writes t) (rest.run.writes t);
+      spares = λ t. both_spare job before between after (two t) (kept_still t) (run t) (rest.run.keeps.run t) (spares t) (rest.run.keeps.spares t);
+      writes = λ t. both_write job before between after (two t) (kept_still t) (run t) (rest.run.keeps.run t) (writes t) (rest.run.keeps.writes t);
       sound_has = sound_has;
     }
 

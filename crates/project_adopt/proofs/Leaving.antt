@@ -10,7 +10,7 @@ use Rattle.outcome_line.specs.declared.outcome.Outcome.TheVariants as outcome
 use Rattle.outcome_line.specs.declared.outcome.Refused.{Refused}
 use Rattle.project_job.specs.Asked.{HasInspectedFor}
 use Rattle.project_job.specs.Jobs.{IsOfJob}
-use Rattle.project_run.specs.Run.{DiskState, IsRefusal}
+use Rattle.project_run.specs.Calls.{DiskState, IsRefusal}
 use Rattle.project_run.proofs.Leaving.{run_unrefused}
 use Rattle.project_adopt.specs.Adopt.{GoesOn, IsAdoption, IsRest, IsUnadopted, of_old_project, outcome_of_fault}
 

@@ -8,7 +8,7 @@ use Rattle.reel_disk.specs.Disk.{view_of}
 use Rattle.outcome_line.specs.declared.outcome.Outcome.{Outcome}
 use Rattle.outcome_line.specs.declared.outcome.Outcome.TheVariants as outcome
 use Rattle.project_job.specs.Jobs.{HasPlanned, IsOfJob, cube_count}
-use Rattle.project_run.specs.Run.{DiskState}
+use Rattle.project_run.specs.Calls.{DiskState}
 use Rattle.project_run.proofs.Runs.{of_job}
 use Rattle.project_adopt.specs.Adopt.{GoesOn, IsAdoptReply, IsAdoption, IsJobOver, IsOfAdopt, IsOldSound, IsPromised, of_old_project}
 use Rattle.project_adopt.proofs.Composing.{run_adopts}

@@ -1,10 +1,10 @@
 //! From the paths of two projects to their jobs.
-ghost use Rattle.std.specs.Prelude.{◌≡◌, ◌≢◌, ◌≤◌, Err, IfErr, MatchResult};
-ghost use Rattle.cf_base.specs.Count.{HasRisen};
+ghost use Rattle.std.specs.Prelude.{◌≡◌, Err, IfErr, MatchResult};
 ghost use Rattle.conform_job.specs.Answers.{AreInfosOf};
 ghost use Rattle.project_job.specs.Asked.{HasInspectedFor};
-ghost use Rattle.project_run.specs.Run.{IsLeftAlone, Reaches};
-ghost use Rattle.project_adopt.specs.Adopt.{GoesOn, IsAdoptReply, IsJobOver, IsOfAdopt, OnDisks, OneHasRisen};
+ghost use Rattle.project_job.specs.Leaves.{LeavesScan};
+ghost use Rattle.project_run.specs.Calls.{IsLeftAlone, Replies};
+ghost use Rattle.project_adopt.specs.Adopt.{GoesOn, IsAdoptReply, IsJobOver, IsOfAdopt, LeavesDisks, OnDisks};
 
 use crate::reels::adopt_jobs;
 use crate::report::of_old_project;
@@ -33,25 +33,15 @@ pub fn adopt<S: Scans, D: Disk>(
     disk: &mut D,
     old: &mut D,
 ) -> Result<Vec<u8>, Outcome>
-    ensures folders { Reaches result (OnDisks D.tells D.history D.faults old.old old.new disk.old disk.new
+    ensures folders { Replies result (OnDisks D.tells D.history D.faults old.old old.new disk.old disk.new
         (λ old_was old_is was is.
         IsAdoptReply (S.world scan.old) path.now old_path.now old_was old_is was is (S.loads scan.old) (S.loads scan.new))) }
     ensures kind { MatchResult result (λ text. Unit {0}) IsOfAdopt }
 
-    ensures failed { result ≡ Err Outcome.SourceFault → HasRisen (S.faults scan.old) (S.faults scan.new) }
-    ensures steady { result ≢ Err Outcome.SourceFault → S.faults scan.new ≡ S.faults scan.old }
-    ensures later { S.faults scan.old ≤ S.faults scan.new }
-    ensures world { S.world scan.new ≡ S.world scan.old }
+    ensures scan { LeavesScan S.world S.faults S.same (result ≡ Err Outcome.SourceFault) scan.old scan.new }
     ensures refused_heads { IfErr result (HasInspectedFor (S.world scan.old) path.now (S.heads scan.old) (S.heads scan.new)) }
-    ensures same { S.same scan.old scan.new }
 
-    ensures disk_fault { result ≡ Err Outcome.DiskFault → OneHasRisen D.faults old.old old.new disk.old disk.new }
-    ensures disk_steady { result ≢ Err Outcome.DiskFault → D.faults disk.new ≡ D.faults disk.old }
-    ensures disk_later { D.faults disk.old ≤ D.faults disk.new }
-    ensures disk_same { D.loans disk.new ≡ D.loans disk.old }
-    ensures old_steady { result ≢ Err Outcome.DiskFault → D.faults old.new ≡ D.faults old.old }
-    ensures old_later { D.faults old.old ≤ D.faults old.new }
-    ensures old_same { D.loans old.new ≡ D.loans old.old }
+    ensures disks { LeavesDisks D.faults D.loans (result ≡ Err Outcome.DiskFault) old.old old.new disk.old disk.new }
     ensures untouched { IfErr result (IsLeftAlone disk.old disk.new) }
     ensures old_untouched { IfErr result (IsLeftAlone old.old old.new) }
 {
@@ -76,24 +66,14 @@ fn adopt_onto<S: Scans, D: Disk>(
 ) -> Result<Vec<u8>, Outcome>
     requires infos { AreInfosOf job.now.parts (S.world scan.old) job.now.infos }
     requires over { IsJobOver (S.world scan.old) job.now }
-    ensures folders { Reaches result (OnDisks D.tells D.history D.faults old.old old.new disk.old disk.new
+    ensures folders { Replies result (OnDisks D.tells D.history D.faults old.old old.new disk.old disk.new
         (λ old_was old_is was is.
         GoesOn job.now (S.world scan.old) old_path.now old_was old_is was is (S.loads scan.old) (S.loads scan.new))) }
     ensures kind { MatchResult result (λ text. Unit {0}) IsOfAdopt }
 
-    ensures failed { result ≡ Err Outcome.SourceFault → HasRisen (S.faults scan.old) (S.faults scan.new) }
-    ensures steady { result ≢ Err Outcome.SourceFault → S.faults scan.new ≡ S.faults scan.old }
-    ensures later { S.faults scan.old ≤ S.faults scan.new }
-    ensures world { S.world scan.new ≡ S.world scan.old }
-    ensures same { S.same scan.old scan.new }
+    ensures scan { LeavesScan S.world S.faults S.same (result ≡ Err Outcome.SourceFault) scan.old scan.new }
 
-    ensures disk_fault { result ≡ Err Outcome.DiskFault → OneHasRisen D.faults old.old old.new disk.old disk.new }
-    ensures disk_steady { result ≢ Err Outcome.DiskFault → D.faults disk.new ≡ D.faults disk.old }
-    ensures disk_later { D.faults disk.old ≤ D.faults disk.new }
-    ensures disk_same { D.loans disk.new ≡ D.loans disk.old }
-    ensures old_steady { result ≢ Err Outcome.DiskFault → D.faults old.new ≡ D.faults old.old }
-    ensures old_later { D.faults old.old ≤ D.faults old.new }
-    ensures old_same { D.loans old.new ≡ D.loans old.old }
+    ensures disks { LeavesDisks D.faults D.loans (result ≡ Err Outcome.DiskFault) old.old old.new disk.old disk.new }
     ensures untouched { IfErr result (IsLeftAlone disk.old disk.new) }
     ensures old_untouched { IfErr result (IsLeftAlone old.old old.new) }
 {

@@ -1,12 +1,13 @@
 //! From two jobs to the reel: frames of the old one are taken over, and the rest is run.
-ghost use Rattle.std.specs.Prelude.{◌≡◌, ◌≢◌, ◌≤◌, true, None, Err, IfSome, MatchResult};
-ghost use Rattle.cf_base.specs.Count.{HasRisen};
+ghost use Rattle.std.specs.Prelude.{◌≡◌, true, None, Err, IfSome, MatchResult};
 ghost use Rattle.conform_job.specs.Answers.{AreInfosOf};
 ghost use Rattle.conform_job.specs.Names.{Tells};
-ghost use Rattle.project_run.specs.Run.{IsOfRun, OnDisk, Reaches};
+ghost use Rattle.project_job.specs.Leaves.{LeavesScan};
+ghost use Rattle.project_run.specs.Calls.{LeavesDisk, OnDisk, Replies};
+ghost use Rattle.project_run.specs.Run.{IsOfRun};
 ghost use Rattle.reconform.specs.Adopt.{CanServe};
 ghost use Rattle.reel_disk.specs.Disk.{view_of};
-ghost use Rattle.project_adopt.specs.Adopt.{Ends, IsAdoption, IsJobOver, IsOfAdopt, IsOldSoundIn, IsPromised, IsRest, OnDisks, OneHasRisen};
+ghost use Rattle.project_adopt.specs.Adopt.{Ends, IsAdoption, IsJobOver, IsOfAdopt, IsOldSoundIn, IsPromised, IsRest, LeavesDisks, OnDisks};
 
 use crate::report::{outcome_of_fault, reply_of};
 use conform_job::{Job, Work};
@@ -36,7 +37,7 @@ pub(crate) fn adopt_jobs<S: Scans, D: Disk>(
     requires infos { AreInfosOf job.now.parts (S.world scan.old) job.now.infos }
     requires over { IsJobOver (S.world scan.old) job.now }
     requires old_over { IsJobOver (S.world scan.old) old_job.now }
-    ensures went { Reaches result (OnDisks D.tells D.history D.faults old.old old.new disk.old disk.new
+    ensures went { Replies result (OnDisks D.tells D.history D.faults old.old old.new disk.old disk.new
         (λ old_was old_is was is.
         IsAdoption job.now old_job.now (S.world scan.old) old_was old_is was is (S.loads scan.old) (S.loads scan.new))) }
     ensures promise { D.tells ≡ true → Ends result (OnDisk D.tells D.history D.faults disk.old disk.new
@@ -45,19 +46,9 @@ pub(crate) fn adopt_jobs<S: Scans, D: Disk>(
         → Ends result (OnDisk D.tells D.history D.faults disk.old disk.new (IsPromised job.now (S.world scan.old))) }
     ensures kind { MatchResult result (λ text. Unit {0}) IsOfAdopt }
 
-    ensures failed { result ≡ Err Outcome.SourceFault → HasRisen (S.faults scan.old) (S.faults scan.new) }
-    ensures steady { result ≢ Err Outcome.SourceFault → S.faults scan.new ≡ S.faults scan.old }
-    ensures later { S.faults scan.old ≤ S.faults scan.new }
-    ensures world { S.world scan.new ≡ S.world scan.old }
-    ensures same { S.same scan.old scan.new }
+    ensures scan { LeavesScan S.world S.faults S.same (result ≡ Err Outcome.SourceFault) scan.old scan.new }
 
-    ensures disk_fault { result ≡ Err Outcome.DiskFault → OneHasRisen D.faults old.old old.new disk.old disk.new }
-    ensures disk_steady { result ≢ Err Outcome.DiskFault → D.faults disk.new ≡ D.faults disk.old }
-    ensures disk_later { D.faults disk.old ≤ D.faults disk.new }
-    ensures disk_same { D.loans disk.new ≡ D.loans disk.old }
-    ensures old_steady { result ≢ Err Outcome.DiskFault → D.faults old.new ≡ D.faults old.old }
-    ensures old_later { D.faults old.old ≤ D.faults old.new }
-    ensures old_same { D.loans old.new ≡ D.loans old.old }
+    ensures disks { LeavesDisks D.faults D.loans (result ≡ Err Outcome.DiskFault) old.old old.new disk.old disk.new }
 {
     adopt_and_run::<Brand, Brand, S, D>(alloc, job, old_job, scan, disk, old)
 }
@@ -77,26 +68,16 @@ fn adopt_and_run<N: Work, O: Work, S: Scans, D: Disk>(
     requires files { Tells N.files (S.world scan.old) }
     requires infos { AreInfosOf N.job.parts (S.world scan.old) N.job.infos }
     requires can_serve { IfSome N.files (λ world. CanServe N.job O.job world D.tells (view_of (D.history old.old))) }
-    ensures went { Reaches result (OnDisks D.tells D.history D.faults old.old old.new disk.old disk.new
+    ensures went { Replies result (OnDisks D.tells D.history D.faults old.old old.new disk.old disk.new
         (λ old_was old_is was is.
         IsAdoption N.job O.job (S.world scan.old) old_was old_is was is (S.loads scan.old) (S.loads scan.new))) }
     ensures promise { D.tells ≡ true → Ends result (OnDisk D.tells D.history D.faults disk.old disk.new
         (IsPromised N.job N.files)) }
     ensures kind { MatchResult result (λ text. Unit {0}) IsOfAdopt }
 
-    ensures failed { result ≡ Err Outcome.SourceFault → HasRisen (S.faults scan.old) (S.faults scan.new) }
-    ensures steady { result ≢ Err Outcome.SourceFault → S.faults scan.new ≡ S.faults scan.old }
-    ensures later { S.faults scan.old ≤ S.faults scan.new }
-    ensures world { S.world scan.new ≡ S.world scan.old }
-    ensures same { S.same scan.old scan.new }
+    ensures scan { LeavesScan S.world S.faults S.same (result ≡ Err Outcome.SourceFault) scan.old scan.new }
 
-    ensures disk_fault { result ≡ Err Outcome.DiskFault → OneHasRisen D.faults old.old old.new disk.old disk.new }
-    ensures disk_steady { result ≢ Err Outcome.DiskFault → D.faults disk.new ≡ D.faults disk.old }
-    ensures disk_later { D.faults disk.old ≤ D.faults disk.new }
-    ensures disk_same { D.loans disk.new ≡ D.loans disk.old }
-    ensures old_steady { result ≢ Err Outcome.DiskFault → D.faults old.new ≡ D.faults old.old }
-    ensures old_later { D.faults old.old ≤ D.faults old.new }
-    ensures old_same { D.loans old.new ≡ D.loans old.old }
+    ensures disks { LeavesDisks D.faults D.loans (result ≡ Err Outcome.DiskFault) old.old old.new disk.old disk.new }
 {
     match reconform::adopt::<N, O, D>(alloc, job, old_job, old, disk) {
         Ok(done) => run_rest(alloc, job, done, scan, disk),
@@ -113,20 +94,13 @@ fn run_rest<S: Scans, D: Disk>(
     disk: &mut D,
 ) -> Result<Vec<u8>, Outcome>
     requires infos { AreInfosOf job.now.parts (S.world scan.old) job.now.infos }
-    ensures ran { Reaches result (OnDisk D.tells D.history D.faults disk.old disk.new
+    ensures ran { Replies result (OnDisk D.tells D.history D.faults disk.old disk.new
         (λ was is. IsRest job.now (S.world scan.old) done was is (S.loads scan.old) (S.loads scan.new))) }
     ensures kind { MatchResult result (λ text. Unit {0}) IsOfRun }
 
-    ensures failed { result ≡ Err Outcome.SourceFault → HasRisen (S.faults scan.old) (S.faults scan.new) }
-    ensures steady { result ≢ Err Outcome.SourceFault → S.faults scan.new ≡ S.faults scan.old }
-    ensures later { S.faults scan.old ≤ S.faults scan.new }
-    ensures world { S.world scan.new ≡ S.world scan.old }
-    ensures same { S.same scan.old scan.new }
+    ensures scan { LeavesScan S.world S.faults S.same (result ≡ Err Outcome.SourceFault) scan.old scan.new }
 
-    ensures disk_fault { result ≡ Err Outcome.DiskFault → HasRisen (D.faults disk.old) (D.faults disk.new) }
-    ensures disk_steady { result ≢ Err Outcome.DiskFault → D.faults disk.new ≡ D.faults disk.old }
-    ensures disk_later { D.faults disk.old ≤ D.faults disk.new }
-    ensures disk_same { D.loans disk.new ≡ D.loans disk.old }
+    ensures disk { LeavesDisk D.faults D.loans (result ≡ Err Outcome.DiskFault) disk.old disk.new }
 {
     let (end, report, _) = run_alone::<Brand, S, D>(alloc, job, scan, disk, SHARE);
     reply_of(alloc, job, done, end, &report)

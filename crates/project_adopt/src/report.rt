@@ -2,7 +2,7 @@
 ghost use Rattle.std.specs.Prelude.{◌≡◌, ◌↔◌, Err, IfOk, MatchResult};
 ghost use Rattle.outcome_line.specs.Output.{line_of};
 ghost use Rattle.project_run.specs.Run.{IsKnown, IsOfRun};
-ghost use Rattle.project_adopt.specs.Adopt.{IsReplyTo, adopt_text, of_old_project, outcome_of_fault};
+ghost use Rattle.project_adopt.specs.Adopt.{ReportsAdoption, adopt_text, of_old_project, outcome_of_fault};
 
 use conform_job::Job;
 use outcome_line::Outcome;
@@ -45,8 +45,8 @@ pub(crate) fn reply_of(
 ) -> Result<Vec<u8>, Outcome>
     requires { IsKnown job.now end }
     ensures reply { MatchResult result
-        (λ text. IsReplyTo job.now done end report.now Outcome.Done text.items)
-        (λ outcome. IsReplyTo job.now done end report.now outcome (line_of outcome)) }
+        (λ text. ReportsAdoption job.now done end report.now Outcome.Done text.items)
+        (λ outcome. ReportsAdoption job.now done end report.now outcome (line_of outcome)) }
     ensures kind { MatchResult result (λ text. Unit {0}) IsOfRun }
     ensures source { (result ≡ Err Outcome.SourceFault) ↔ (end ≡ RunEnd.SourceFault) }
     ensures disk { (result ≡ Err Outcome.DiskFault) ↔ (end ≡ RunEnd.DiskFault) }

@@ -21,8 +21,9 @@ use Rattle.project_job.specs.Asked.{HasLoadedFor}
 use Rattle.project_job.specs.Jobs.{HasPlanned, IsOfJob, AreLoaded, cube_count}
 use Rattle.outcome_line.specs.declared.outcome.Outcome.{Outcome}
 use Rattle.outcome_line.specs.declared.outcome.Outcome.TheVariants as outcomes
-use Rattle.project_crew.specs.Crew.{HasFailed, HasFirstLoaded, IsCrewJobRun, IsCrewReply, told_by}
-use Rattle.project_run.specs.Run.{DiskState, IsReplyOf}
+use Rattle.project_crew.specs.Crew.{HasFailed, HasFirstLoaded, IsJobRunByCrew, IsCrewReply, told_by}
+use Rattle.project_run.specs.Calls.{DiskState}
+use Rattle.project_run.specs.Run.{ReportsEnd}
 
 -- an error is the same error of another result
 same_error : {A : Type 0} (a b : Outcome) → ◌≡◌ {A = Result A Outcome} (Err a) (Err b) → a ≡ b
@@ -49,8 +50,8 @@ module _ {S : Type 0} (world : S → Option World) (faults loads : S → ℕ) (s
       → (disk.tells ≡ true → WritesOnly disk.history disk_after.history (MayWrite job (view_of disk.history)))
       → AreWorked world faults loads same (min workers count) report.loads (how ≡ ends.SourceFault) old new
       → (IsChange how → 1 ≤ report.loads)
-      → (reached : Outcome) (output : List ℕ) → IsReplyOf job how report reached output
-      → IsCrewJobRun world faults loads same job told workers old new disk disk_after reached output
+      → (reached : Outcome) (output : List ℕ) → ReportsEnd job how report reached output
+      → IsJobRunByCrew world faults loads same job told workers old new disk disk_after reached output
   crew_job_run log job told workers count old new disk disk_after how report steps all frames ran run acked whole sound_has spares writes scans changed reached output reply = record {
     how = how;
     report = report;
@@ -59,12 +60,7 @@ module _ {S : Type 0} (world : S → Option World) (faults loads : S → ℕ) (s
     steps = steps;
     log = log;
     ran = subst (λ n. MatchOption steps (IsUnstepped job disk.tells disk.history disk_after.history how report log) (λ all. WasCrewed job told (min workers n) disk.tells disk.history disk_after.history all how report log)) all ran;
-    run = run;
-    acked = acked;
-    whole = whole;
-    sound_has = sound_has;
-    spares = spares;
-    writes = writes;
+    keeps = record { run = run; acked = acked; whole = whole; sound_has = sound_has; spares = spares; writes = writes };
     scans = subst (λ n. AreWorked world faults loads same (min workers n) report.loads (how ≡ ends.SourceFault) old new) all scans;
     changed = changed;
   }
@@ -136,14 +132,14 @@ module _ {S : Type 0} (world : S → Option World) (faults loads : S → ℕ) (s
     pub crewed : (job : JobData) (path : List ℕ) (workers : ℕ) (scans new : List S) (first : S) (disk disk_after : DiskState) (reached : Outcome) (output : List ℕ) → 0 < length scans → get_or scans 0 first ≡ first
         → IfSome (world first) (λ files. HasPlanned (file_at files) path (Ok job)) → world used ≡ world first
         → HasFirstLoaded world faults loads same (2 + cube_count job.parts.project.cube) scans (set scans 0 used)
-        → IsCrewJobRun world faults loads same job (told_by world (set scans 0 used)) workers (set scans 0 used) new disk disk_after reached output
+        → IsJobRunByCrew world faults loads same job (told_by world (set scans 0 used)) workers (set scans 0 used) new disk disk_after reached output
         → IsCrewReply world faults loads same path workers scans new disk disk_after reached output
     crewed job path workers scans new first disk disk_after reached output some is comes told texts ran = inl (record {
       job = job;
       comes = subst (λ o. IfSome o (λ files. HasPlanned (file_at files) path (Ok job))) (told_first scans some is) comes;
       planned = set scans 0 used;
       texts = texts;
-      ran = subst (λ o. IsCrewJobRun world faults loads same job o workers (set scans 0 used) new disk disk_after reached output) (told_still scans first some is told) ran;
+      ran = subst (λ o. IsJobRunByCrew world faults loads same job o workers (set scans 0 used) new disk disk_after reached output) (told_still scans first some is told) ran;
     })
       where
         told_first : (scans : List S) → 0 < length scans → get_or scans 0 first ≡ first → world first ≡ told_by world scans

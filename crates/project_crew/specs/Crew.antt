@@ -1,23 +1,18 @@
 -- The command `run` with several workers: the reel of a project's job, rendered into the reel folder by a crew. All of it is
 -- this project's own rule.
 --     told_by      what the scans tell, which is the same of all
---     HasCrewed      the project came to a job, and a crew ran it in the folder
---     IsUncrewed      it came to none, and the folder is as it was
-use Rattle.std.specs.Prelude.{◌≡◌, ◌≢◌, ◌⊎◌, ℕ, ◌+◌, ◌<◌, ◌≤◌, min, true, List, [], ◌∷◌, drop, length, slice_index_or, Option, None, IfSome, MatchOption, Ok, Err}
+--     RanItsJobByCrew      the project came to a job, and a crew ran it in the folder
+--     IsUnplannedByCrew      it came to none, and the folder is as it was
+use Rattle.std.specs.Prelude.{◌≡◌, ◌≢◌, ◌⊎◌, ℕ, ◌+◌, ◌<◌, ◌≤◌, min, List, [], ◌∷◌, drop, length, slice_index_or, Option, None, IfSome, MatchOption, Ok, Err}
 use Rattle.cf_base.specs.Count.{HasRisen}
 use Rattle.scan_source.specs.World.{World, file_at}
 use Rattle.frame_share.specs.declared.step.ShareStep.{ShareStep}
-use Rattle.reel_disk.specs.Disk.{Files, moment_of, view_of}
-use Rattle.reel_disk.specs.Runs.{Spares}
-use Rattle.resume_ledger.specs.Sound.{WritesOnly}
-use Rattle.reel_writer.specs.Changes.{IsOwnFile, MayWrite}
-use Rattle.reel_writer.specs.Reel.{frames_of, HasFrameFiles, IsReelRun, IsSoundReel}
+use Rattle.reel_writer.specs.Reel.{frames_of}
 use Rattle.conform_job.specs.Answers.{count_after}
 use Rattle.conform_job.specs.Job.{JobData}
 use Rattle.render_board.specs.declared.step.Step.{Step}
 use Rattle.station.specs.Crews.{AreWorked, IsUnstepped, WasCrewed}
 use Rattle.single_run.specs.Ends.{IsChange}
-use Rattle.single_run.specs.Run.{AreAllAcked, HasWhole}
 use Rattle.single_run.specs.declared.run_end.Report.{Report}
 use Rattle.single_run.specs.declared.run_end.RunEnd.{RunEnd}
 use Rattle.single_run.specs.declared.run_end.RunEnd.TheVariants as ends
@@ -25,7 +20,8 @@ use Rattle.project_job.specs.Asked.{HasLoadedFor}
 use Rattle.project_job.specs.Jobs.{ComesTo, HasPlanned, IsOfJob, AreLoaded, cube_count}
 use Rattle.outcome_line.specs.declared.outcome.Outcome.{Outcome}
 use Rattle.outcome_line.specs.declared.outcome.Outcome.TheVariants as outcome
-use Rattle.project_run.specs.Run.{DiskState, IsReplyOf}
+use Rattle.project_run.specs.Calls.{DiskState}
+use Rattle.project_run.specs.Run.{IsSafeRun, ReportsEnd}
 
 -- what the first of some scans tells
 abbrev pub told_by : {S : Type 0} → (S → Option World) → List S → Option World
@@ -46,12 +42,11 @@ module _ {S : Type 0} (world : S → Option World) (faults loads : S → ℕ) (s
     pub lent : (scan : S) → same (slice_index_or old 0 scan) (slice_index_or new 0 scan)
     pub others : drop 1 new ≡ drop 1 old
 
-  -- The job was run in the folder by a crew. At every moment of the run each frame that a crash leaves acknowledged is the
-  -- definition's, and no acknowledgement is lost; at Done the folder has the whole reel.
-  pub record IsCrewJobRun (job : JobData) (told : Option World) (workers : ℕ) (old new : List S) (disk disk_after : DiskState) (reached : Outcome) (output : List ℕ) : Type 0 where
+  -- The job was run in the folder by a crew.
+  pub record IsJobRunByCrew (job : JobData) (told : Option World) (workers : ℕ) (old new : List S) (disk disk_after : DiskState) (reached : Outcome) (output : List ℕ) : Type 0 where
     pub how : RunEnd
     pub report : Report
-    pub reply : IsReplyOf job how report reached output
+    pub reply : ReportsEnd job how report reached output
     pub frames : report.frames ≡ frames_of job
     -- the steps of the workers, how the run ended by them, and what the folder acknowledges now; or why there are none
     pub steps : Option (List Step)
@@ -59,31 +54,22 @@ module _ {S : Type 0} (world : S → Option World) (faults loads : S → ℕ) (s
     -- there are as many workers as were asked for, at most one a scan
     pub ran : MatchOption steps (IsUnstepped job disk.tells disk.history disk_after.history how report log)
         (λ all. WasCrewed job told (min workers (length old)) disk.tells disk.history disk_after.history all how report log)
-    -- the crash promise
-    pub run : disk.tells ≡ true → IsReelRun job told disk.history disk_after.history
-    pub acked : how ≡ ends.Done → disk.tells ≡ true → AreAllAcked job (moment_of disk_after.history)
-    pub whole : how ≡ ends.Done → disk.tells ≡ true → HasWhole job told disk.history disk_after.history
-    -- sound files lose none
-    pub sound_has : (world : World) (files : Files) → IsSoundReel job world files → HasFrameFiles job files
-    -- what it may have changed: the ledger's files, and those of frames that the folder didn't acknowledge
-    pub spares : disk.tells ≡ true → Spares disk.history disk_after.history (IsOwnFile job (view_of disk.history))
-    -- what it wrote: of the ledger's files those of version 2 alone
-    pub writes : disk.tells ≡ true → WritesOnly disk.history disk_after.history (MayWrite job (view_of disk.history))
+    pub keeps : IsSafeRun job told how disk disk_after
     -- what was done with the scans: as many loads as were reported
     pub scans : AreWorked world faults loads same (min workers (length old)) report.loads (how ≡ ends.SourceFault) old new
     pub changed : IsChange how → 1 ≤ report.loads
 
   -- The project came to this job, which a crew ran in the folder.
-  pub record HasCrewed (path : List ℕ) (workers : ℕ) (old new : List S) (disk disk_after : DiskState) (reached : Outcome) (output : List ℕ) : Type 0 where
+  pub record RanItsJobByCrew (path : List ℕ) (workers : ℕ) (old new : List S) (disk disk_after : DiskState) (reached : Outcome) (output : List ℕ) : Type 0 where
     pub job : JobData
     pub comes : IfSome (told_by world old) (λ files. ComesTo (file_at files) path (Ok job.parts))
     -- the scans when it was planned, with the first of them
     pub planned : List S
     pub texts : HasFirstLoaded (2 + cube_count job.parts.project.cube) old planned
-    pub ran : IsCrewJobRun job (told_by world old) workers planned new disk disk_after reached output
+    pub ran : IsJobRunByCrew job (told_by world old) workers planned new disk disk_after reached output
 
   -- The project came to no job, the folder is as it was, and so are all scans but the first, which is handed back as it was lent.
-  pub record IsUncrewed (path : List ℕ) (old new : List S) (disk disk_after : DiskState) (reached : Outcome) : Type 0 where
+  pub record IsUnplannedByCrew (path : List ℕ) (old new : List S) (disk disk_after : DiskState) (reached : Outcome) : Type 0 where
     pub why : IfSome (told_by world old) (λ files. HasPlanned (file_at files) path (Err reached))
     pub kind : IsOfJob reached
     pub untouched : disk_after ≡ disk
@@ -99,4 +85,4 @@ module _ {S : Type 0} (world : S → Option World) (faults loads : S → ℕ) (s
 
   abbrev pub IsCrewReply : List ℕ → ℕ → List S → List S → DiskState → DiskState → Outcome → List ℕ → Type 0
   IsCrewReply path workers old new disk disk_after reached output =
-      HasCrewed path workers old new disk disk_after reached output ⊎ IsUncrewed path old new disk disk_after reached
+      RanItsJobByCrew path workers old new disk disk_after reached output ⊎ IsUnplannedByCrew path old new disk disk_after reached

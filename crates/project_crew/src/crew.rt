@@ -2,8 +2,9 @@
 ghost use Rattle.std.specs.Prelude.{◌≡◌, ◌≤◌, true, All, AllPairs, Err, IfErr, MatchResult, vec_len};
 ghost use Rattle.cf_base.specs.Count.{HasRisen};
 ghost use Rattle.conform_job.specs.Answers.{AreInfosOf};
-ghost use Rattle.project_crew.specs.Crew.{HasFailed, IsCrewJobRun, IsCrewReply, told_by};
-ghost use Rattle.project_run.specs.Run.{IsLeftAlone, IsOfRun, IsShareCount, OnDisk, Reaches};
+ghost use Rattle.project_crew.specs.Crew.{HasFailed, IsJobRunByCrew, IsCrewReply, told_by};
+ghost use Rattle.project_run.specs.Calls.{IsLeftAlone, OnDisk, Replies};
+ghost use Rattle.project_run.specs.Run.{IsOfRun, IsShareCount};
 
 use cf_base::PathText;
 use conform_job::Job;
@@ -48,7 +49,7 @@ pub fn run_crewed<S: Scans + Send, D: Disk + Send, R: Threads + Wait + Sync>(
     requires share { IsShareCount share }
     requires no_fault { D.faults disk ≡ 0 }
     requires first_moment { D.tells ≡ true → (D.history disk).now ≡ 0 }
-    ensures reply { Reaches result.result (OnDisk D.tells D.history D.faults disk result.disk
+    ensures reply { Replies result.result (OnDisk D.tells D.history D.faults disk result.disk
         (IsCrewReply S.world S.faults S.loads S.same path.now workers scans.items result.scans.items)) }
     ensures kind { MatchResult result.result (λ text. Unit {0}) IsOfRun }
     ensures handed_back { vec_len result.scans ≡ vec_len scans }
@@ -92,8 +93,8 @@ fn run_job<S: Scans + Send, D: Disk + Send, R: Threads + Wait + Sync>(
     requires infos { AreInfosOf job.now.parts (told_by S.world scans.items) job.now.infos }
     requires no_fault { D.faults disk ≡ 0 }
     requires first_moment { D.tells ≡ true → (D.history disk).now ≡ 0 }
-    ensures ran { Reaches result.result (OnDisk D.tells D.history D.faults disk result.disk
-        (IsCrewJobRun S.world S.faults S.loads S.same job.now (told_by S.world scans.items) workers scans.items result.scans.items)) }
+    ensures ran { Replies result.result (OnDisk D.tells D.history D.faults disk result.disk
+        (IsJobRunByCrew S.world S.faults S.loads S.same job.now (told_by S.world scans.items) workers scans.items result.scans.items)) }
     ensures kind { MatchResult result.result (λ text. Unit {0}) IsOfRun }
     ensures handed_back { vec_len result.scans ≡ vec_len scans }
 

@@ -1,4 +1,5 @@
 mod Counted
 pub mod Laws
+pub mod Leaving
 pub mod Loading
 pub mod Projects

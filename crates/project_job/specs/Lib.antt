@@ -1,4 +1,5 @@
 pub mod Asked
 pub mod Jobs
 pub mod Laws
+pub mod Leaves
 pub mod Load

@@ -1,8 +1,8 @@
 //! Loads of files.
-ghost use Rattle.std.specs.Prelude.{◌≡◌, ◌≢◌, ◌≤◌, min, length, Err, IfSome, IfOk, IfErr};
-ghost use Rattle.cf_base.specs.Count.{HasRisen};
+ghost use Rattle.std.specs.Prelude.{◌≡◌, min, length, Err, IfSome, IfOk, IfErr};
 ghost use Rattle.scan_source.specs.Plan.{one_more};
 ghost use Rattle.scan_source.specs.World.{file_at};
+ghost use Rattle.project_job.specs.Leaves.{LeavesScan};
 ghost use Rattle.project_job.specs.Load.{IsLoadOf, IsOfLoad};
 
 use cf_base::PathText;
@@ -31,13 +31,9 @@ pub fn load<S: Scans>(
     ensures fills { IfOk result (λ front. length front.bytes.items ≡ min front.len most) }
     ensures kind { IfErr result (IsOfLoad absent) }
 
-    ensures failed { result ≡ Err Outcome.SourceFault → HasRisen (S.faults scan.old) (S.faults scan.new) }
-    ensures steady { result ≢ Err Outcome.SourceFault → S.faults scan.new ≡ S.faults scan.old }
-    ensures later { S.faults scan.old ≤ S.faults scan.new }
+    ensures scan { LeavesScan S.world S.faults S.same (result ≡ Err Outcome.SourceFault) scan.old scan.new }
     ensures loads { S.loads scan.new ≡ one_more (S.loads scan.old) }
     ensures heads { S.heads scan.new ≡ S.heads scan.old }
-    ensures world { S.world scan.new ≡ S.world scan.old }
-    ensures same { S.same scan.old scan.new }
 {
     let mut bytes = Vec::new(alloc);
     match scan.load(path, most, &mut bytes) {

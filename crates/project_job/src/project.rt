@@ -1,7 +1,5 @@
 //! The job of a project: its texts are read in their order, and the job is planned.
-ghost use Rattle.std.specs.Prelude.{◌≡◌, ◌≢◌, ◌≤◌, ◌+◌, [], length, Err, Option, IfSome, IfOk, IfErr};
-ghost use Rattle.std.specs.Option.{option_copied};
-ghost use Rattle.cf_base.specs.Count.{HasRisen};
+ghost use Rattle.std.specs.Prelude.{◌≡◌, ◌≢◌, ◌+◌, [], length, Err, Option, IfSome, IfOk, IfErr};
 ghost use Rattle.cf_base.specs.Events.{IsWellMade};
 ghost use Rattle.scan_source.specs.World.{file_at};
 ghost use Rattle.project_file.specs.Projects.{IsInRange};
@@ -10,9 +8,10 @@ ghost use Rattle.source_reels.specs.Reels.{table_of};
 ghost use Rattle.conform_job.specs.Answers.{count_after, Grows, HeadsGrow};
 ghost use Rattle.conform_job.specs.Asks.{asks_of};
 ghost use Rattle.conform_job.specs.Infos.{HasEachOnce};
-ghost use Rattle.conform_job.specs.Job.{ArePlanned, JobData};
+ghost use Rattle.conform_job.specs.Job.{ArePlanned};
 ghost use Rattle.project_job.specs.Asked.{ComesBehind, HasInspectedFor, HasLoadedBehind, HasLoadedFor, IsOfTexts};
 ghost use Rattle.project_job.specs.Jobs.{list_in, cube_in, look_in, look_of_text, parts_of, itself, list_and_text, look_and_text, outcome_of_fault, Reaches, HasPlanned, MeansFile, unless_refused, IsOfJob, cube_count, AreCounted, AreLoaded};
+ghost use Rattle.project_job.specs.Leaves.{LeavesScan};
 ghost use Rattle.outcome_line.specs.declared.outcome.Refused.TheVariants as refused;
 
 use crate::loads::load;
@@ -67,15 +66,11 @@ pub fn planned<S: Scans>(alloc: Global, path: &PathText, scan: &mut S) -> Result
     ensures heads { IfOk result (λ job. HeadsGrow (S.heads scan.old) (S.heads scan.new) 0 (length job.infos)) }
     ensures counted { IfOk result (λ job. AreCounted job.parts.project.rate job.parts.reels) }
 
-    ensures failed { result ≡ Err Outcome.SourceFault → HasRisen (S.faults scan.old) (S.faults scan.new) }
-    ensures steady { result ≢ Err Outcome.SourceFault → S.faults scan.new ≡ S.faults scan.old }
-    ensures later { S.faults scan.old ≤ S.faults scan.new }
+    ensures scan { LeavesScan S.world S.faults S.same (result ≡ Err Outcome.SourceFault) scan.old scan.new }
     ensures loads { AreLoaded 1 3 (S.loads scan.old) (S.loads scan.new) }
     ensures refused { IfErr result (HasLoadedFor (S.world scan.old) path.now (S.loads scan.old) (S.loads scan.new)) }
     ensures refused_heads { IfErr result (HasInspectedFor (S.world scan.old) path.now (S.heads scan.old) (S.heads scan.new)) }
     ensures loaded { IfOk result (λ job. S.loads scan.new ≡ count_after (2 + cube_count job.parts.project.cube) (S.loads scan.old)) }
-    ensures world { S.world scan.new ≡ S.world scan.old }
-    ensures same { S.same scan.old scan.new }
 {
     let ProjectText { text, project } = match project_in(alloc, path, scan) {
         Ok(read) => read,
@@ -114,13 +109,9 @@ fn project_in<S: Scans>(
     ensures range { IfOk result (λ read. IsInRange read.project) }
     ensures counted { IfOk result (λ read. AreCounted read.project.rate read.project.reels) }
 
-    ensures failed { result ≡ Err Outcome.SourceFault → HasRisen (S.faults scan.old) (S.faults scan.new) }
-    ensures steady { result ≢ Err Outcome.SourceFault → S.faults scan.new ≡ S.faults scan.old }
-    ensures later { S.faults scan.old ≤ S.faults scan.new }
+    ensures scan { LeavesScan S.world S.faults S.same (result ≡ Err Outcome.SourceFault) scan.old scan.new }
     ensures loads { S.loads scan.new ≡ count_after 1 (S.loads scan.old) }
     ensures heads { S.heads scan.new ≡ S.heads scan.old }
-    ensures world { S.world scan.new ≡ S.world scan.old }
-    ensures same { S.same scan.old scan.new }
 {
     let front = match load(alloc, path, MOST_PROJECT, Which::Project, scan) {
         Ok(front) => front,
@@ -149,16 +140,12 @@ fn parts_of<S: Scans>(
     ensures planned { IfOk result ArePlanned }
     ensures project { IfOk result (λ parts. parts.project ≡ project) }
 
-    ensures failed { result ≡ Err Outcome.SourceFault → HasRisen (S.faults scan.old) (S.faults scan.new) }
-    ensures steady { result ≢ Err Outcome.SourceFault → S.faults scan.new ≡ S.faults scan.old }
-    ensures later { S.faults scan.old ≤ S.faults scan.new }
+    ensures scan { LeavesScan S.world S.faults S.same (result ≡ Err Outcome.SourceFault) scan.old scan.new }
     ensures loads { AreLoaded 0 2 (S.loads scan.old) (S.loads scan.new) }
     ensures refused { IfErr result (HasLoadedBehind project.cube (S.loads scan.old) (S.loads scan.new)) }
     ensures texts { IfErr result IsOfTexts }
     ensures loaded { IfOk result (λ parts. S.loads scan.new ≡ count_after (1 + cube_count parts.project.cube) (S.loads scan.old)) }
     ensures heads { S.heads scan.new ≡ S.heads scan.old }
-    ensures world { S.world scan.new ≡ S.world scan.old }
-    ensures same { S.same scan.old scan.new }
 {
     let reels = match reels_of(alloc, &project) {
         Ok(reels) => reels,
@@ -216,13 +203,9 @@ fn list_in<S: Scans>(
     ensures stage { IfErr result (ComesBehind 2) }
     ensures made { IfOk result (λ read. IsWellMade rate read.list.mode read.list.events) }
 
-    ensures failed { result ≡ Err Outcome.SourceFault → HasRisen (S.faults scan.old) (S.faults scan.new) }
-    ensures steady { result ≢ Err Outcome.SourceFault → S.faults scan.new ≡ S.faults scan.old }
-    ensures later { S.faults scan.old ≤ S.faults scan.new }
+    ensures scan { LeavesScan S.world S.faults S.same (result ≡ Err Outcome.SourceFault) scan.old scan.new }
     ensures loads { S.loads scan.new ≡ count_after 1 (S.loads scan.old) }
     ensures heads { S.heads scan.new ≡ S.heads scan.old }
-    ensures world { S.world scan.new ≡ S.world scan.old }
-    ensures same { S.same scan.old scan.new }
 {
     let front = match load(alloc, path, MOST_LIST, Which::List, scan) {
         Ok(front) => front,
@@ -265,13 +248,9 @@ fn look_in<S: Scans>(
     ensures stage { IfErr result (ComesBehind 3) }
     ensures named { IfErr result (λ _. cube_count named.now ≡ 1) }
 
-    ensures failed { result ≡ Err Outcome.SourceFault → HasRisen (S.faults scan.old) (S.faults scan.new) }
-    ensures steady { result ≢ Err Outcome.SourceFault → S.faults scan.new ≡ S.faults scan.old }
-    ensures later { S.faults scan.old ≤ S.faults scan.new }
+    ensures scan { LeavesScan S.world S.faults S.same (result ≡ Err Outcome.SourceFault) scan.old scan.new }
     ensures loads { S.loads scan.new ≡ count_after (cube_count named.now) (S.loads scan.old) }
     ensures heads { S.heads scan.new ≡ S.heads scan.old }
-    ensures world { S.world scan.new ≡ S.world scan.old }
-    ensures same { S.same scan.old scan.new }
 {
     match named {
         Some(path) => cube_in(alloc, path, scan),
@@ -288,13 +267,9 @@ fn cube_in<S: Scans>(alloc: Global, path: &PathText, scan: &mut S) -> Result<Loo
     ensures kind { IfErr result IsOfJob }
     ensures stage { IfErr result (ComesBehind 3) }
 
-    ensures failed { result ≡ Err Outcome.SourceFault → HasRisen (S.faults scan.old) (S.faults scan.new) }
-    ensures steady { result ≢ Err Outcome.SourceFault → S.faults scan.new ≡ S.faults scan.old }
-    ensures later { S.faults scan.old ≤ S.faults scan.new }
+    ensures scan { LeavesScan S.world S.faults S.same (result ≡ Err Outcome.SourceFault) scan.old scan.new }
     ensures loads { S.loads scan.new ≡ count_after 1 (S.loads scan.old) }
     ensures heads { S.heads scan.new ≡ S.heads scan.old }
-    ensures world { S.world scan.new ≡ S.world scan.old }
-    ensures same { S.same scan.old scan.new }
 {
     let front = match load(alloc, path, MOST_CUBE, Which::Cube, scan) {
         Ok(front) => front,

@@ -17,7 +17,8 @@ use Rattle.outcome_line.specs.declared.outcome.Outcome.TheVariants as outcomes
 use Rattle.project_job.specs.Asked.{HasInspectedFor}
 use Rattle.project_run.specs.Look.{HasFound, IsBehindLook, outcome_of_fault}
 use Rattle.project_run.specs.Quality.{IsTabled}
-use Rattle.project_run.specs.Run.{DiskState, IsJobRun, IsLeftAlone, IsRefusal, outcome_of_end}
+use Rattle.project_run.specs.Calls.{DiskState, IsLeftAlone, IsRefusal}
+use Rattle.project_run.specs.Run.{IsJobRun, outcome_of_end}
 use Rattle.project_run.specs.Sheet.{HasSheet}
 use Rattle.project_run.specs.Status.{IsStatus, outcome_of_peek}
 use Rattle.project_run.specs.Verify.{IsVerified, outcome_of_check}

@@ -19,7 +19,7 @@ use Rattle.reel_qc.specs.Sheet.{sheet_file, sheet_peak, cell_frames}
 use Rattle.outcome_line.specs.declared.outcome.Outcome.{Outcome}
 use Rattle.project_run.specs.Look.{HasFound, HasSeen, outcome_of_fault}
 use Rattle.project_run.specs.Quality.{IsCounted, IsTabled}
-use Rattle.project_run.specs.Run.{DiskState}
+use Rattle.project_run.specs.Calls.{DiskState}
 use Rattle.project_run.specs.Sheet.{HasSheet, IsSheeted, sheet_text}
 use Rattle.project_run.specs.Verify.{IsChecked, IsVerified}
 

@@ -13,7 +13,8 @@ use Rattle.single_run.specs.declared.run_end.Report.{Report}
 use Rattle.single_run.specs.declared.run_end.RunEnd.{RunEnd}
 use Rattle.single_run.specs.declared.run_end.RunEnd.TheVariants as ends
 use Rattle.project_job.specs.Jobs.{HasPlanned, IsOfJob, cube_count}
-use Rattle.project_run.specs.Run.{DiskState, IsKnown, IsOfRun, IsJobRun, IsRunReply}
+use Rattle.project_run.specs.Calls.{DiskState}
+use Rattle.project_run.specs.Run.{IsKnown, IsOfRun, IsJobRun, IsRunReply}
 use Rattle.project_run.specs.Look.{IsLookReply, IsOfLook}
 use Rattle.project_run.specs.Verify.{IsOfVerify}
 use Rattle.outcome_line.specs.declared.outcome.Outcome.{Outcome}

@@ -1,3 +1,4 @@
+pub mod Calls
 pub mod Look
 pub mod Quality
 pub mod Run

@@ -15,7 +15,8 @@ use Rattle.resume_ledger.specs.declared.attach.OpenFault.TheVariants as faults
 use Rattle.project_job.specs.Jobs.{ComesTo, cube_count}
 use Rattle.outcome_line.specs.declared.outcome.Outcome.{Outcome}
 use Rattle.outcome_line.specs.declared.outcome.Outcome.TheVariants as outcome
-use Rattle.project_run.specs.Run.{DiskState, IsOfRun, IsUnplanned}
+use Rattle.project_run.specs.Calls.{DiskState}
+use Rattle.project_run.specs.Run.{IsOfRun, IsUnplanned}
 
 -- the outcome of a ledger that can't be had
 abbrev pub outcome_of_fault : OpenFault → Outcome

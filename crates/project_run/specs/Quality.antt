@@ -11,7 +11,7 @@ use Rattle.reel_qc.specs.declared.probe.ProbeKind.{ProbeKind}
 use Rattle.outcome_line.specs.declared.outcome.Outcome.{Outcome}
 use Rattle.outcome_line.specs.declared.outcome.Outcome.TheVariants as outcome
 use Rattle.project_run.specs.Look.{HasSeen, IsBehindLook, IsLookReply}
-use Rattle.project_run.specs.Run.{DiskState}
+use Rattle.project_run.specs.Calls.{DiskState}
 
 -- The frames of what the ledger has were counted, each kind in its column: it came to their table, over the files of the folder.
 pub record IsCounted (kinds : List ProbeKind) (job : JobData) (view : ViewState) (disk : DiskState) (reached : Outcome) (output : List ℕ) : Type 0 where

@@ -1,17 +1,14 @@
 -- The command `run`: the reel of a project's job, rendered into the reel folder. All of it is this project's own rule.
---     DiskState, disk_state      what a disk tells at a moment, and its count of faults
---     OnDisk      what a call made of a disk
---     Reaches result IsReply      what a call came to is such a reply
---     HasRun      the project came to a job, and the job was run in the folder
+--     IsSafeRun      what every run of a job keeps, on one thread or by a crew
+--     RanItsJob      the project came to a job, and the job was run in the folder
 --     IsUnplanned      it came to none, and the folder is as it was
-use Rattle.std.specs.Prelude.{◌≡◌, ◌⊎◌, ℕ, ◌+◌, ◌≤◌, Bool, true, List, [], ◌∷◌, ◌++◌, codes, decimal, slice_get, unwrap_or, Option, Some, IfSome, Result, Ok, Err, MatchResult, Vec}
+use Rattle.std.specs.Prelude.{◌≡◌, ◌⊎◌, ℕ, ◌+◌, ◌≤◌, true, List, [], ◌∷◌, ◌++◌, codes, decimal, slice_get, unwrap_or, Option, Some, IfSome, Ok, Err}
 use Rattle.std.specs.Option.{option_map}
-use Rattle.std.specs.declared.alloc.Global.{Global}
 use Rattle.cf_base.specs.Count.{HasRisen}
 use Rattle.cf_base.specs.declared.reel.ReelEntry.{ReelEntry}
 use Rattle.scan_source.specs.World.{World, file_at}
 use Rattle.frame_share.specs.declared.step.ShareStep.{ShareStep}
-use Rattle.reel_disk.specs.Disk.{Files, History, moment_of, view_of}
+use Rattle.reel_disk.specs.Disk.{Files, moment_of, view_of}
 use Rattle.reel_disk.specs.Runs.{Spares}
 use Rattle.resume_ledger.specs.Sound.{WritesOnly}
 use Rattle.reel_writer.specs.Changes.{IsOwnFile, MayWrite}
@@ -27,30 +24,13 @@ use Rattle.single_run.specs.declared.run_end.RunEnd.TheVariants as ends
 use Rattle.project_job.specs.Asked.{HasLoadedFor}
 use Rattle.project_job.specs.Jobs.{ComesTo, HasPlanned, IsOfJob, AreLoaded, cube_count}
 use Rattle.printed_text.specs.Text.{spaced_line}
-use Rattle.outcome_line.specs.Output.{line_of}
+use Rattle.project_run.specs.Calls.{DiskState}
 use Rattle.outcome_line.specs.declared.outcome.Outcome.{Outcome}
 use Rattle.outcome_line.specs.declared.outcome.Outcome.TheVariants as outcome
 
 -- from 1 to 16
 abbrev pub IsShareCount : ℕ → Type 0
 IsShareCount n = (1 ≤ n) × (n ≤ 16)
-
-pub record DiskState : Type 0 where
-  pub tells : Bool
-  pub history : History
-  pub faults : ℕ
-
--- of a disk, by its meanings
-abbrev pub disk_state : {D : Type 0} → Bool → (D → History) → (D → ℕ) → D → DiskState
-disk_state tells history faults disk = record { tells = tells; history = history disk; faults = faults disk }
-
--- what a call made of a disk, by its meanings: this is so of the disk before the call and of the disk after it
-abbrev pub OnDisk : {D : Type 0} {A : Type 1} → Bool → (D → History) → (D → ℕ) → (before after : D) → (DiskState → DiskState → A) → A
-OnDisk tells history faults before after Made = Made (disk_state tells history faults before) (disk_state tells history faults after)
-
--- what a call of a command came to: its output, or an outcome with its line
-abbrev pub Reaches : Result (Vec ℕ Global) Outcome → (Outcome → List ℕ → Type 0) → Type 0
-Reaches result IsReply = MatchResult result (λ output. IsReply outcome.Done output.items) (λ reached. IsReply reached (line_of reached))
 
 -- the frames of the reel, those that were acknowledged at the opening, and the rendered ones
 abbrev pub run_text : Report → List ℕ
@@ -74,7 +54,7 @@ outcome_of_end entries ends.DiskFault = outcome.DiskFault
 outcome_of_end entries ends.NoMemory = outcome.NoMemory
 
 -- What a run that ended so and did that comes to: the outcome of its end, or want of memory for the report.
-pub record IsReplyOf (job : JobData) (how : RunEnd) (report : Report) (reached : Outcome) (output : List ℕ) : Type 0 where
+pub record ReportsEnd (job : JobData) (how : RunEnd) (report : Report) (reached : Outcome) (output : List ℕ) : Type 0 where
   pub reached_is : (reached ≡ outcome_of_end job.parts.reels how) ⊎ (reached ≡ outcome.NoMemory)
   pub form : reached ≡ outcome.Done → output ≡ run_text report
 
@@ -83,18 +63,9 @@ abbrev pub IsKnown : JobData → RunEnd → Type 0
 IsKnown job (ends.Changed key was now) = info_at job.infos key ≡ Some was
 IsKnown job other = Unit {0}
 
--- The job was run in the folder. At every moment of the run each frame that a crash leaves acknowledged is the definition's,
--- and no acknowledgement is lost; at Done the folder has the whole reel.
-pub record IsJobRun (job : JobData) (told : Option World) (share : ℕ) (disk disk_after : DiskState) (loads loads_after : ℕ) (reached : Outcome) (output : List ℕ) : Type 0 where
-  pub how : RunEnd
-  pub report : Report
-  pub reply : IsReplyOf job how report reached output
-  pub frames : report.frames ≡ frames_of job
-  -- what the folder acknowledged and does now, what was rendered, and what was asked for and loaded, with a share of so many
-  -- frames; or why the folder was not opened
-  pub log : List ShareStep
-  pub ran : WasOpened job told share disk.tells disk.history disk_after.history how report log ⊎ WasRefused job disk.tells disk.history disk_after.history how report log
-  -- the crash promise
+-- What a run that ended so keeps: at every moment of it each frame that a crash leaves acknowledged is the definition's, and no
+-- acknowledgement is lost; at Done the folder has the whole reel.
+pub record IsSafeRun (job : JobData) (told : Option World) (how : RunEnd) (disk disk_after : DiskState) : Type 0 where
   pub run : disk.tells ≡ true → IsReelRun job told disk.history disk_after.history
   pub acked : how ≡ ends.Done → disk.tells ≡ true → AreAllAcked job (moment_of disk_after.history)
   pub whole : how ≡ ends.Done → disk.tells ≡ true → HasWhole job told disk.history disk_after.history
@@ -104,12 +75,24 @@ pub record IsJobRun (job : JobData) (told : Option World) (share : ℕ) (disk di
   pub spares : disk.tells ≡ true → Spares disk.history disk_after.history (IsOwnFile job (view_of disk.history))
   -- what it wrote: of the ledger's files those of version 2 alone
   pub writes : disk.tells ≡ true → WritesOnly disk.history disk_after.history (MayWrite job (view_of disk.history))
+
+-- The job was run in the folder.
+pub record IsJobRun (job : JobData) (told : Option World) (share : ℕ) (disk disk_after : DiskState) (loads loads_after : ℕ) (reached : Outcome) (output : List ℕ) : Type 0 where
+  pub how : RunEnd
+  pub report : Report
+  pub reply : ReportsEnd job how report reached output
+  pub frames : report.frames ≡ frames_of job
+  -- what the folder acknowledged and does now, what was rendered, and what was asked for and loaded, with a share of so many
+  -- frames; or why the folder was not opened
+  pub log : List ShareStep
+  pub ran : WasOpened job told share disk.tells disk.history disk_after.history how report log ⊎ WasRefused job disk.tells disk.history disk_after.history how report log
+  pub keeps : IsSafeRun job told how disk disk_after
   pub loaded : loads_after ≡ count_after report.loads loads
   -- a source file that changed was loaded
   pub changed : IsChange how → HasRisen loads loads_after
 
 -- The project came to this job, which was run in the folder.
-pub record HasRun (told : Option World) (path : List ℕ) (share : ℕ) (disk disk_after : DiskState) (loads loads_after : ℕ) (reached : Outcome) (output : List ℕ) : Type 0 where
+pub record RanItsJob (told : Option World) (path : List ℕ) (share : ℕ) (disk disk_after : DiskState) (loads loads_after : ℕ) (reached : Outcome) (output : List ℕ) : Type 0 where
   pub job : JobData
   pub comes : IfSome told (λ world. ComesTo (file_at world) path (Ok job.parts))
   -- the loads when it was planned
@@ -128,7 +111,7 @@ pub record IsUnplanned (told : Option World) (path : List ℕ) (disk disk_after 
 
 abbrev pub IsRunReply : Option World → List ℕ → ℕ → DiskState → DiskState → ℕ → ℕ → Outcome → List ℕ → Type 0
 IsRunReply told path share disk disk_after loads loads_after reached output =
-    HasRun told path share disk disk_after loads loads_after reached output ⊎ IsUnplanned told path disk disk_after loads loads_after reached
+    RanItsJob told path share disk disk_after loads loads_after reached output ⊎ IsUnplanned told path disk disk_after loads loads_after reached
 
 -- the outcomes that a run of a job may come to in place of Done
 abbrev pub IsOfRun : Outcome → Type 0
@@ -140,13 +123,3 @@ IsOfRun (outcome.OldBadLedger len) = ⊥
 IsOfRun (outcome.Damaged frame kept found) = ⊥
 IsOfRun (outcome.SinkFault instead) = ⊥
 IsOfRun other = Unit {0}
-
--- a project is refused, the new one or an old one
-abbrev pub IsRefusal : Outcome → Type 0
-IsRefusal (outcome.Refused refusal) = Unit {0}
-IsRefusal (outcome.OldRefused refusal) = Unit {0}
-IsRefusal other = ⊥
-
--- no call is made on what is left alone where a project is refused
-abbrev pub IsLeftAlone : {A : Type 0} → A → A → Outcome → Type 0
-IsLeftAlone before after reached = IsRefusal reached → after ≡ before

@@ -15,7 +15,7 @@ use Rattle.printed_text.specs.Text.{spaced_line}
 use Rattle.outcome_line.specs.declared.outcome.Outcome.{Outcome}
 use Rattle.outcome_line.specs.declared.outcome.Outcome.TheVariants as outcome
 use Rattle.project_run.specs.Look.{HasFound, IsBehindLook, IsLookReply}
-use Rattle.project_run.specs.Run.{DiskState}
+use Rattle.project_run.specs.Calls.{DiskState}
 
 -- how many cells the sheet has, and its greatest code
 abbrev pub sheet_text : (cells peak : ℕ) → List ℕ

@@ -14,7 +14,7 @@ use Rattle.printed_text.specs.Text.{spaced_line}
 use Rattle.outcome_line.specs.declared.outcome.Outcome.{Outcome}
 use Rattle.outcome_line.specs.declared.outcome.Outcome.TheVariants as outcome
 use Rattle.project_run.specs.Look.{HasSeen, IsLookReply, IsOfLook}
-use Rattle.project_run.specs.Run.{DiskState}
+use Rattle.project_run.specs.Calls.{DiskState}
 
 -- the frames of the reel, those that the folder acknowledges, and those whose files were compared with their records
 abbrev pub verify_text : (frames acked verified : ℕ) → List ℕ

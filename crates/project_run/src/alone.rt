@@ -1,9 +1,10 @@
 //! A run on one thread.
-ghost use Rattle.std.specs.Prelude.{◌≡◌, ◌≢◌, ◌≤◌, Err, IfErr, MatchResult};
-ghost use Rattle.cf_base.specs.Count.{HasRisen};
+ghost use Rattle.std.specs.Prelude.{◌≡◌, Err, IfErr, MatchResult};
 ghost use Rattle.conform_job.specs.Answers.{AreInfosOf};
 ghost use Rattle.project_job.specs.Asked.{HasInspectedFor};
-ghost use Rattle.project_run.specs.Run.{IsJobRun, IsLeftAlone, IsOfRun, IsRunReply, IsShareCount, OnDisk, Reaches};
+ghost use Rattle.project_job.specs.Leaves.{LeavesScan};
+ghost use Rattle.project_run.specs.Calls.{IsLeftAlone, LeavesDisk, OnDisk, Replies};
+ghost use Rattle.project_run.specs.Run.{IsJobRun, IsOfRun, IsRunReply, IsShareCount};
 
 use crate::report::reply_of;
 use cf_base::PathText;
@@ -29,21 +30,14 @@ pub fn run<S: Scans, D: Disk>(
     disk: &mut D,
 ) -> Result<Vec<u8>, Outcome>
     requires { IsShareCount share }
-    ensures folder { Reaches result (OnDisk D.tells D.history D.faults disk.old disk.new
+    ensures folder { Replies result (OnDisk D.tells D.history D.faults disk.old disk.new
         (λ was is. IsRunReply (S.world scan.old) path.now share was is (S.loads scan.old) (S.loads scan.new))) }
     ensures kind { MatchResult result (λ text. Unit {0}) IsOfRun }
 
-    ensures failed { result ≡ Err Outcome.SourceFault → HasRisen (S.faults scan.old) (S.faults scan.new) }
-    ensures steady { result ≢ Err Outcome.SourceFault → S.faults scan.new ≡ S.faults scan.old }
-    ensures later { S.faults scan.old ≤ S.faults scan.new }
-    ensures world { S.world scan.new ≡ S.world scan.old }
+    ensures scan { LeavesScan S.world S.faults S.same (result ≡ Err Outcome.SourceFault) scan.old scan.new }
     ensures refused_heads { IfErr result (HasInspectedFor (S.world scan.old) path.now (S.heads scan.old) (S.heads scan.new)) }
-    ensures same { S.same scan.old scan.new }
 
-    ensures disk_fault { result ≡ Err Outcome.DiskFault → HasRisen (D.faults disk.old) (D.faults disk.new) }
-    ensures disk_steady { result ≢ Err Outcome.DiskFault → D.faults disk.new ≡ D.faults disk.old }
-    ensures disk_later { D.faults disk.old ≤ D.faults disk.new }
-    ensures disk_same { D.loans disk.new ≡ D.loans disk.old }
+    ensures disk { LeavesDisk D.faults D.loans (result ≡ Err Outcome.DiskFault) disk.old disk.new }
     ensures untouched { IfErr result (IsLeftAlone disk.old disk.new) }
 {
     let job = match planned(alloc, path, scan) {
@@ -66,20 +60,13 @@ fn run_job<S: Scans, D: Disk>(
 ) -> Result<Vec<u8>, Outcome>
     requires share { IsShareCount share }
     requires infos { AreInfosOf job.now.parts (S.world scan.old) job.now.infos }
-    ensures ran { Reaches result (OnDisk D.tells D.history D.faults disk.old disk.new
+    ensures ran { Replies result (OnDisk D.tells D.history D.faults disk.old disk.new
         (λ was is. IsJobRun job.now (S.world scan.old) share was is (S.loads scan.old) (S.loads scan.new))) }
     ensures kind { MatchResult result (λ text. Unit {0}) IsOfRun }
 
-    ensures failed { result ≡ Err Outcome.SourceFault → HasRisen (S.faults scan.old) (S.faults scan.new) }
-    ensures steady { result ≢ Err Outcome.SourceFault → S.faults scan.new ≡ S.faults scan.old }
-    ensures later { S.faults scan.old ≤ S.faults scan.new }
-    ensures world { S.world scan.new ≡ S.world scan.old }
-    ensures same { S.same scan.old scan.new }
+    ensures scan { LeavesScan S.world S.faults S.same (result ≡ Err Outcome.SourceFault) scan.old scan.new }
 
-    ensures disk_fault { result ≡ Err Outcome.DiskFault → HasRisen (D.faults disk.old) (D.faults disk.new) }
-    ensures disk_steady { result ≢ Err Outcome.DiskFault → D.faults disk.new ≡ D.faults disk.old }
-    ensures disk_later { D.faults disk.old ≤ D.faults disk.new }
-    ensures disk_same { D.loans disk.new ≡ D.loans disk.old }
+    ensures disk { LeavesDisk D.faults D.loans (result ≡ Err Outcome.DiskFault) disk.old disk.new }
 {
     let (end, report, _) = run_alone::<Brand, S, D>(alloc, job, scan, disk, u32::from(share));
     reply_of(alloc, job, end, &report)

@@ -1,11 +1,11 @@
 //! The command `verify`.
-ghost use Rattle.std.specs.Prelude.{◌≡◌, ◌≢◌, ◌≤◌, true, length, Ok, Err, IfErr, IfOk, MatchResult};
-ghost use Rattle.cf_base.specs.Count.{HasRisen};
+ghost use Rattle.std.specs.Prelude.{◌≡◌, ◌≢◌, true, length, Ok, Err, IfErr, IfOk, MatchResult};
 ghost use Rattle.reel_disk.specs.Disk.{view_of, IsStill};
 ghost use Rattle.reel_writer.specs.Reel.{frames_of};
 ghost use Rattle.resume_ledger.specs.Look.{IsViewOf};
 ghost use Rattle.project_job.specs.Asked.{HasInspectedFor};
-ghost use Rattle.project_run.specs.Run.{IsLeftAlone, OnDisk, Reaches};
+ghost use Rattle.project_job.specs.Leaves.{LeavesScan};
+ghost use Rattle.project_run.specs.Calls.{IsLeftAlone, LeavesDisk, OnDisk, Replies};
 ghost use Rattle.project_run.specs.Verify.{IsChecked, IsOfVerify, IsVerified, IsVerifyReply, outcome_of_check, verify_text};
 
 use crate::progress::outcome_of_fault;
@@ -33,21 +33,14 @@ pub fn verify<S: Scans, D: Disk>(
     scan: &mut S,
     disk: &mut D,
 ) -> Result<Vec<u8>, Outcome>
-    ensures folder { Reaches result (OnDisk D.tells D.history D.faults disk.old disk.new
+    ensures folder { Replies result (OnDisk D.tells D.history D.faults disk.old disk.new
         (λ was is. IsVerifyReply (S.world scan.old) path.now was is (S.loads scan.old) (S.loads scan.new))) }
     ensures kind { MatchResult result (λ text. Unit {0}) IsOfVerify }
 
-    ensures failed { result ≡ Err Outcome.SourceFault → HasRisen (S.faults scan.old) (S.faults scan.new) }
-    ensures steady { result ≢ Err Outcome.SourceFault → S.faults scan.new ≡ S.faults scan.old }
-    ensures later { S.faults scan.old ≤ S.faults scan.new }
-    ensures world { S.world scan.new ≡ S.world scan.old }
+    ensures scan { LeavesScan S.world S.faults S.same (result ≡ Err Outcome.SourceFault) scan.old scan.new }
     ensures refused_heads { IfErr result (HasInspectedFor (S.world scan.old) path.now (S.heads scan.old) (S.heads scan.new)) }
-    ensures same { S.same scan.old scan.new }
 
-    ensures disk_fault { result ≡ Err Outcome.DiskFault → HasRisen (D.faults disk.old) (D.faults disk.new) }
-    ensures disk_steady { result ≢ Err Outcome.DiskFault → D.faults disk.new ≡ D.faults disk.old }
-    ensures disk_later { D.faults disk.old ≤ D.faults disk.new }
-    ensures disk_same { D.loans disk.new ≡ D.loans disk.old }
+    ensures disk { LeavesDisk D.faults D.loans (result ≡ Err Outcome.DiskFault) disk.old disk.new }
     ensures untouched { IfErr result (IsLeftAlone disk.old disk.new) }
 {
     let job = match planned(alloc, path, scan) {
@@ -62,14 +55,11 @@ pub fn verify<S: Scans, D: Disk>(
 
 /// What the ledger of a job's reel has, and whether the files are those of its records, or the outcome that was reached.
 fn verified<D: Disk>(alloc: Global, job: &Job, disk: &mut D) -> Result<Vec<u8>, Outcome>
-    ensures verified { Reaches result (OnDisk D.tells D.history D.faults disk.old disk.new (IsVerified job.now)) }
+    ensures verified { Replies result (OnDisk D.tells D.history D.faults disk.old disk.new (IsVerified job.now)) }
     ensures kind { MatchResult result (λ text. Unit {0}) IsOfVerify }
     ensures never { result ≢ Err Outcome.SourceFault }
 
-    ensures disk_fault { result ≡ Err Outcome.DiskFault → HasRisen (D.faults disk.old) (D.faults disk.new) }
-    ensures disk_steady { result ≢ Err Outcome.DiskFault → D.faults disk.new ≡ D.faults disk.old }
-    ensures disk_later { D.faults disk.old ≤ D.faults disk.new }
-    ensures disk_same { D.loans disk.new ≡ D.loans disk.old }
+    ensures disk { LeavesDisk D.faults D.loans (result ≡ Err Outcome.DiskFault) disk.old disk.new }
 {
     match Ledger::look(alloc, disk, job.digest(), job.timeline().count()) {
         Ok(view) => {
@@ -90,16 +80,13 @@ fn checked<D: Disk>(
 ) -> Result<Vec<u8>, Outcome>
     requires size { length view.now.gates ≡ frames_of job.now }
     requires view { D.tells ≡ true → IsViewOf job.now.parts.digest (frames_of job.now) (view_of (D.history disk.old)) view.now }
-    ensures checked { Reaches result (OnDisk D.tells D.history D.faults disk.old disk.new
+    ensures checked { Replies result (OnDisk D.tells D.history D.faults disk.old disk.new
         (λ was is. IsChecked job.now view.now was)) }
     ensures still { D.tells ≡ true → IsStill (D.history disk.old) (D.history disk.new) }
     ensures kind { MatchResult result (λ text. Unit {0}) IsOfVerify }
     ensures never { result ≢ Err Outcome.SourceFault }
 
-    ensures disk_fault { result ≡ Err Outcome.DiskFault → HasRisen (D.faults disk.old) (D.faults disk.new) }
-    ensures disk_steady { result ≢ Err Outcome.DiskFault → D.faults disk.new ≡ D.faults disk.old }
-    ensures disk_later { D.faults disk.old ≤ D.faults disk.new }
-    ensures disk_same { D.loans disk.new ≡ D.loans disk.old }
+    ensures disk { LeavesDisk D.faults D.loans (result ≡ Err Outcome.DiskFault) disk.old disk.new }
 {
     match check(alloc, disk, job, view) {
         Ok(records) => {

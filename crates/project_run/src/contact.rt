@@ -1,12 +1,12 @@
 //! The command `sheet`.
-ghost use Rattle.std.specs.Prelude.{◌≡◌, ◌≢◌, ◌≤◌, true, length, Err, IfErr, IfOk, MatchResult};
-ghost use Rattle.cf_base.specs.Count.{HasRisen};
+ghost use Rattle.std.specs.Prelude.{◌≡◌, ◌≢◌, true, length, Err, IfErr, IfOk, MatchResult};
 ghost use Rattle.cf_base.specs.declared.file.FileId.TheVariants as file;
 ghost use Rattle.reel_disk.specs.Runs.{Extends, Spares};
 ghost use Rattle.reel_writer.specs.Reel.{frames_of};
 ghost use Rattle.project_job.specs.Asked.{HasInspectedFor};
+ghost use Rattle.project_job.specs.Leaves.{LeavesScan};
 ghost use Rattle.project_run.specs.Look.{IsOfLook};
-ghost use Rattle.project_run.specs.Run.{IsLeftAlone, OnDisk, Reaches};
+ghost use Rattle.project_run.specs.Calls.{IsLeftAlone, LeavesDisk, OnDisk, Replies};
 ghost use Rattle.project_run.specs.Sheet.{HasSheet, IsSheetReply, IsSheeted, sheet_text};
 
 use crate::progress::outcome_of_fault;
@@ -34,21 +34,14 @@ pub fn sheet<S: Scans, D: Disk>(
     disk: &mut D,
     tone: &Tone,
 ) -> Result<Vec<u8>, Outcome>
-    ensures folder { Reaches result (OnDisk D.tells D.history D.faults disk.old disk.new
+    ensures folder { Replies result (OnDisk D.tells D.history D.faults disk.old disk.new
         (λ was is. IsSheetReply tone.now.table (S.world scan.old) path.now was is (S.loads scan.old) (S.loads scan.new))) }
     ensures kind { MatchResult result (λ text. Unit {0}) IsOfLook }
 
-    ensures failed { result ≡ Err Outcome.SourceFault → HasRisen (S.faults scan.old) (S.faults scan.new) }
-    ensures steady { result ≢ Err Outcome.SourceFault → S.faults scan.new ≡ S.faults scan.old }
-    ensures later { S.faults scan.old ≤ S.faults scan.new }
-    ensures world { S.world scan.new ≡ S.world scan.old }
+    ensures scan { LeavesScan S.world S.faults S.same (result ≡ Err Outcome.SourceFault) scan.old scan.new }
     ensures refused_heads { IfErr result (HasInspectedFor (S.world scan.old) path.now (S.heads scan.old) (S.heads scan.new)) }
-    ensures same { S.same scan.old scan.new }
 
-    ensures disk_fault { result ≡ Err Outcome.DiskFault → HasRisen (D.faults disk.old) (D.faults disk.new) }
-    ensures disk_steady { result ≢ Err Outcome.DiskFault → D.faults disk.new ≡ D.faults disk.old }
-    ensures disk_later { D.faults disk.old ≤ D.faults disk.new }
-    ensures disk_same { D.loans disk.new ≡ D.loans disk.old }
+    ensures disk { LeavesDisk D.faults D.loans (result ≡ Err Outcome.DiskFault) disk.old disk.new }
     ensures untouched { IfErr result (IsLeftAlone disk.old disk.new) }
 {
     let job = match planned(alloc, path, scan) {
@@ -68,14 +61,11 @@ fn sheet_of<D: Disk>(
     disk: &mut D,
     tone: &Tone,
 ) -> Result<Vec<u8>, Outcome>
-    ensures made { Reaches result (OnDisk D.tells D.history D.faults disk.old disk.new (HasSheet tone.now.table job.now)) }
+    ensures made { Replies result (OnDisk D.tells D.history D.faults disk.old disk.new (HasSheet tone.now.table job.now)) }
     ensures kind { MatchResult result (λ text. Unit {0}) IsOfLook }
     ensures never { result ≢ Err Outcome.SourceFault }
 
-    ensures disk_fault { result ≡ Err Outcome.DiskFault → HasRisen (D.faults disk.old) (D.faults disk.new) }
-    ensures disk_steady { result ≢ Err Outcome.DiskFault → D.faults disk.new ≡ D.faults disk.old }
-    ensures disk_later { D.faults disk.old ≤ D.faults disk.new }
-    ensures disk_same { D.loans disk.new ≡ D.loans disk.old }
+    ensures disk { LeavesDisk D.faults D.loans (result ≡ Err Outcome.DiskFault) disk.old disk.new }
 {
     match Ledger::look(alloc, disk, job.digest(), job.timeline().count()) {
         Ok(view) => {
@@ -96,17 +86,14 @@ fn sheeted<D: Disk>(
     tone: &Tone,
 ) -> Result<Vec<u8>, Outcome>
     requires size { length view.now.gates ≡ frames_of job.now }
-    ensures sheeted { Reaches result (OnDisk D.tells D.history D.faults disk.old disk.new
+    ensures sheeted { Replies result (OnDisk D.tells D.history D.faults disk.old disk.new
         (IsSheeted tone.now.table job.now view.now)) }
     ensures past { D.tells ≡ true → Extends (D.history disk.old) (D.history disk.new) }
     ensures spares { D.tells ≡ true → Spares (D.history disk.old) (D.history disk.new) (λ q. q ≡ file.Sheet) }
     ensures kind { MatchResult result (λ text. Unit {0}) IsOfLook }
     ensures never { result ≢ Err Outcome.SourceFault }
 
-    ensures disk_fault { result ≡ Err Outcome.DiskFault → HasRisen (D.faults disk.old) (D.faults disk.new) }
-    ensures disk_steady { result ≢ Err Outcome.DiskFault → D.faults disk.new ≡ D.faults disk.old }
-    ensures disk_later { D.faults disk.old ≤ D.faults disk.new }
-    ensures disk_same { D.loans disk.new ≡ D.loans disk.old }
+    ensures disk { LeavesDisk D.faults D.loans (result ≡ Err Outcome.DiskFault) disk.old disk.new }
 {
     match make_sheet(alloc, disk, job, view, tone) {
         Ok(done) => match sheet_text(alloc, done) {

@@ -1,9 +1,9 @@
 //! The command `status`.
-ghost use Rattle.std.specs.Prelude.{◌≡◌, ◌≢◌, ◌≤◌, Ok, Err, IfErr, IfOk, MatchResult};
-ghost use Rattle.cf_base.specs.Count.{HasRisen};
+ghost use Rattle.std.specs.Prelude.{◌≡◌, ◌≢◌, Ok, Err, IfErr, IfOk, MatchResult};
 ghost use Rattle.project_job.specs.Asked.{HasInspectedFor};
+ghost use Rattle.project_job.specs.Leaves.{LeavesScan};
 ghost use Rattle.project_run.specs.Look.{IsOfLook, outcome_of_fault};
-ghost use Rattle.project_run.specs.Run.{IsLeftAlone, OnDisk, Reaches};
+ghost use Rattle.project_run.specs.Calls.{IsLeftAlone, LeavesDisk, OnDisk, Replies};
 ghost use Rattle.project_run.specs.Status.{IsStatus, IsStatusReply, status_text};
 
 use crate::report::put_count;
@@ -27,21 +27,14 @@ pub fn status<S: Scans, D: Disk>(
     scan: &mut S,
     disk: &mut D,
 ) -> Result<Vec<u8>, Outcome>
-    ensures folder { Reaches result (OnDisk D.tells D.history D.faults disk.old disk.new
+    ensures folder { Replies result (OnDisk D.tells D.history D.faults disk.old disk.new
         (λ was is. IsStatusReply (S.world scan.old) path.now was is (S.loads scan.old) (S.loads scan.new))) }
     ensures kind { MatchResult result (λ text. Unit {0}) IsOfLook }
 
-    ensures failed { result ≡ Err Outcome.SourceFault → HasRisen (S.faults scan.old) (S.faults scan.new) }
-    ensures steady { result ≢ Err Outcome.SourceFault → S.faults scan.new ≡ S.faults scan.old }
-    ensures later { S.faults scan.old ≤ S.faults scan.new }
-    ensures world { S.world scan.new ≡ S.world scan.old }
+    ensures scan { LeavesScan S.world S.faults S.same (result ≡ Err Outcome.SourceFault) scan.old scan.new }
     ensures refused_heads { IfErr result (HasInspectedFor (S.world scan.old) path.now (S.heads scan.old) (S.heads scan.new)) }
-    ensures same { S.same scan.old scan.new }
 
-    ensures disk_fault { result ≡ Err Outcome.DiskFault → HasRisen (D.faults disk.old) (D.faults disk.new) }
-    ensures disk_steady { result ≢ Err Outcome.DiskFault → D.faults disk.new ≡ D.faults disk.old }
-    ensures disk_later { D.faults disk.old ≤ D.faults disk.new }
-    ensures disk_same { D.loans disk.new ≡ D.loans disk.old }
+    ensures disk { LeavesDisk D.faults D.loans (result ≡ Err Outcome.DiskFault) disk.old disk.new }
     ensures untouched { IfErr result (IsLeftAlone disk.old disk.new) }
 {
     let job = match planned(alloc, path, scan) {
@@ -56,14 +49,11 @@ pub fn status<S: Scans, D: Disk>(
 
 /// How many frames of a job the reel folder acknowledges, or the outcome that was reached.
 fn status_of<D: Disk>(alloc: Global, job: &Job, disk: &mut D) -> Result<Vec<u8>, Outcome>
-    ensures status { Reaches result (OnDisk D.tells D.history D.faults disk.old disk.new (IsStatus job.now)) }
+    ensures status { Replies result (OnDisk D.tells D.history D.faults disk.old disk.new (IsStatus job.now)) }
     ensures kind { MatchResult result (λ text. Unit {0}) IsOfLook }
     ensures never { result ≢ Err Outcome.SourceFault }
 
-    ensures disk_fault { result ≡ Err Outcome.DiskFault → HasRisen (D.faults disk.old) (D.faults disk.new) }
-    ensures disk_steady { result ≢ Err Outcome.DiskFault → D.faults disk.new ≡ D.faults disk.old }
-    ensures disk_later { D.faults disk.old ≤ D.faults disk.new }
-    ensures disk_same { D.loans disk.new ≡ D.loans disk.old }
+    ensures disk { LeavesDisk D.faults D.loans (result ≡ Err Outcome.DiskFault) disk.old disk.new }
 {
     let count = job.timeline().count();
     match Ledger::peek(alloc, disk, job.digest(), count) {

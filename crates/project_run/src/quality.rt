@@ -1,13 +1,13 @@
 //! The command `qc`.
-ghost use Rattle.std.specs.Prelude.{◌≡◌, ◌≢◌, ◌≤◌, true, length, map, Err, IfErr, MatchResult};
-ghost use Rattle.cf_base.specs.Count.{HasRisen};
+ghost use Rattle.std.specs.Prelude.{◌≡◌, ◌≢◌, true, length, map, Err, IfErr, MatchResult};
 ghost use Rattle.reel_disk.specs.Disk.{view_of, IsStill};
 ghost use Rattle.reel_writer.specs.Reel.{frames_of};
 ghost use Rattle.resume_ledger.specs.Look.{IsViewOf};
 ghost use Rattle.project_job.specs.Asked.{HasInspectedFor};
+ghost use Rattle.project_job.specs.Leaves.{LeavesScan};
 ghost use Rattle.project_run.specs.Look.{IsOfLook};
 ghost use Rattle.project_run.specs.Quality.{IsCounted, IsQcReply, IsTabled};
-ghost use Rattle.project_run.specs.Run.{IsLeftAlone, OnDisk, Reaches};
+ghost use Rattle.project_run.specs.Calls.{IsLeftAlone, LeavesDisk, OnDisk, Replies};
 
 use crate::progress::outcome_of_fault;
 use cf_base::PathText;
@@ -35,21 +35,14 @@ pub fn qc<S: Scans, D: Disk, C: Counter>(
     probes: &[Probe],
 ) -> Result<Vec<u8>, Outcome>
     requires ready { C.ready }
-    ensures folder { Reaches result (OnDisk D.tells D.history D.faults disk.old disk.new
+    ensures folder { Replies result (OnDisk D.tells D.history D.faults disk.old disk.new
         (λ was is. IsQcReply (map (λ p. p.kind) probes.now) (S.world scan.old) path.now was is (S.loads scan.old) (S.loads scan.new))) }
     ensures kind { MatchResult result (λ text. Unit {0}) IsOfLook }
 
-    ensures failed { result ≡ Err Outcome.SourceFault → HasRisen (S.faults scan.old) (S.faults scan.new) }
-    ensures steady { result ≢ Err Outcome.SourceFault → S.faults scan.new ≡ S.faults scan.old }
-    ensures later { S.faults scan.old ≤ S.faults scan.new }
-    ensures world { S.world scan.new ≡ S.world scan.old }
+    ensures scan { LeavesScan S.world S.faults S.same (result ≡ Err Outcome.SourceFault) scan.old scan.new }
     ensures refused_heads { IfErr result (HasInspectedFor (S.world scan.old) path.now (S.heads scan.old) (S.heads scan.new)) }
-    ensures same { S.same scan.old scan.new }
 
-    ensures disk_fault { result ≡ Err Outcome.DiskFault → HasRisen (D.faults disk.old) (D.faults disk.new) }
-    ensures disk_steady { result ≢ Err Outcome.DiskFault → D.faults disk.new ≡ D.faults disk.old }
-    ensures disk_later { D.faults disk.old ≤ D.faults disk.new }
-    ensures disk_same { D.loans disk.new ≡ D.loans disk.old }
+    ensures disk { LeavesDisk D.faults D.loans (result ≡ Err Outcome.DiskFault) disk.old disk.new }
     ensures untouched { IfErr result (IsLeftAlone disk.old disk.new) }
 {
     let job = match planned(alloc, path, scan) {
@@ -71,15 +64,12 @@ fn tabled<D: Disk, C: Counter>(
     probes: &[Probe],
 ) -> Result<Vec<u8>, Outcome>
     requires ready { C.ready }
-    ensures tabled { Reaches result (OnDisk D.tells D.history D.faults disk.old disk.new
+    ensures tabled { Replies result (OnDisk D.tells D.history D.faults disk.old disk.new
         (IsTabled (map (λ p. p.kind) probes.now) job.now)) }
     ensures kind { MatchResult result (λ text. Unit {0}) IsOfLook }
     ensures never { result ≢ Err Outcome.SourceFault }
 
-    ensures disk_fault { result ≡ Err Outcome.DiskFault → HasRisen (D.faults disk.old) (D.faults disk.new) }
-    ensures disk_steady { result ≢ Err Outcome.DiskFault → D.faults disk.new ≡ D.faults disk.old }
-    ensures disk_later { D.faults disk.old ≤ D.faults disk.new }
-    ensures disk_same { D.loans disk.new ≡ D.loans disk.old }
+    ensures disk { LeavesDisk D.faults D.loans (result ≡ Err Outcome.DiskFault) disk.old disk.new }
 {
     match Ledger::look(alloc, disk, job.digest(), job.timeline().count()) {
         Ok(view) => {
@@ -103,16 +93,13 @@ fn counted<D: Disk, C: Counter>(
     requires ready { C.ready }
     requires size { length view.now.gates ≡ frames_of job.now }
     requires view { D.tells ≡ true → IsViewOf job.now.parts.digest (frames_of job.now) (view_of (D.history disk.old)) view.now }
-    ensures counted { Reaches result (OnDisk D.tells D.history D.faults disk.old disk.new
+    ensures counted { Replies result (OnDisk D.tells D.history D.faults disk.old disk.new
         (λ was is. IsCounted (map (λ p. p.kind) probes.now) job.now view.now was)) }
     ensures still { D.tells ≡ true → IsStill (D.history disk.old) (D.history disk.new) }
     ensures kind { MatchResult result (λ text. Unit {0}) IsOfLook }
     ensures never { result ≢ Err Outcome.SourceFault }
 
-    ensures disk_fault { result ≡ Err Outcome.DiskFault → HasRisen (D.faults disk.old) (D.faults disk.new) }
-    ensures disk_steady { result ≢ Err Outcome.DiskFault → D.faults disk.new ≡ D.faults disk.old }
-    ensures disk_later { D.faults disk.old ≤ D.faults disk.new }
-    ensures disk_same { D.loans disk.new ≡ D.loans disk.old }
+    ensures disk { LeavesDisk D.faults D.loans (result ≡ Err Outcome.DiskFault) disk.old disk.new }
 {
     match quality_table(alloc, counter, probes, disk, job, view) {
         Ok(text) => Ok(text),

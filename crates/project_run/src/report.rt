@@ -3,7 +3,7 @@ ghost use Rattle.std.specs.Prelude.{◌≡◌, ◌↔◌, [], ◌∷◌, ◌++�
 ghost use Rattle.conform_job.specs.Keys.{info_at};
 ghost use Rattle.outcome_line.specs.Output.{line_of};
 ghost use Rattle.printed_text.specs.Text.{spaced_line};
-ghost use Rattle.project_run.specs.Run.{IsKnown, IsOfRun, IsReplyOf, name_in, outcome_of_end, run_text};
+ghost use Rattle.project_run.specs.Run.{IsKnown, IsOfRun, ReportsEnd, name_in, outcome_of_end, run_text};
 ghost use Rattle.outcome_line.specs.declared.outcome.Outcome.TheVariants as outcomes;
 
 use cf_base::Key;
@@ -19,8 +19,8 @@ use std::alloc::{AllocError, Global};
 pub fn reply_of(alloc: Global, job: &Job, end: RunEnd, report: &Report) -> Result<Vec<u8>, Outcome>
     requires { IsKnown job.now end }
     ensures reply { MatchResult result
-        (λ text. IsReplyOf job.now end report.now Outcome.Done text.items)
-        (λ outcome. IsReplyOf job.now end report.now outcome (line_of outcome)) }
+        (λ text. ReportsEnd job.now end report.now Outcome.Done text.items)
+        (λ outcome. ReportsEnd job.now end report.now outcome (line_of outcome)) }
     ensures kind { MatchResult result (λ text. Unit {0}) IsOfRun }
     ensures source { (result ≡ Err Outcome.SourceFault) ↔ (end ≡ RunEnd.SourceFault) }
     ensures disk { (result ≡ Err Outcome.DiskFault) ↔ (end ≡ RunEnd.DiskFault) }

@@ -8,9 +8,9 @@ use Rattle.conform_tool.specs.ByJob.{AreJobHeads}
 use Rattle.conform_tool.specs.Meaning.{HasReelFailed, IsThrough, Meaning}
 
 -- A check may find a frame that is damaged besides.
-abbrev pub IsVerified : Outcome → Type 0
-IsVerified (Damaged frame kept found) = Unit {0}
-IsVerified result = IsThrough result
+abbrev pub IsThroughOrDamaged : Outcome → Type 0
+IsThroughOrDamaged (Damaged frame kept found) = Unit {0}
+IsThroughOrDamaged result = IsThrough result
 
 abbrev pub verify_meaning : List ℕ → Meaning
 verify_meaning path = record {
@@ -23,5 +23,5 @@ verify_meaning path = record {
       IsVerifyReply before.world path folders.reel folders_after.reel before.loads after.loads reached output;
   HasFailedDisk = HasReelFailed;
   IsAccepted = λ world folders. HasFitFolder world path folders.reel;
-  IsComplete = IsVerified;
+  IsComplete = IsThroughOrDamaged;
 }

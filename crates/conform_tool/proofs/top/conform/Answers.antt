@@ -1,7 +1,7 @@
 -- A run with several workers is a crew's, and all else is not.
 use Rattle.std.proofs.Common.{◌≡◌, ◌∙◌, ◌≤◌, arith, length, refl, rules, subst, sym, vec_len}
 use Rattle.command_words.specs.declared.command.Command.TheVariants as commands
-use Rattle.project_run.specs.Run.{disk_state}
+use Rattle.project_run.specs.Calls.{disk_state}
 use Rattle.conform_tool.specs.States.{folders_of}
 use Rattle.conform_tool.specs.Complete.{IsAccepted, IsComplete}
 use Rattle.conform_tool.proofs.Alone.{alone_adoption, alone_complete, alone_promise, alone_unfailed, first_answered}

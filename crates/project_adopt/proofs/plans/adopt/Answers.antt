@@ -10,7 +10,7 @@ pub returns-clause-folders : goal.returns-clause-folders
 returns-clause-folders g c =
     let planned = c.in-Ok.ensures in
     let by = job_in (g.S.Scans.world c.planned.new.scan) (g.S.Scans.world c.args.scan.now) c.in-Ok.job c.args.path.now c.args.old_path.now _ _ _ _ (g.S.Scans.loads c.args.scan.now) (g.S.Scans.loads c.planned.new.scan) _ in
-    match_each _ _ _ _ _ c.adopt_onto-reply.ensures.folders (λ text went. by _ _ planned.world planned.told planned.loaded went) (λ outcome went. by _ _ planned.world planned.told planned.loaded went)
+    match_each _ _ _ _ _ c.adopt_onto-reply.ensures.folders (λ text went. by _ _ planned.scan.told planned.told planned.loaded went) (λ outcome went. by _ _ planned.scan.told planned.told planned.loaded went)
 
 pub returns-in-Err-clause-folders : goal.returns-in-Err-clause-folders
 returns-in-Err-clause-folders g c =

@@ -1,11 +1,13 @@
 -- Frames are taken over, and the rest is run.
-use Rattle.std.proofs.Common.{◌≡◌, inr, ℕ, sym, ap, subst, ◌∙◌}
+use Rattle.std.proofs.Common.{◌≡◌, inr, ℕ, sym, ap, subst, ◌∙◌, arith}
 use Rattle.std.specs.Prelude.{Err}
 use Rattle.cf_base.specs.Count.{HasRisen}
+use Rattle.reconform.specs.declared.adopting.AdoptFault.TheVariants as faults
 use Rattle.outcome_line.specs.declared.outcome.Outcome.TheVariants as outcomes
-use Rattle.project_run.specs.Run.{disk_state}
+use Rattle.project_job.proofs.Leaving.{leaves_still}
+use Rattle.project_run.specs.Calls.{disk_state}
 use Rattle.project_run.proofs.Runs.{match_each}
-use Rattle.project_adopt.specs.Adopt.{IsOfAdopt}
+use Rattle.project_adopt.specs.Adopt.{IsOfAdopt, outcome_of_fault}
 use Rattle.project_adopt.proofs.Composing.{by_disk, fault_adopts, never_source, promised_no_further, promised_on, rest_of, run_adopts, went_no_further, went_on}
 use Rattle.project_adopt.proofs.reels.adopt_and_run.Goals as goal
 
@@ -36,9 +38,20 @@ returns-in-Ok-clause-promise g c told =
 pub returns-in-Ok-clause-kind : goal.returns-in-Ok-clause-kind
 returns-in-Ok-clause-kind g c = match_each _ _ _ _ _ c.run_rest.ensures.kind (λ text kind. tt) run_adopts
 
-pub returns-in-Ok-clause-disk_fault : goal.returns-in-Ok-clause-disk_fault
-returns-in-Ok-clause-disk_fault g c is =
-    inr (subst (λ (n : ℕ). HasRisen n (g.D.Disk.faults c.run_rest.new.disk)) (c.in-Ok.ensures.steady (λ same. cc)) (c.run_rest.ensures.disk_fault is))
+pub returns-in-Ok-clause-disks : goal.returns-in-Ok-clause-disks
+returns-in-Ok-clause-disks g c =
+    let adopted = c.in-Ok.ensures in
+    let rest = c.run_rest.ensures.disk in record {
+      cause = record {
+        old_later = adopted.cause.old_later;
+        later = omega (arith, adopted.cause.later, rest.counts.later);
+        failed = λ is. inr (subst (λ (n : ℕ). HasRisen n (g.D.Disk.faults c.run_rest.new.disk)) (adopted.steady (λ same. cc)) (rest.counts.failed is));
+      };
+      steady = λ none. rest.counts.steady none ∙ adopted.steady (λ same. cc);
+      old_steady = λ none. adopted.steady_old (λ same. cc);
+      lent = rest.lent ∙ adopted.same_disk;
+      old_lent = adopted.same_old;
+    }
 
 pub returns-in-Err-clause-went : goal.returns-in-Err-clause-went
 returns-in-Err-clause-went g c =
@@ -65,12 +78,23 @@ returns-in-Err-clause-promise g c told =
 pub returns-in-Err-clause-kind : goal.returns-in-Err-clause-kind
 returns-in-Err-clause-kind g c = subst IsOfAdopt (sym c.outcome_of_fault.ensures) (fault_adopts c.in-Err.fault)
 
-pub returns-in-Err-clause-failed : goal.returns-in-Err-clause-failed
-returns-in-Err-clause-failed g c is =
-    let same : c.outcome_of_fault.result ≡ outcomes.SourceFault = cc in
-    absurd (never_source c.in-Err.fault (sym c.outcome_of_fault.ensures ∙ same))
+pub returns-in-Err-clause-scan : goal.returns-in-Err-clause-scan
+returns-in-Err-clause-scan g c =
+    leaves_still g.S.Scans.world g.S.Scans.faults g.S.Scans.same _ (g.met.S.Scans.same_refl _)
+    (λ is. let same : c.outcome_of_fault.result ≡ outcomes.SourceFault = cc in never_source c.in-Err.fault (sym c.outcome_of_fault.ensures ∙ same))
 
-pub returns-in-Err-clause-disk_fault : goal.returns-in-Err-clause-disk_fault
-returns-in-Err-clause-disk_fault g c is =
-    let same : c.outcome_of_fault.result ≡ outcomes.DiskFault = cc in
-    c.in-Err.ensures.cause.failed (ap Err (by_disk c.in-Err.fault (sym c.outcome_of_fault.ensures ∙ same)))
+pub returns-in-Err-clause-disks : goal.returns-in-Err-clause-disks
+returns-in-Err-clause-disks g c =
+    let adopted = c.in-Err.ensures in
+    let unless : (c.outcome_of_fault.result ≡ outcomes.DiskFault → ⊥) → c.in-Err.fault ≡ faults.DiskFault → ⊥ =
+        λ none is. none (c.outcome_of_fault.ensures ∙ ap outcome_of_fault is) in record {
+      cause = record {
+        old_later = adopted.cause.old_later;
+        later = adopted.cause.later;
+        failed = λ is. let same : c.outcome_of_fault.result ≡ outcomes.DiskFault = cc in adopted.cause.failed (ap Err (by_disk c.in-Err.fault (sym c.outcome_of_fault.ensures ∙ same)));
+      };
+      steady = λ none. adopted.steady (λ is. unless (λ same. none (ap Err same)) (let same : c.in-Err.fault ≡ faults.DiskFault = cc in same));
+      old_steady = λ none. adopted.steady_old (λ is. unless (λ same. none (ap Err same)) (let same : c.in-Err.fault ≡ faults.DiskFault = cc in same));
+      lent = adopted.same_disk;
+      old_lent = adopted.same_old;
+    }

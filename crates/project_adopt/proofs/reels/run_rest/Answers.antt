@@ -1,9 +1,10 @@
 -- The rest is run as the command `run` does.
 use Rattle.std.proofs.Common.{ℕ, List, refl}
 use Rattle.outcome_line.specs.declared.outcome.Outcome.{Outcome}
-use Rattle.project_run.specs.Run.{disk_state, run_text}
+use Rattle.project_run.specs.Calls.{disk_state}
+use Rattle.project_run.specs.Run.{run_text}
 use Rattle.project_run.proofs.Runs.{is_known, match_each}
-use Rattle.project_adopt.specs.Adopt.{IsReplyTo, IsRest}
+use Rattle.project_adopt.specs.Adopt.{ReportsAdoption, IsRest}
 use Rattle.project_adopt.proofs.reels.run_rest.Goals as goal
 
 pub reply_of-requires : goal.reply_of-requires
@@ -15,7 +16,7 @@ returns-clause-ran g c =
     let end = c.run_alone-end.result.0 in
     let report = c.run_alone-end.result.1 in
     let at = disk_state g.D.Disk.tells g.D.Disk.history g.D.Disk.faults in
-    let by : (reached : Outcome) (output : List ℕ) → IsReplyTo c.args.job.now c.args.done end report reached output
+    let by : (reached : Outcome) (output : List ℕ) → ReportsAdoption c.args.job.now c.args.done end report reached output
     → IsRest c.args.job.now (g.S.Scans.world c.args.scan.now) c.args.done (at c.args.disk.now) (at c.run_alone-end.new.disk) (g.S.Scans.loads c.args.scan.now) (g.S.Scans.loads c.run_alone-end.new.scan) reached output =
     λ reached output reply. record {
       run_output = run_text report;
@@ -26,12 +27,7 @@ returns-clause-ran g c =
         frames = run.frames;
         log = c.run_alone-end.result.2;
         ran = run.ran;
-        run = run.run;
-        acked = run.acked;
-        whole = run.whole;
-        sound_has = run.sound_has;
-        spares = run.spares;
-        writes = run.writes;
+        keeps = record { run = run.run; acked = run.acked; whole = run.whole; sound_has = run.sound_has; spares = run.spares; writes = run.writes };
         loaded = run.scan.asked;
         changed = run.changed;
       };

@@ -1,7 +1,8 @@
 -- The front of the cube's file stands for the file.
 use Rattle.std.proofs.Common.{◌≡◌, Ok, Err, refl, subst}
 use Rattle.project_job.specs.Jobs.{look_of_text, itself, Reaches}
-use Rattle.project_job.proofs.Projects.{cube_had, cube_refused, cube_missing}
+use Rattle.project_job.proofs.Projects.{err_as, no_err, cube_had, cube_refused, cube_missing}
+use Rattle.project_job.proofs.Leaving.{leaves_as, leaves_done}
 use Rattle.project_job.proofs.Loading.{load_stage}
 use Rattle.outcome_line.specs.declared.outcome.Which.TheVariants as which
 use Rattle.project_job.proofs.project.cube_in.Goals as goal
@@ -21,3 +22,15 @@ returns-in-Err-clause-told g c = cube_missing (g.S.Scans.world c.args.scan.now) 
 
 pub returns-in-Err-clause-stage : goal.returns-in-Err-clause-stage
 returns-in-Err-clause-stage g c = load_stage which.Cube 3 c.in-Err.outcome (λ cube. refl) c.in-Err.ensures.kind
+
+pub returns-in-Err-clause-scan : goal.returns-in-Err-clause-scan
+returns-in-Err-clause-scan g c =
+    leaves_as g.S.Scans.world g.S.Scans.faults g.S.Scans.same _ _ (err_as _ _) (err_as _ _) c.in-Err.ensures.scan
+
+pub returns-in-Ok-look_of-clause-scan : goal.returns-in-Ok-look_of-clause-scan
+returns-in-Ok-look_of-clause-scan g c =
+    leaves_done g.S.Scans.world g.S.Scans.faults g.S.Scans.same _ _ (no_err _ _) (no_err _ _) c.in-Ok.ensures.scan
+
+pub returns-in-Err-look_of-clause-scan : goal.returns-in-Err-look_of-clause-scan
+returns-in-Err-look_of-clause-scan g c =
+    leaves_done g.S.Scans.world g.S.Scans.faults g.S.Scans.same _ _ (no_err _ _) (λ e. c.in-Err-look_of.ensures.not_the_scan (err_as _ _ e)) c.in-Ok.ensures.scan

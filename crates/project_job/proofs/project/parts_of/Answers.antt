@@ -1,45 +1,25 @@
 -- The steps to the parts of a job, one after another; the list and the cube are loaded.
 use Rattle.std.proofs.Common.{◌∙◌, refl, arith}
 use Rattle.project_job.proofs.Projects.{loaded_both, loaded_list, err_as, no_err, no_reels, no_list, no_timeline, no_look, all_parts}
+use Rattle.project_job.proofs.Leaving.{leaves_as, leaves_done, leaves_still, leaves_then}
 use Rattle.project_job.proofs.Loading.{loaded_behind, look_behind, stage_texts}
 use Rattle.project_job.proofs.project.parts_of.Goals as goal
 
 pub returns-in-Err-clause-told : goal.returns-in-Err-clause-told
 returns-in-Err-clause-told g c = no_reels (g.S.Scans.world c.args.scan.now) c.args.text.now c.args.project c.in-Err.outcome c.in-Err.ensures.table
 
-pub returns-in-Err-clause-failed : goal.returns-in-Err-clause-failed
-returns-in-Err-clause-failed g c e = absurd (c.in-Err.ensures.not_the_scan (err_as _ _ e))
-
 pub returns-in-Err-list_in-clause-told : goal.returns-in-Err-list_in-clause-told
 returns-in-Err-list_in-clause-told g c =
     no_list (g.S.Scans.world c.args.scan.now) c.args.text.now c.args.project c.in-Ok.reels c.in-Ok.ensures.table c.in-Err-list_in.outcome c.in-Err-list_in.ensures.told
-
-pub returns-in-Err-list_in-clause-failed : goal.returns-in-Err-list_in-clause-failed
-returns-in-Err-list_in-clause-failed g c e = c.in-Err-list_in.ensures.failed (err_as _ _ e)
-
-pub returns-in-Err-list_in-clause-steady : goal.returns-in-Err-list_in-clause-steady
-returns-in-Err-list_in-clause-steady g c other = c.in-Err-list_in.ensures.steady (λ e. other (err_as _ _ e))
 
 pub returns-in-Err-timeline_of-clause-told : goal.returns-in-Err-timeline_of-clause-told
 returns-in-Err-timeline_of-clause-told g c =
     no_timeline (g.S.Scans.world c.args.scan.now) c.args.text.now c.args.project c.in-Ok.reels c.in-Ok.ensures.table c.in-Ok-list_in.read c.in-Ok-list_in.ensures.told c.in-Err-timeline_of.outcome c.in-Err-timeline_of.ensures.timeline
 
-pub returns-in-Err-timeline_of-clause-failed : goal.returns-in-Err-timeline_of-clause-failed
-returns-in-Err-timeline_of-clause-failed g c e = absurd (c.in-Err-timeline_of.ensures.not_the_scan (err_as _ _ e))
-
-pub returns-in-Err-timeline_of-clause-steady : goal.returns-in-Err-timeline_of-clause-steady
-returns-in-Err-timeline_of-clause-steady g c other = c.in-Ok-list_in.ensures.steady (no_err _ _)
-
 pub returns-in-Err-look_in-clause-told : goal.returns-in-Err-look_in-clause-told
 returns-in-Err-look_in-clause-told g c =
     no_look (g.S.Scans.world c.args.scan.now) c.args.text.now c.args.project c.in-Ok.reels c.in-Ok.ensures.table c.in-Ok-list_in.read c.in-Ok-list_in.ensures.told c.in-Ok-timeline_of.timeline c.in-Ok-timeline_of.ensures.timeline
-    c.in-Err-look_in.outcome (rw c.in-Ok-list_in.ensures.world at c.in-Err-look_in.ensures.told)
-
-pub returns-in-Err-look_in-clause-failed : goal.returns-in-Err-look_in-clause-failed
-returns-in-Err-look_in-clause-failed g c e = rw (c.in-Ok-list_in.ensures.steady (no_err _ _)) at (c.in-Err-look_in.ensures.failed (err_as _ _ e))
-
-pub returns-in-Err-look_in-clause-steady : goal.returns-in-Err-look_in-clause-steady
-returns-in-Err-look_in-clause-steady g c other = c.in-Err-look_in.ensures.steady (λ e. other (err_as _ _ e)) ∙ c.in-Ok-list_in.ensures.steady (no_err _ _)
+    c.in-Err-look_in.outcome (rw c.in-Ok-list_in.ensures.scan.told at c.in-Err-look_in.ensures.told)
 
 pub returns-in-Err-look_in-clause-loads : goal.returns-in-Err-look_in-clause-loads
 returns-in-Err-look_in-clause-loads g c =
@@ -48,13 +28,7 @@ returns-in-Err-look_in-clause-loads g c =
 pub returns-clause-told : goal.returns-clause-told
 returns-clause-told g c =
     all_parts (g.S.Scans.world c.args.scan.now) c.args.text.now c.args.project c.in-Ok.reels c.in-Ok.ensures.table c.in-Ok-list_in.read c.in-Ok-list_in.ensures.told c.in-Ok-timeline_of.timeline c.in-Ok-timeline_of.ensures.timeline
-    c.in-Ok-look_in.read c.job_digest.result (rw (c.as_deref.ensures.value, c.deref.ensures.value) at c.job_digest.ensures) (rw c.in-Ok-list_in.ensures.world at c.in-Ok-look_in.ensures.told)
-
-pub returns-clause-failed : goal.returns-clause-failed
-returns-clause-failed g c e = absurd (no_err _ _ e)
-
-pub returns-clause-steady : goal.returns-clause-steady
-returns-clause-steady g c other = c.in-Ok-look_in.ensures.steady (no_err _ _) ∙ c.in-Ok-list_in.ensures.steady (no_err _ _)
+    c.in-Ok-look_in.read c.job_digest.result (rw (c.as_deref.ensures.value, c.deref.ensures.value) at c.job_digest.ensures) (rw c.in-Ok-list_in.ensures.scan.told at c.in-Ok-look_in.ensures.told)
 
 pub returns-clause-loads : goal.returns-clause-loads
 returns-clause-loads g c =
@@ -115,26 +89,28 @@ returns-clause-planned g c = record {
   cuts = c.requires.cuts;
 }
 
-pub returns-in-Err-look_in-clause-later : goal.returns-in-Err-look_in-clause-later
-returns-in-Err-look_in-clause-later g c = omega (arith, c.in-Ok-list_in.ensures.later, c.in-Err-look_in.ensures.later)
-
 pub returns-in-Err-look_in-clause-heads : goal.returns-in-Err-look_in-clause-heads
 returns-in-Err-look_in-clause-heads g c = c.in-Err-look_in.ensures.heads ∙ c.in-Ok-list_in.ensures.heads
-
-pub returns-in-Err-look_in-clause-world : goal.returns-in-Err-look_in-clause-world
-returns-in-Err-look_in-clause-world g c = c.in-Err-look_in.ensures.world ∙ c.in-Ok-list_in.ensures.world
-
-pub returns-in-Err-look_in-clause-same : goal.returns-in-Err-look_in-clause-same
-returns-in-Err-look_in-clause-same g c = g.met.S.Scans.same_trans _ _ _ c.in-Ok-list_in.ensures.same c.in-Err-look_in.ensures.same
-
-pub returns-clause-later : goal.returns-clause-later
-returns-clause-later g c = omega (arith, c.in-Ok-list_in.ensures.later, c.in-Ok-look_in.ensures.later)
 
 pub returns-clause-heads : goal.returns-clause-heads
 returns-clause-heads g c = c.in-Ok-look_in.ensures.heads ∙ c.in-Ok-list_in.ensures.heads
 
-pub returns-clause-world : goal.returns-clause-world
-returns-clause-world g c = c.in-Ok-look_in.ensures.world ∙ c.in-Ok-list_in.ensures.world
+pub returns-in-Err-clause-scan : goal.returns-in-Err-clause-scan
+returns-in-Err-clause-scan g c =
+    leaves_still g.S.Scans.world g.S.Scans.faults g.S.Scans.same _ (g.met.S.Scans.same_refl _) (λ e. c.in-Err.ensures.not_the_scan (err_as _ _ e))
 
-pub returns-clause-same : goal.returns-clause-same
-returns-clause-same g c = g.met.S.Scans.same_trans _ _ _ c.in-Ok-list_in.ensures.same c.in-Ok-look_in.ensures.same
+pub returns-in-Err-list_in-clause-scan : goal.returns-in-Err-list_in-clause-scan
+returns-in-Err-list_in-clause-scan g c =
+    leaves_as g.S.Scans.world g.S.Scans.faults g.S.Scans.same _ _ (err_as _ _) (err_as _ _) c.in-Err-list_in.ensures.scan
+
+pub returns-in-Err-timeline_of-clause-scan : goal.returns-in-Err-timeline_of-clause-scan
+returns-in-Err-timeline_of-clause-scan g c =
+    leaves_done g.S.Scans.world g.S.Scans.faults g.S.Scans.same _ _ (no_err _ _) (λ e. c.in-Err-timeline_of.ensures.not_the_scan (err_as _ _ e)) c.in-Ok-list_in.ensures.scan
+
+pub returns-in-Err-look_in-clause-scan : goal.returns-in-Err-look_in-clause-scan
+returns-in-Err-look_in-clause-scan g c =
+    leaves_then g.S.Scans.world g.S.Scans.faults g.S.Scans.same g.met.S.Scans.same_trans _ _ _ (no_err _ _) c.in-Ok-list_in.ensures.scan (leaves_as g.S.Scans.world g.S.Scans.faults g.S.Scans.same _ _ (err_as _ _) (err_as _ _) c.in-Err-look_in.ensures.scan)
+
+pub returns-clause-scan : goal.returns-clause-scan
+returns-clause-scan g c =
+    leaves_then g.S.Scans.world g.S.Scans.faults g.S.Scans.same g.met.S.Scans.same_trans _ _ _ (no_err _ _) c.in-Ok-list_in.ensures.scan (leaves_done g.S.Scans.world g.S.Scans.faults g.S.Scans.same _ _ (no_err _ _) (no_err _ _) c.in-Ok-look_in.ensures.scan)

@@ -2,6 +2,7 @@
 use Rattle.std.proofs.Common.{refl}
 use Rattle.project_job.proofs.Counted.{counted_project}
 use Rattle.project_job.proofs.Projects.{err_as, no_err, memory_apart, refused_apart, project_had, project_refused}
+use Rattle.project_job.proofs.Leaving.{leaves_as, leaves_done}
 use Rattle.project_job.proofs.Loading.{load_stage, memory_stage, own_stage}
 use Rattle.outcome_line.specs.declared.outcome.Which.TheVariants as which
 use Rattle.outcome_line.specs.declared.outcome.Refused.TheVariants as refused
@@ -20,30 +21,6 @@ returns-in-Err-Fault-clause-told g c =
     project_refused (g.S.Scans.world c.args.scan.now) c.args.path.now c.in-Ok.front c.in-Err-Fault.fault c.in-Ok.ensures.told
     (rw (c.in-Err-Fault.field-0-is, c.deref.ensures.value) at c.in-Err-Fault.ensures.project)
 
-pub returns-in-Err-clause-failed : goal.returns-in-Err-clause-failed
-returns-in-Err-clause-failed g c e = c.in-Err.ensures.failed (err_as _ _ e)
-
-pub returns-in-Err-clause-steady : goal.returns-in-Err-clause-steady
-returns-in-Err-clause-steady g c other = c.in-Err.ensures.steady (λ e. other (err_as _ _ e))
-
-pub returns-in-Ok-read_project-clause-failed : goal.returns-in-Ok-read_project-clause-failed
-returns-in-Ok-read_project-clause-failed g c e = absurd (no_err _ _ e)
-
-pub returns-in-Ok-read_project-clause-steady : goal.returns-in-Ok-read_project-clause-steady
-returns-in-Ok-read_project-clause-steady g c other = c.in-Ok.ensures.steady (no_err _ _)
-
-pub returns-in-Err-Fault-clause-failed : goal.returns-in-Err-Fault-clause-failed
-returns-in-Err-Fault-clause-failed g c e = absurd (refused_apart _ e)
-
-pub returns-in-Err-Fault-clause-steady : goal.returns-in-Err-Fault-clause-steady
-returns-in-Err-Fault-clause-steady g c other = c.in-Ok.ensures.steady (no_err _ _)
-
-pub returns-clause-failed : goal.returns-clause-failed
-returns-clause-failed g c e = absurd (memory_apart e)
-
-pub returns-clause-steady : goal.returns-clause-steady
-returns-clause-steady g c other = c.in-Ok.ensures.steady (no_err _ _)
-
 pub returns-in-Err-clause-stage : goal.returns-in-Err-clause-stage
 returns-in-Err-clause-stage g c = load_stage which.Project 1 c.in-Err.outcome (λ cube. refl) c.in-Err.ensures.kind
 
@@ -52,3 +29,19 @@ returns-in-Err-Fault-clause-stage g c = own_stage 1 (refused.Project c.in-Err-Fa
 
 pub returns-clause-stage : goal.returns-clause-stage
 returns-clause-stage g c = memory_stage 1
+
+pub returns-in-Err-clause-scan : goal.returns-in-Err-clause-scan
+returns-in-Err-clause-scan g c =
+    leaves_as g.S.Scans.world g.S.Scans.faults g.S.Scans.same _ _ (err_as _ _) (err_as _ _) c.in-Err.ensures.scan
+
+pub returns-in-Ok-read_project-clause-scan : goal.returns-in-Ok-read_project-clause-scan
+returns-in-Ok-read_project-clause-scan g c =
+    leaves_done g.S.Scans.world g.S.Scans.faults g.S.Scans.same _ _ (no_err _ _) (no_err _ _) c.in-Ok.ensures.scan
+
+pub returns-in-Err-Fault-clause-scan : goal.returns-in-Err-Fault-clause-scan
+returns-in-Err-Fault-clause-scan g c =
+    leaves_done g.S.Scans.world g.S.Scans.faults g.S.Scans.same _ _ (no_err _ _) (refused_apart _) c.in-Ok.ensures.scan
+
+pub returns-clause-scan : goal.returns-clause-scan
+returns-clause-scan g c =
+    leaves_done g.S.Scans.world g.S.Scans.faults g.S.Scans.same _ _ (no_err _ _) memory_apart c.in-Ok.ensures.scan

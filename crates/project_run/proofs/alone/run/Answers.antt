@@ -8,7 +8,7 @@ pub returns-clause-folder : goal.returns-clause-folder
 returns-clause-folder g c =
     let job = c.in-Ok.ensures in
     let reply = run_in c.in-Ok.job (g.S.Scans.world c.planned.new.scan) (g.S.Scans.world c.args.scan.now) c.args.path.now _ _ (g.S.Scans.loads c.args.scan.now) (g.S.Scans.loads c.planned.new.scan) _ in
-    match_each _ _ _ _ _ c.run_job-reply.ensures.ran (λ text ran. reply _ _ job.world job.told job.loaded ran) (λ outcome ran. reply _ _ job.world job.told job.loaded ran)
+    match_each _ _ _ _ _ c.run_job-reply.ensures.ran (λ text ran. reply _ _ job.scan.told job.told job.loaded ran) (λ outcome ran. reply _ _ job.scan.told job.told job.loaded ran)
 
 pub returns-in-Err-clause-folder : goal.returns-in-Err-clause-folder
 returns-in-Err-clause-folder g c =

@@ -2,7 +2,7 @@
 use Rattle.std.proofs.Common.{refl, subst, sym}
 use Rattle.outcome_line.specs.Output.{line_of}
 use Rattle.outcome_line.specs.declared.outcome.Outcome.{Outcome}
-use Rattle.project_run.specs.Run.{disk_state}
+use Rattle.project_run.specs.Calls.{disk_state}
 use Rattle.project_run.specs.Sheet.{HasSheet}
 use Rattle.project_run.proofs.Runs.{match_each}
 use Rattle.project_run.proofs.Looking.{sheet_by, unsheeted}

@@ -1,0 +1,47 @@
+-- What a call of a command comes to, and what it makes of the scan and of the disk that it is lent. All of it is this project's
+-- own rule.
+--     Replies result IsReply      what it came to is such a reply
+--     DiskState, disk_state      what a disk tells at a moment, and its count of faults
+--     OnDisk      what it made of a disk
+--     LeavesDisk      what it leaves of a disk, whatever it comes to, as `LeavesScan` says it of a scan
+--     IsLeftAlone before after reached      where a project is refused, it left this alone
+use Rattle.std.specs.Prelude.{◌≡◌, ℕ, Bool, List, Result, MatchResult, Vec}
+use Rattle.std.specs.declared.alloc.Global.{Global}
+use Rattle.reel_disk.specs.Disk.{History}
+use Rattle.reel_disk.specs.Loan.{Loan}
+use Rattle.project_job.specs.Leaves.{CountsFaults}
+use Rattle.outcome_line.specs.Output.{line_of}
+use Rattle.outcome_line.specs.declared.outcome.Outcome.{Outcome}
+use Rattle.outcome_line.specs.declared.outcome.Outcome.TheVariants as outcome
+
+-- what it came to: its output, or an outcome with its line
+abbrev pub Replies : Result (Vec ℕ Global) Outcome → (Outcome → List ℕ → Type 0) → Type 0
+Replies result IsReply = MatchResult result (λ output. IsReply outcome.Done output.items) (λ reached. IsReply reached (line_of reached))
+
+pub record DiskState : Type 0 where
+  pub tells : Bool
+  pub history : History
+  pub faults : ℕ
+
+-- of a disk, by its meanings
+abbrev pub disk_state : {D : Type 0} → Bool → (D → History) → (D → ℕ) → D → DiskState
+disk_state tells history faults disk = record { tells = tells; history = history disk; faults = faults disk }
+
+-- what it made of a disk, by its meanings: this is so of the disk before the call and of the disk after it
+abbrev pub OnDisk : {D : Type 0} {A : Type 1} → Bool → (D → History) → (D → ℕ) → (before after : D) → (DiskState → DiskState → A) → A
+OnDisk tells history faults before after Made = Made (disk_state tells history faults before) (disk_state tells history faults after)
+
+-- The disk is lent as it was.
+pub record LeavesDisk {D : Type 0} (faults : D → ℕ) (loans : D → List Loan) (Failed : Type 0) (before after : D) : Type 0 where
+  pub counts : CountsFaults Failed (faults before) (faults after)
+  pub lent : loans after ≡ loans before
+
+-- a project is refused, the new one or an old one
+abbrev pub IsRefusal : Outcome → Type 0
+IsRefusal (outcome.Refused refusal) = Unit {0}
+IsRefusal (outcome.OldRefused refusal) = Unit {0}
+IsRefusal other = ⊥
+
+-- no call is made on what is left alone where a project is refused
+abbrev pub IsLeftAlone : {A : Type 0} → A → A → Outcome → Type 0
+IsLeftAlone before after reached = IsRefusal reached → after ≡ before
