@@ -34,14 +34,14 @@ fn main(rt: HostRuntime) -> ExitCode {
     let Ok(words) = words_of(alloc, &owned) else {
         return without_memory(&mut out);
     };
-    let Ok(scans) = scans_over(&rt) else {
-        return without_memory(&mut out);
-    };
-    let (reel_name, old_name) = folder_names();
-    let Ok(disk) = folder_at(&rt, reel_name) else {
-        return without_memory(&mut out);
-    };
-    let Ok(mut old) = folder_at(&rt, old_name) else {
+    let Ok(
+        Outside {
+            scans,
+            disk,
+            mut old,
+        },
+    ) = outside_of(&rt)
+    else {
         return without_memory(&mut out);
     };
     let probes = [
@@ -79,6 +79,26 @@ fn words_of(alloc: Global, owned: &[String]) -> Result<Vec<&str>, AllocError> {
         words.push(word.as_str())?;
     }
     Ok(words)
+}
+
+/// What a call is handed of the outside: scans, the reel folder, and that of an old reel.
+struct Outside<R: Runtime> {
+    scans: Vec<FileScans<R>>,
+    disk: FolderDisk<R>,
+    old: FolderDisk<R>,
+}
+
+/// The files of the system, and the two folders before the first call on them.
+fn outside_of<R: Runtime + AllocGlobal>(rt: &R) -> Result<Outside<R>, AllocError>
+    ensures scans { IfOk result (λ outside. vec_len outside.scans ≡ 16) }
+    ensures disk { IfOk result (λ outside. ⟦<FolderDisk<R> as Disk>⟧.faults outside.disk ≡ 0) }
+{
+    let (reel, old) = folder_names();
+    Ok(Outside {
+        scans: scans_over(rt)?,
+        disk: folder_at(rt, reel)?,
+        old: folder_at(rt, old)?,
+    })
 }
 
 /// Scans over the files of the system, below the current folder.
