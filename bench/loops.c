@@ -1,8 +1,9 @@
-// The pixel rules as plain loops, for bench/look, bench/render, bench/qc and bench/sheet to set the program's beside: picoseconds of
-// processor time a pixel (and a sum, so that no loop is left out) of a cut's lines, from a frame that was decoded just before, of
-// a dissolve, of a look of one dimension with 1,024 places, of one of three with 33 a side, of the three counts of the quality
-// table, and of the contact sheet's boxes of 16 by 16 pixels. Where each code lies between two places is found once, as in the
-// program.
+// The pixel rules as plain loops, for bench/kernels, bench/qc and bench/sheet to set the program's beside: picoseconds of processor
+// time a pixel (and a sum, so that no loop is left out) of a copy, of a cut from words to bytes, of a dissolve, of a look of one
+// dimension with 1,024 places, of one of three with 33 a side, of the three counts of the quality table, and of the contact
+// sheet's boxes of 16 by 16 pixels. Where each code lies between two places is found once, as in the program.
+//
+//     loops smooth|noise      the words are those of ramps with noise, or noise alone
 #include <stdint.h>
 #include <stdio.h>
 #include <stdlib.h>
@@ -15,14 +16,27 @@ static uint16_t cube[SIDE * SIDE * SIDE][3], line[LONG][3];
 static int64_t low[3], high[3] = {1000000000, 1000000000, 1000000000};
 static uint32_t old[PIXELS], incoming[PIXELS], out[PIXELS];
 
+// As in the program kernel_times.
+static void fill(uint32_t *words, uint32_t state, int smooth) {
+    for (uint32_t i = 0; i < PIXELS; i++) {
+        state = state * 1664525 + 1013904223;
+        uint32_t x = i % WIDE, y = i / WIDE;
+        uint32_t r = x / 2 + 4 * y + (state >> 27), g = x / 4 + (state >> 22 & 31), b = x / 2 + 4 * y + 300 + (state >> 17 & 31);
+        words[i] = smooth ? (r & 1023) << 22 | (g & 1023) << 12 | (b & 1023) << 2 : state & ~3u;
+    }
+}
+
 static uint32_t code(uint32_t word, int channel) { return word >> (22 - 10 * channel) & 1023; }
 
 static uint32_t mixed(uint32_t a, uint32_t b, uint64_t k, uint64_t d) {
     return (a * (2 * d - 2 * k - 1) + b * (2 * k + 1) + d) / (2 * d);
 }
 
+// No compiler knows how long a dissolve is.
+static volatile uint64_t duration = 24;
+
 static void dissolve(void) {
-    uint64_t k = 3 + clock() % 3, d = 24;
+    uint64_t k = 3 + clock() % 3, d = duration;
     for (int i = 0; i < PIXELS; i++) {
         uint32_t word = 0;
         for (int c = 0; c < 3; c++) word |= mixed(code(old[i], c), code(incoming[i], c), k, d) << (22 - 10 * c);
@@ -109,27 +123,13 @@ static void boxes(void) {
         for (int c = 0; c < 3; c++) out[3 * at + c] = (2 * sums[c][at] + sums[3][at]) / (2 * sums[3][at]);
 }
 
-enum { FRAME = 1556 * WIDE };
-
-static uint32_t source[FRAME], file[FRAME], frame[FRAME], made[FRAME], written[FRAME];
-
-// What a run does before the lines of a cut, so that as much of the memory is in the caches: the frame before is written, and a
-// file is read and decoded.
-static void decode(void) {
-    memcpy(written, made, sizeof made);
-    memcpy(file, source, sizeof file);
-    for (int n = 0; n < FRAME; n++) frame[n] = __builtin_bswap32(file[n]) & ~3u;
+static void copy(void) {
+    for (int i = 0; i < PIXELS; i++) out[i] = old[i];
 }
 
-// The lines are made one after another: the words in a buffer of one line, without their two lowest bits, and from there the bytes.
 static void cut(void) {
-    for (int y = 0; y < FRAME / WIDE; y++) {
-        for (int x = 0; x < WIDE; x++) out[x] = frame[y * WIDE + x] & ~3u;
-        for (int x = 0; x < WIDE; x++) made[y * WIDE + x] = __builtin_bswap32(out[x]);
-    }
+    for (int i = 0; i < PIXELS; i++) out[i] = __builtin_bswap32(old[i] & ~3u);
 }
-
-static void nothing(void) {}
 
 static double processor(void) {
     struct timespec now;
@@ -137,10 +137,9 @@ static double processor(void) {
     return now.tv_sec * 1e9 + now.tv_nsec;
 }
 
-static void measure(const char *name, void (*before)(void), void (*loop)(void), int pixels) {
+static void measure(const char *name, void (*loop)(void)) {
     double best = 1e18;
-    for (int n = 0; n < 20; n++) {
-        before();
+    for (int n = 0; n < 60; n++) {
         double start = processor();
         loop();
         double time = processor() - start;
@@ -148,22 +147,26 @@ static void measure(const char *name, void (*before)(void), void (*loop)(void), 
     }
     uint32_t sum = 0;
     for (int n = 0; n < PIXELS; n++) sum += out[n];
-    printf("%s %.0f %u\n", name, 1000 * best / pixels, sum);
+    printf("%s %.0f %u\n", name, 1000 * best / PIXELS, sum);
 }
 
-int main(void) {
-    for (int n = 0; n < SIDE * SIDE * SIDE; n++)
-        for (int c = 0; c < 3; c++) cube[n][c] = rand() % 65473;
+int main(int count, char **words) {
+    int smooth = count > 1 && strcmp(words[1], "smooth") == 0;
+    for (int n = 0; n < SIDE * SIDE * SIDE; n++) {
+        int r = n % SIDE, g = n / SIDE % SIDE, b = n / (SIDE * SIDE);
+        cube[n][0] = 1965 * r + 6 * g, cube[n][1] = 1965 * g, cube[n][2] = 1900 * b + 58 * r;
+    }
     for (int n = 0; n < LONG; n++)
-        for (int c = 0; c < 3; c++) line[n][c] = 64 * n;
+        for (int c = 0; c < 3; c++) line[n][c] = 63 * n;
     for (int c = 0; c < 3; c++)
         for (int n = 0; n < 1024; n++) on_line[c][n] = spot(n, c, LONG), on_cube[c][n] = spot(n, c, SIDE);
-    for (int n = 0; n < PIXELS; n++) old[n] = (uint32_t)rand() << 2, incoming[n] = (uint32_t)rand() << 2;
-    for (int n = 0; n < FRAME; n++) source[n] = n;
-    measure("cut", decode, cut, FRAME);
-    measure("dissolve", nothing, dissolve, PIXELS);
-    measure("1D", nothing, look_1d, PIXELS);
-    measure("3D", nothing, look_3d, PIXELS);
-    measure("counts", nothing, counts, PIXELS);
-    measure("boxes", nothing, boxes, PIXELS);
+    fill(old, 1, smooth);
+    fill(incoming, 77, smooth);
+    measure("copy", copy);
+    measure("cut", cut);
+    measure("dissolve", dissolve);
+    measure("1D", look_1d);
+    measure("3D", look_3d);
+    measure("counts", counts);
+    measure("boxes", boxes);
 }
