@@ -10,12 +10,12 @@ use Rattle.project_crew.specs.Crew.{HasFailed, told_by}
 use Rattle.command_words.specs.Commands.{Spells}
 use Rattle.command_words.specs.declared.command.Command.{Command}
 use Rattle.outcome_line.specs.declared.outcome.Outcome.{Outcome}
-use Rattle.conform_tool.specs.States.{Folders, House, scan_state}
-use Rattle.conform_tool.specs.Answer.{SinkState, Answered}
-use Rattle.conform_tool.specs.Complete.{IsAccepted, HasNotRisen, IsComplete, IsUnfailed}
-use Rattle.conform_tool.specs.Headline.{AdoptsJob, RunsJob, KeepsItsPromise, HasEnded}
-use Rattle.conform_tool.proofs.Completes.{answered_complete, answered_unfailed}
-use Rattle.conform_tool.proofs.Headlines.{answered_adoption, answered_promise}
+use Rattle.command_answers.specs.States.{Folders, House, scan_state}
+use Rattle.command_answers.specs.Answer.{SinkState, Answered}
+use Rattle.command_answers.specs.Complete.{IsAccepted, HasNotRisen, IsComplete, IsUnfailed}
+use Rattle.command_answers.specs.Headline.{AdoptsJob, RunsJob, KeepsItsPromise, HasEnded}
+use Rattle.command_answers.proofs.Completes.{answered_complete, answered_unfailed}
+use Rattle.command_answers.proofs.Headlines.{answered_adoption, answered_promise}
 
 module _ (house : House) {S : Type 0} (world_of : S → Option World) (faults loads heads : S → ℕ) (same : S → S → Type 0) (words : List (List ℕ)) (folders folders_after : Folders) (sink sink_after : SinkState) (result : Outcome) where
   -- the answer is that of the first scan, which tells what all tell, and whose fault is one of a scan

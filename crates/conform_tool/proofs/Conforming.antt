@@ -14,9 +14,9 @@ use Rattle.outcome_line.specs.declared.outcome.Outcome.TheVariants as outcomes
 use Rattle.project_crew.specs.Crew.{HasFailed, IsCrewReply, told_by}
 use Rattle.project_run.specs.Calls.{DiskState, IsLeftAlone}
 use Rattle.project_run.specs.Run.{IsOfRun}
-use Rattle.conform_tool.specs.Answer.{SinkState, IsFoundIn, IsPut, IsLinePut}
-use Rattle.conform_tool.proofs.Answering.{done_unrefused, put_refused}
-use Rattle.conform_tool.proofs.Replies.{told_any}
+use Rattle.command_answers.specs.Answer.{SinkState, IsFoundIn, IsPut, IsLinePut}
+use Rattle.command_answers.proofs.Answering.{done_unrefused, put_refused}
+use Rattle.command_answers.proofs.Replies.{told_any}
 use Rattle.conform_tool.specs.Conform.{AnsweredByCrew, IsAlone, IsCausedByCrew}
 
 module _ {S : Type 0} (world : S → Option World) (faults loads : S → ℕ) (same : S → S → Type 0) (path : List ℕ) (workers : ℕ) (scans scans_after : List S) (disk disk_after : DiskState) where

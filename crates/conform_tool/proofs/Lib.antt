@@ -1,12 +1,3 @@
 mod Alone
-mod Answering
-mod Completes
 mod Conforming
-mod Demos
-mod Frames
-mod Headlines
-mod Lists
-mod Plans
-mod Pulls
-mod Replies
-mod Wholes
+mod Crewed

@@ -13,7 +13,7 @@ use Rattle.outcome_line.specs.declared.outcome.Outcome.TheVariants.{Done, Source
 use Rattle.project_crew.specs.Crew.{HasFailed, IsCrewReply}
 use Rattle.project_run.specs.Calls.{DiskState}
 use Rattle.project_run.specs.Run.{IsOfRun}
-use Rattle.conform_tool.specs.Answer.{SinkState, IsPut}
+use Rattle.command_answers.specs.Answer.{SinkState, IsPut}
 
 abbrev pub IsAlone : List (List ℕ) → Type 0
 IsAlone words = (path : List ℕ) (workers share : ℕ) → Spells words (commands.Run path workers share) → workers ≤ 1

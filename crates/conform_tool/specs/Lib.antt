@@ -1,12 +1,1 @@
-pub mod Answer
-pub mod ByFile
-pub mod ByFolder
-pub mod ByJob
-pub mod Commands
-pub mod Complete
 pub mod Conform
-pub mod Faults
-pub mod Headline
-pub mod Meaning
-pub mod Reply
-pub mod States

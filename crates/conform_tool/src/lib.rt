@@ -1,27 +1,10 @@
-//! The top call: what the words of a command line come to, over scans, a disk and an output that are handed in.
+//! The top call: what the words of a command line come to, over scans, folders and an output that are handed in.
 //!
-//! `conform` does all that the program does, and `answer` does it on one thread. `frame PATH` reads one DPX file and puts the
-//! same pixels under the station's own header; `list FILE RATE` reads an edit list and puts its event table; `plan PROJECT`
-//! reads a project and puts what each record frame shows; `run PROJECT` renders its reel; `status PROJECT` puts how much of it
-//! is rendered, `verify PROJECT` whether that is still whole, and `qc PROJECT` counts over it by the functions that were handed
-//! in; `pull PROJECT MARGIN` puts which ranges of source frames it needs; `demo N` renders a job of N events that is made in
-//! memory. The words become a `Command`, the command a reply, and the reply is put on the output in one piece.
-//!
-//! What each command means is one record of `specs/Commands`, and `specs/Commands.antt` has a row for each.
+//! `conform` does all that the program does: a run with several workers is a crew's, and all else is `answer`'s, which does it on
+//! one thread.
 #![tactic(auto)]
 
-mod adoption;
-mod contact;
-mod frame;
-mod list;
-mod one_thread;
-mod plan;
-mod pull;
-mod quality;
-mod run;
-mod status;
 mod top;
-mod verify;
 
-pub use one_thread::answer;
+pub use command_answers::answer;
 pub use top::{Ended, conform};

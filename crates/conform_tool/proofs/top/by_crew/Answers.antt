@@ -1,5 +1,5 @@
 -- A crew's run gives its answer.
-use Rattle.conform_tool.specs.Answer.{sink_state}
+use Rattle.command_answers.specs.Answer.{sink_state}
 use Rattle.conform_tool.proofs.Conforming.{crew_answered, put_left}
 use Rattle.conform_tool.proofs.top.by_crew.Goals as goal
 

@@ -2,12 +2,11 @@
 use Rattle.std.proofs.Common.{◌≡◌, ◌∙◌, ◌≤◌, arith, length, refl, rules, subst, sym, vec_len}
 use Rattle.command_words.specs.declared.command.Command.TheVariants as commands
 use Rattle.project_run.specs.Calls.{disk_state}
-use Rattle.conform_tool.specs.States.{folders_of}
-use Rattle.conform_tool.specs.Complete.{IsAccepted, IsComplete}
+use Rattle.command_answers.specs.States.{folders_of}
+use Rattle.command_answers.specs.Complete.{IsAccepted, IsComplete}
 use Rattle.conform_tool.proofs.Alone.{alone_adoption, alone_complete, alone_promise, alone_unfailed, first_answered}
-use Rattle.conform_tool.proofs.Completes.{crew_answered_complete, crew_unfailed}
+use Rattle.conform_tool.proofs.Crewed.{crew_answered_complete, crew_answered_promise, crew_unfailed}
 use Rattle.conform_tool.proofs.Conforming.{adopts_no_run, alone_found, crew_as, crew_unread, found_command, found_run, run_found}
-use Rattle.conform_tool.proofs.Headlines.{crew_answered_promise}
 use Rattle.conform_tool.proofs.top.conform.Goals as goal
 
 pub returns-in-Some-clause-crew : goal.returns-in-Some-clause-crew

@@ -87,7 +87,7 @@ pub returns-in-Err-clause-disks : goal.returns-in-Err-clause-disks
 returns-in-Err-clause-disks g c =
     let adopted = c.in-Err.ensures in
     let unless : (c.outcome_of_fault.result ≡ outcomes.DiskFault → ⊥) → c.in-Err.fault ≡ faults.DiskFault → ⊥ =
-        λ none is. none (c.outcome_of_fault.ensures ∙ ap outcome_of_fault is) in record {
+    λ none is. none (c.outcome_of_fault.ensures ∙ ap outcome_of_fault is) in record {
       cause = record {
         old_later = adopted.cause.old_later;
         later = adopted.cause.later;

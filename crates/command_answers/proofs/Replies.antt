@@ -1,0 +1,255 @@
+-- From a load to the reply of its command.
+use Rattle.std.proofs.Common.{◌≡◌, ◌≢◌, ℕ, ◌+◌, ◌-◌, ◌≤◌, min, List, ◌++◌, length, take, replicate, Option, None, Some, IfSome, refl, sym, subst, ap, ◌∙◌, arith, inl, inr}
+use Rattle.std.proofs.lemmas.Bool.{cases_lt}
+use Rattle.std.proofs.Math.Seq.{take-append_seam}
+use Rattle.std.proofs.lemmas.List.{take_all, length-append, length-replicate}
+use Rattle.std.specs.Prelude.{Result, Err}
+use Rattle.cf_base.specs.Count.{HasRisen}
+use Rattle.cf_base.specs.declared.fail.Fail.{Fail}
+use Rattle.cf_base.specs.declared.fail.Fail.TheVariants.{Fault}
+use Rattle.cf_base.specs.declared.timing.Rate.{Rate}
+use Rattle.scan_source.specs.World.{World, file_at}
+use Rattle.command_answers.specs.Commands.Frame.{IsFrameCase, IsFrameForm}
+use Rattle.command_answers.specs.Commands.List.{IsListCase, IsListForm}
+use Rattle.project_job.specs.Load.{IsFront, IsMissing, IsOfLoad}
+use Rattle.project_job.specs.declared.loads.Front.{Front}
+use Rattle.outcome_line.specs.declared.outcome.Refused.TheVariants.{NoFile, Project, Reels, List as EditList, Timeline, Cube, Job, Frame}
+use Rattle.outcome_line.specs.declared.outcome.Which.{Which}
+use Rattle.outcome_line.specs.declared.outcome.Which.TheVariants as which
+use Rattle.command_answers.specs.Faults.{IfFault}
+use Rattle.outcome_line.specs.Output.{line_of}
+use Rattle.project_run.specs.Run.{IsOfRun}
+use Rattle.project_adopt.specs.Adopt.{IsOfAdopt}
+use Rattle.project_run.specs.Look.{IsOfLook}
+use Rattle.project_run.specs.Verify.{IsOfVerify}
+use Rattle.command_answers.specs.ByFile.{ByFile, IsRightBy}
+use Rattle.command_answers.specs.Commands.{meaning_of}
+use Rattle.command_answers.specs.Reply.{CallsDisk, IsKindOf, IsReplyOverScan}
+use Rattle.command_answers.specs.States.{ScanState}
+use Rattle.command_words.specs.declared.command.Command.{Command}
+use Rattle.command_words.specs.declared.command.Command.TheVariants as commands
+use Rattle.outcome_line.specs.declared.outcome.Outcome.{Outcome}
+use Rattle.outcome_line.specs.declared.outcome.Outcome.TheVariants as outcomes
+use Rattle.outcome_line.specs.declared.outcome.Outcome.TheVariants.{Done, Usage, Refused, SourceFault, SinkFault, NoMemory}
+
+-- some bytes with these first ones and this length
+file_of : (len most : ℕ) (into : List ℕ) → length into ≡ min len most → (bytes : List ℕ) × (len ≡ length bytes) × (into ≡ take most bytes)
+file_of len most into fills = elim (cases_lt most len) [
+  | inl more ↦
+      let bytes = into ++ replicate (len - most) 0 in
+      let short : length into ≡ most = omega (arith, fills) in
+      let long : length bytes ≡ length into + (len - most) = length-append into (replicate (len - most) 0) ∙ ap (λ n. length into + n) (length-replicate {A = ℕ} (len - most) 0) in
+      (bytes, omega (arith, long, short, more), sym (ap (λ n. take n bytes) (sym short) ∙ take-append_seam into (replicate (len - most) 0)))
+  | inr whole ↦ (into, omega (arith, fills), sym (take_all most into (omega (arith, fills))))
+]
+
+-- what holds of each file that a load may have read holds of the one at the path, or of one that was read
+pub by_front : (world : Option World) (path : List ℕ) (P : Option (List ℕ) → Type 0) (most : ℕ) (front : Front)
+    → IfSome world (λ files. IsFront (file_at files path) most front)
+    → length front.bytes.items ≡ min front.len most
+    → ((bytes : List ℕ) → front.len ≡ length bytes → front.bytes.items ≡ take most bytes → P (Some bytes))
+    → ByFile world path P
+by_front None path P most front told fills each =
+    let file = file_of front.len most front.bytes.items fills in
+    (Some file.0, tt, each file.0 file.1 file.2)
+by_front (Some files) path P most front told fills each = (
+  file_at files path,
+  refl,
+  elim (file_at files path) as (λ file. IsFront file most front → P file) [
+    | None ↦ λ h. absurd h
+    | Some bytes ↦ λ h. each bytes h.0 h.1
+  ] told,
+)
+
+-- what holds of any file
+pub by_any : (world : Option World) (path : List ℕ) (P : Option (List ℕ) → Type 0) → ((file : Option (List ℕ)) → P file) → ByFile world path P
+by_any None path P each = (None, tt, each None)
+by_any (Some files) path P each = (file_at files path, refl, each (file_at files path))
+
+-- what holds where there is no file, after a fault of the scan, and where memory ran out
+by_missing : (world : Option World) (path : List ℕ) (absent : Which) (outcome : Outcome) (P : Option (List ℕ) → Outcome → Type 0)
+    → IfSome world (λ files. IsMissing absent (file_at files path) outcome) → IsOfLoad absent outcome
+    → P None (Refused (NoFile absent)) → ((file : Option (List ℕ)) → P file SourceFault) → ((file : Option (List ℕ)) → P file NoMemory)
+    → ByFile world path (λ file. P file outcome)
+by_missing None path absent (Refused (NoFile which)) P told kind gone fault memory = (None, tt, subst (λ w. P None (Refused (NoFile w))) (sym kind) gone)
+by_missing (Some files) path absent (Refused (NoFile which)) P told kind gone fault memory = (None, sym told.1, subst (λ w. P None (Refused (NoFile w))) (sym kind) gone)
+by_missing world path absent SourceFault P told kind gone fault memory = by_any world path (λ file. P file SourceFault) fault
+by_missing world path absent NoMemory P told kind gone fault memory = by_any world path (λ file. P file NoMemory) memory
+by_missing world path absent Done P told kind gone fault memory = absurd kind
+by_missing world path absent Usage P told kind gone fault memory = absurd kind
+by_missing world path absent (outcomes.OtherJob kept wanted) P told kind gone fault memory = absurd kind
+by_missing world path absent (outcomes.BadLedger len) P told kind gone fault memory = absurd kind
+by_missing world path absent (outcomes.OldRefused refusal) P told kind gone fault memory = absurd kind
+by_missing world path absent (outcomes.OldOtherJob kept wanted) P told kind gone fault memory = absurd kind
+by_missing world path absent (outcomes.OldBadLedger len) P told kind gone fault memory = absurd kind
+by_missing world path absent (outcomes.Damaged frame kept found) P told kind gone fault memory = absurd kind
+by_missing world path absent (outcomes.Changed reel key was now) P told kind gone fault memory = absurd kind
+by_missing world path absent outcomes.DiskFault P told kind gone fault memory = absurd kind
+by_missing world path absent (SinkFault instead) P told kind gone fault memory = absurd kind
+by_missing world path absent (Refused (Project fault_)) P told kind gone fault memory = absurd kind
+by_missing world path absent (Refused (Reels fault_)) P told kind gone fault memory = absurd kind
+by_missing world path absent (Refused (EditList refusal)) P told kind gone fault memory = absurd kind
+by_missing world path absent (Refused (Timeline fault_)) P told kind gone fault memory = absurd kind
+by_missing world path absent (Refused (Cube fault_)) P told kind gone fault memory = absurd kind
+by_missing world path absent (Refused (Job fault_)) P told kind gone fault memory = absurd kind
+by_missing world path absent (Refused (Frame fault_)) P told kind gone fault memory = absurd kind
+
+pub reply_of : (command : Command) (before after : ScanState) (reached : Outcome) (output : List ℕ) → IsKindOf command reached
+    → (meaning_of command).IsRight reached output before after
+    → (reached ≢ Done → output ≡ line_of reached)
+    → (reached ≡ SourceFault → HasRisen before.faults after.faults)
+    → (reached ≢ SourceFault → after.faults ≡ before.faults)
+    → before.faults ≤ after.faults → (meaning_of command).HasLoaded before after reached
+    → (meaning_of command).LooksAtHeads before after reached → after.world ≡ before.world
+    → IsReplyOverScan command before after reached output
+reply_of command before after reached output kind right line cause steady later loads heads world = record {
+  right = right;
+  line = line;
+  kind = kind;
+  source_fault = cause;
+  steady = steady;
+  later = later;
+  loads = loads;
+  heads = heads;
+  world = world;
+}
+
+-- the fault that was given
+pub fault_given : {A F : Type 0} (r : Result A (Fail F)) (given : Fail F) (fault : F) (P : F → Type 0) → r ≡ Err given → given ≡ Fault fault → IfFault r P → P fault
+fault_given r given fault P is fault_is holds = subst (λ q. IfFault q P) (is ∙ ap Err fault_is) holds
+
+-- what is right of a frame and of a list without a file
+pub frame_missing : (world : Option World) (path : List ℕ) (outcome : Outcome) (output : List ℕ) → IfSome world (λ files. IsMissing which.Frame (file_at files path) outcome) → IsOfLoad which.Frame outcome
+    → ByFile world path (λ file. IsRightBy (IsFrameCase file) (IsFrameForm file) outcome output)
+frame_missing world path outcome output told kind =
+    by_missing world path which.Frame outcome (λ file reached. IsRightBy (IsFrameCase file) (IsFrameForm file) reached output) told kind
+    (record { case = refl; form = λ same. absurd (cc) }) (λ file. record { case = tt; form = λ same. absurd (cc) }) (λ file. record { case = tt; form = λ same. absurd (cc) })
+
+pub list_missing : (rate : Rate) (world : Option World) (path : List ℕ) (outcome : Outcome) (output : List ℕ) → IfSome world (λ files. IsMissing which.List (file_at files path) outcome) → IsOfLoad which.List outcome
+    → ByFile world path (λ file. IsRightBy (IsListCase rate file) (IsListForm rate file) outcome output)
+list_missing rate world path outcome output told kind =
+    by_missing world path which.List outcome (λ file reached. IsRightBy (IsListCase rate file) (IsListForm rate file) reached output) told kind
+    (record { case = refl; form = λ same. absurd (cc) }) (λ file. record { case = tt; form = λ same. absurd (cc) }) (λ file. record { case = tt; form = λ same. absurd (cc) })
+
+-- what holds of all files holds of those that are told
+pub told_any : (world : Option World) {P : World → Type 0} → ((files : World) → P files) → IfSome world P
+told_any None each = tt
+told_any (Some files) each = each files
+
+-- want of memory may come in any case
+pub frame_memory : (world : Option World) (path output : List ℕ) → ByFile world path (λ file. IsRightBy (IsFrameCase file) (IsFrameForm file) NoMemory output)
+frame_memory world path output = by_any world path _ (λ file. record { case = tt; form = λ same. absurd (cc) })
+
+pub list_memory : (rate : Rate) (world : Option World) (path output : List ℕ) → ByFile world path (λ file. IsRightBy (IsListCase rate file) (IsListForm rate file) NoMemory output)
+list_memory rate world path output = by_any world path _ (λ file. record { case = tt; form = λ same. absurd (cc) })
+
+pub memory_right : (command : Command) (output : List ℕ) (before after : ScanState) → (meaning_of command).IsRight NoMemory output before after
+memory_right (commands.Frame path) output before after = frame_memory before.world path output
+memory_right (commands.List path rate) output before after = list_memory rate before.world path output
+memory_right (commands.Plan path) output before after = told_any before.world (λ world. tt)
+memory_right (commands.Run path workers share) output before after = tt
+memory_right (commands.Status path) output before after = tt
+memory_right (commands.Verify path) output before after = tt
+memory_right (commands.Qc path) output before after = tt
+memory_right (commands.Sheet path) output before after = tt
+memory_right (commands.Adopt path old_path) output before after = tt
+memory_right (commands.Pull path margin) output before after = told_any before.world (λ world. tt)
+memory_right (commands.Demo count) output before after = tt
+
+-- an error is its outcome
+pub error_of : {A : Type 0} (a b : Outcome) → a ≡ b → ◌≡◌ {A = Result A Outcome} (Err a) (Err b)
+error_of a b same = ap Err same
+
+pub outcome_of : {A : Type 0} (a b : Outcome) → ◌≡◌ {A = Result A Outcome} (Err a) (Err b) → a ≡ b
+outcome_of a b same = cc
+
+-- the outcome of a load is its command's own
+pub replied_load : (command : Command) (absent : Which) (outcome : Outcome) → IsOfLoad absent outcome → IsKindOf command outcome
+replied_load command absent Done kind = absurd kind
+replied_load command absent Usage kind = absurd kind
+replied_load command absent (outcomes.OtherJob kept wanted) kind = absurd kind
+replied_load command absent (outcomes.BadLedger len) kind = absurd kind
+replied_load command absent (outcomes.OldRefused refusal) kind = absurd kind
+replied_load command absent (outcomes.OldOtherJob kept wanted) kind = absurd kind
+replied_load command absent (outcomes.OldBadLedger len) kind = absurd kind
+replied_load command absent (outcomes.Damaged frame kept found) kind = absurd kind
+replied_load command absent (outcomes.Changed reel key was now) kind = absurd kind
+replied_load command absent outcomes.DiskFault kind = absurd kind
+replied_load command absent (Refused refusal) kind = tt
+replied_load command absent SourceFault kind = tt
+replied_load command absent (SinkFault instead) kind = absurd kind
+replied_load command absent NoMemory kind = tt
+
+pub load_isnt_done : (absent : Which) (outcome : Outcome) → IsOfLoad absent outcome → outcome ≢ Done
+load_isnt_done absent outcome kind same = subst (IsOfLoad absent) same kind
+
+-- the outcomes of a run, of a look at the folder and of a check of its files are those of their commands
+pub replied_run : (path : List ℕ) (workers share : ℕ) (outcome : Outcome) → IsOfRun outcome → IsKindOf (commands.Run path workers share) outcome
+replied_run path workers share Done kind = absurd kind
+replied_run path workers share Usage kind = absurd kind
+replied_run path workers share (SinkFault instead) kind = absurd kind
+replied_run path workers share (outcomes.OldRefused refusal) kind = absurd kind
+replied_run path workers share (outcomes.OldOtherJob kept wanted) kind = absurd kind
+replied_run path workers share (outcomes.OldBadLedger len) kind = absurd kind
+replied_run path workers share (outcomes.Damaged frame kept found) kind = absurd kind
+replied_run path workers share other kind = tt
+
+pub replied_adopt : (path old_path : List ℕ) (outcome : Outcome) → IsOfAdopt outcome → IsKindOf (commands.Adopt path old_path) outcome
+replied_adopt path old_path Done kind = absurd kind
+replied_adopt path old_path Usage kind = absurd kind
+replied_adopt path old_path (SinkFault instead) kind = absurd kind
+replied_adopt path old_path (outcomes.Damaged frame kept found) kind = absurd kind
+replied_adopt path old_path other kind = tt
+
+pub replied_look : (command : Command) → CallsDisk command → (outcome : Outcome) → IsOfLook outcome → IsKindOf command outcome
+replied_look command calls Done kind = absurd kind
+replied_look command calls Usage kind = absurd kind
+replied_look command calls (SinkFault instead) kind = absurd kind
+replied_look command calls (outcomes.OldRefused refusal) kind = absurd kind
+replied_look command calls (outcomes.OldOtherJob kept wanted) kind = absurd kind
+replied_look command calls (outcomes.OldBadLedger len) kind = absurd kind
+replied_look command calls (outcomes.Damaged frame kept found) kind = absurd kind
+replied_look command calls (outcomes.Changed reel key was now) kind = absurd kind
+replied_look command calls (Refused refusal) kind = tt
+replied_look command calls SourceFault kind = tt
+replied_look command calls NoMemory kind = tt
+replied_look command calls (outcomes.OtherJob kept wanted) kind = calls
+replied_look command calls (outcomes.BadLedger len) kind = calls
+replied_look command calls outcomes.DiskFault kind = calls
+
+pub replied_verify : (path : List ℕ) (outcome : Outcome) → IsOfVerify outcome → IsKindOf (commands.Verify path) outcome
+replied_verify path Done kind = absurd kind
+replied_verify path Usage kind = absurd kind
+replied_verify path (SinkFault instead) kind = absurd kind
+replied_verify path (outcomes.OldRefused refusal) kind = absurd kind
+replied_verify path (outcomes.OldOtherJob kept wanted) kind = absurd kind
+replied_verify path (outcomes.OldBadLedger len) kind = absurd kind
+replied_verify path (outcomes.Changed reel key was now) kind = absurd kind
+replied_verify path other kind = tt
+
+-- an outcome whose line found no memory refuses nothing
+pub loads_instead : (command : Command) (before after : ScanState) (reached : Outcome) → (meaning_of command).HasLoaded before after reached → (meaning_of command).HasLoaded before after NoMemory
+loads_instead (commands.Frame path) before after reached loads = loads
+loads_instead (commands.List path rate) before after reached loads = loads
+loads_instead (commands.Plan path) before after reached loads = record { texts = loads.texts; refused = λ refusal same. absurd (cc) }
+loads_instead (commands.Run path workers share) before after reached loads = tt
+loads_instead (commands.Status path) before after reached loads = tt
+loads_instead (commands.Verify path) before after reached loads = tt
+loads_instead (commands.Qc path) before after reached loads = tt
+loads_instead (commands.Sheet path) before after reached loads = tt
+loads_instead (commands.Adopt path old_path) before after reached loads = tt
+loads_instead (commands.Pull path margin) before after reached loads = record { texts = loads.texts; refused = λ refusal same. absurd (cc) }
+loads_instead (commands.Demo count) before after reached loads = loads
+
+pub heads_instead : (command : Command) (before after : ScanState) (reached : Outcome) → (meaning_of command).LooksAtHeads before after reached → (meaning_of command).LooksAtHeads before after NoMemory
+heads_instead (commands.Frame path) before after reached heads = heads
+heads_instead (commands.List path rate) before after reached heads = heads
+heads_instead (commands.Plan path) before after reached heads = λ refusal same. absurd (cc)
+heads_instead (commands.Run path workers share) before after reached heads = λ refusal same. absurd (cc)
+heads_instead (commands.Status path) before after reached heads = λ refusal same. absurd (cc)
+heads_instead (commands.Verify path) before after reached heads = λ refusal same. absurd (cc)
+heads_instead (commands.Qc path) before after reached heads = λ refusal same. absurd (cc)
+heads_instead (commands.Sheet path) before after reached heads = λ refusal same. absurd (cc)
+heads_instead (commands.Adopt path old_path) before after reached heads = λ refusal same. absurd (cc)
+heads_instead (commands.Pull path margin) before after reached heads = λ refusal same. absurd (cc)
+heads_instead (commands.Demo count) before after reached heads = heads

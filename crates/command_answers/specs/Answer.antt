@@ -1,0 +1,70 @@
+-- What the top call answers and puts.
+--     texts_of words      what the words say
+--     SinkState, sink_state, OnSink      what a sink tells at a moment, and its count; and what was made of one
+--     IsUnread      an outcome that was reached before anything was read
+--     IsUncalled Calls words      the words spell no command that makes such calls
+--     Answered      the answer to these words, over one scan and the two folders, in this house
+use Rattle.std.specs.Prelude.{◌≡◌, ◌⊎◌, ℕ, List, map, Option, MatchOption}
+use Rattle.std.specs.Borrow.{Bor}
+use Rattle.std.specs.Io.KnownBytes.{Appends}
+use Rattle.cf_base.specs.Count.{HasRisen}
+use Rattle.cf_base.specs.Sink.{AppendsPrefix}
+use Rattle.command_words.specs.Commands.{Spells, IsNoCommand}
+use Rattle.outcome_line.specs.Output.{status_of, line_of, IsMade}
+use Rattle.command_answers.specs.Reply.{IsReplyOverFolders}
+use Rattle.command_answers.specs.States.{Folders, House, ScanState}
+use Rattle.command_words.specs.declared.command.Command.{Command}
+use Rattle.outcome_line.specs.declared.outcome.Outcome.{Outcome}
+use Rattle.outcome_line.specs.declared.outcome.Outcome.TheVariants.{Usage, SinkFault, NoMemory}
+
+abbrev pub texts_of : List (Bor (List ℕ)) → List (List ℕ)
+texts_of words = map (λ word. word.now) words
+
+pub record SinkState : Type 0 where
+  pub written : Option (List ℕ)
+  pub faults : ℕ
+
+abbrev pub sink_state : {K : Type 0} → (K → Option (List ℕ)) → (K → ℕ) → K → SinkState
+sink_state written faults sink = record { written = written sink; faults = faults sink }
+
+-- what was made of a sink, by its meanings: this is so of the sink before and of the sink after
+abbrev pub OnSink : {K : Type 0} {A : Type 1} → (K → Option (List ℕ)) → (K → ℕ) → (before after : K) → (SinkState → SinkState → A) → A
+OnSink written faults before after Made = Made (sink_state written faults before) (sink_state written faults after)
+
+-- The output of the outcome that was reached stands behind what the sink had, and the outcome is answered. Or the sink failed,
+-- a prefix of the output stands there, and the answer keeps the outcome's status.
+abbrev pub IsPut : SinkState → SinkState → Outcome → List ℕ → Outcome → Type 0
+IsPut before after reached output result =
+    ((result ≡ reached) × Appends before.written after.written output × (after.faults ≡ before.faults))
+    ⊎ ((result ≡ SinkFault (status_of reached)) × AppendsPrefix before.written after.written output × HasRisen before.faults after.faults)
+
+-- The line of an outcome is put. One whose line is made and finds no memory becomes NoMemory.
+abbrev pub IsLinePut : SinkState → SinkState → Outcome → Outcome → Type 0
+IsLinePut before after outcome result =
+    IsPut before after outcome (line_of outcome) result ⊎ (IsMade outcome × IsPut before after NoMemory (line_of NoMemory) result)
+
+-- This outcome was reached before anything was read, with its line.
+pub record IsUnread (outcome : Outcome) (scan scan_after : ScanState) (folders folders_after : Folders) (reached : Outcome) (output : List ℕ) : Type 0 where
+  pub reached_is : reached ≡ outcome
+  pub line : output ≡ line_of outcome
+  pub untouched_scan : scan_after ≡ scan
+  pub untouched_folders : folders_after ≡ folders
+
+-- what the reading of the words found
+abbrev pub IsFoundIn : List (List ℕ) → Option Command → Type 0
+IsFoundIn words found = MatchOption found (IsNoCommand words) (λ command. Spells words command)
+
+-- the words spell no command that makes calls of this kind
+abbrev pub IsUncalled : (Command → Type 0) → List (List ℕ) → Type 0
+IsUncalled Calls words = (command : Command) → Spells words command → Calls command → ⊥
+
+-- Some outcome was reached, with its output, and was put.
+pub record Answered (house : House) (words : List (List ℕ)) (scan scan_after : ScanState) (folders folders_after : Folders) (sink sink_after : SinkState) (result : Outcome) : Type 0 where
+  pub reached : Outcome
+  pub output : List ℕ
+  pub put : IsPut sink sink_after reached output result
+  -- words of no command: the usage line, or no memory was left to read them
+  pub usage : reached ≡ Usage → IsNoCommand words
+  pub no_command : IsNoCommand words → IsUnread Usage scan scan_after folders folders_after reached output ⊎ IsUnread NoMemory scan scan_after folders folders_after reached output
+  -- words of a command: its reply, or no memory was left to read them
+  pub reply : (command : Command) → Spells words command → IsReplyOverFolders house command scan scan_after folders folders_after reached output ⊎ IsUnread NoMemory scan scan_after folders folders_after reached output

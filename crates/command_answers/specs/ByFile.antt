@@ -1,0 +1,27 @@
+-- What the commands of one file share.
+--     ByFile world path IsRight      something is right by the file at the path
+--     IsRightBy      the outcome and the output are those of the file
+--     HasLoadedOne, LooksAtNone      the one file was loaded, and no head was looked at
+use Rattle.std.specs.Prelude.{◌≡◌, ℕ, List, Option, IfSome}
+use Rattle.scan_source.specs.Plan.{one_more}
+use Rattle.scan_source.specs.World.{World, file_at}
+use Rattle.outcome_line.specs.declared.outcome.Outcome.{Outcome}
+use Rattle.outcome_line.specs.declared.outcome.Outcome.TheVariants.{Done}
+use Rattle.command_answers.specs.States.{ScanState}
+
+-- A file, or that there is none: the one at the path where the scan tells its files, else some one that it read.
+abbrev pub ByFile : Option World → List ℕ → (Option (List ℕ) → Type 0) → Type 0
+ByFile world path IsRight = (file : Option (List ℕ)) × IfSome world (λ files. file ≡ file_at files path) × IsRight file
+
+-- The outcome and the output are those of the file.
+pub record IsRightBy (IsCase : Outcome → Type 0) (IsForm : List ℕ → Type 0) (reached : Outcome) (output : List ℕ) : Type 0 where
+  pub case : IsCase reached
+  pub form : reached ≡ Done → IsForm output
+
+-- the one file
+abbrev pub HasLoadedOne : ScanState → ScanState → Outcome → Type 0
+HasLoadedOne before after reached = after.loads ≡ one_more before.loads
+
+-- The one file's head isn't looked at by itself.
+abbrev pub LooksAtNone : ScanState → ScanState → Outcome → Type 0
+LooksAtNone before after reached = after.heads ≡ before.heads

@@ -1,0 +1,27 @@
+-- The command `adopt PROJECT OLD`: it takes over frames of an old project's reel, and renders the rest of a project's reel.
+use Rattle.std.specs.Prelude.{◌⊎◌, true, false, ℕ, List}
+use Rattle.cf_base.specs.Count.{HasRisen}
+use Rattle.project_adopt.specs.Adopt.{IsAdoptReply}
+use Rattle.command_answers.specs.ByFolder.{HasFitFolder, HasSoundFolder}
+use Rattle.command_answers.specs.ByJob.{AreJobHeads}
+use Rattle.command_answers.specs.Meaning.{HasReelFailed, IsThrough, Meaning}
+use Rattle.command_answers.specs.States.{Folders}
+
+-- a call on one of the two folders failed
+abbrev pub HasEitherFailed : Folders → Folders → Type 0
+HasEitherFailed folders folders_after = HasRisen folders.old.faults folders_after.old.faults ⊎ HasReelFailed folders folders_after
+
+abbrev pub adopt_meaning : (path old_path : List ℕ) → Meaning
+adopt_meaning path old_path = record {
+  -- It is right by the folders: `UsesDisk` says how, and what was loaded.
+  IsRight = λ reached output before after. Unit {0};
+  HasLoaded = λ before after reached. Unit {0};
+  LooksAtHeads = AreJobHeads path;
+  calls = record { on_reel = true; on_old = true; loads_frames = true; checks_frames = false };
+  UsesDisk = λ house before after folders folders_after reached output.
+      IsAdoptReply before.world path old_path folders.old folders_after.old folders.reel folders_after.reel
+      before.loads after.loads reached output;
+  HasFailedDisk = HasEitherFailed;
+  IsAccepted = λ world folders. HasFitFolder world path folders.reel × HasSoundFolder world old_path folders.old;
+  IsComplete = IsThrough;
+}

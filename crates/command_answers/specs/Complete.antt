@@ -1,0 +1,38 @@
+-- Completeness: where nothing stands in the way of a command and no call on what was handed in fails, it is done, or memory
+-- ran out.
+--     IsAccepted command world folders      nothing stands in its way
+--     HasNotRisen before after      no call failed, by this count
+--     NoCallFailed faults before after      no call failed on this object
+--     IsComplete command outcome      it was done, or memory ran out
+--     IsUnfailed command outcome      what is left of it where scan or disk don't tell
+use Rattle.std.specs.Prelude.{ℕ}
+use Rattle.cf_base.specs.Count.{HasRisen}
+use Rattle.scan_source.specs.World.{World}
+use Rattle.command_words.specs.declared.command.Command.{Command}
+use Rattle.outcome_line.specs.declared.outcome.Outcome.{Outcome}
+use Rattle.outcome_line.specs.declared.outcome.Outcome.TheVariants.{SourceFault, DiskFault}
+use Rattle.command_answers.specs.Commands.{meaning_of}
+use Rattle.command_answers.specs.Reply.{IsKindOf}
+use Rattle.command_answers.specs.States.{Folders}
+
+abbrev pub IsAccepted : Command → World → Folders → Type 0
+IsAccepted command = (meaning_of command).IsAccepted
+
+-- no fault was counted
+abbrev pub HasNotRisen : ℕ → ℕ → Type 0
+HasNotRisen before after = HasRisen before after → ⊥
+
+-- by an object's count
+abbrev pub NoCallFailed : {O : Type 0} → (O → ℕ) → O → O → Type 0
+NoCallFailed faults before after = HasNotRisen (faults before) (faults after)
+
+abbrev pub IsComplete : Command → Outcome → Type 0
+IsComplete command = (meaning_of command).IsComplete
+
+-- The outcomes of a command of which no call failed, also where scan or disk don't tell. Besides these two there are refusals,
+-- a folder's state for a command that makes calls on it, for `run` and `adopt` a source file that changed, and for `verify` a
+-- damaged frame.
+abbrev pub IsUnfailed : Command → Outcome → Type 0
+IsUnfailed command SourceFault = ⊥
+IsUnfailed command DiskFault = ⊥
+IsUnfailed command other = IsKindOf command other

@@ -1,0 +1,216 @@
+//! A command on one thread, and what is put for it.
+ghost use Rattle.std.specs.Prelude.{◌≡◌, ◌≤◌, ℕ, List, length, map, Some, IfSome, MatchResult, IfErr};
+ghost use Rattle.conform_job.specs.Job.{JobData};
+ghost use Rattle.scan_source.specs.World.{World};
+ghost use Rattle.reel_disk.specs.Disk.{view_of};
+ghost use Rattle.command_answers.specs.Answer.{Answered, IsFoundIn, IsLinePut, IsPut, IsUncalled, OnSink, texts_of};
+ghost use Rattle.command_answers.specs.Complete.{IsAccepted, IsComplete, IsUnfailed, NoCallFailed};
+ghost use Rattle.command_answers.specs.Headline.{AdoptsJob, RunsJob, KeepsItsPromise, HasEnded};
+ghost use Rattle.command_answers.specs.Reply.{CallsDisk, CallsOld, IsReplyOverFolders};
+ghost use Rattle.command_answers.specs.States.{OnFolders, OnScan, folders_of, house_of};
+ghost use Rattle.command_words.specs.Commands.{HasCounts, IsNoCommand, Spells};
+ghost use Rattle.project_run.specs.Calls.{IsLeftAlone, Replies};
+
+use crate::adoption::adopt;
+use crate::contact::sheet;
+use crate::frame::frame;
+use crate::list::list;
+use crate::plan::plan;
+use crate::pull::pull;
+use crate::quality::qc;
+use crate::run::run;
+use crate::status::status;
+use crate::verify::verify;
+use cf_base::{Put, Sink};
+use command_words::{Command, command_of};
+use demo_run::demo;
+use outcome_line::{Outcome, made_line, plain_line};
+use project_job::job_laws;
+use reel_disk::Disk;
+use reel_qc::{Counter, OneThread, Probe, Tone};
+use scan_source::Scans;
+use std::alloc::Global;
+
+/// Does the command that the words spell, on one thread, and puts its output or its line. `run` renders into the disk,
+/// `status`, `verify` and `qc` look at it, and `sheet` writes its sheet there; `adopt` takes over frames of the old disk, which
+/// is only read, and runs the rest. No other command makes a call on a disk. Words of no command come to `Usage`, and words for
+/// which no memory is left to `NoMemory`, before anything is read. A run keeps the headline's promise, wherever it is stopped and
+/// whatever it answers, and so does an adoption of frames that are the old project's.
+pub fn answer<S: Scans, D: Disk, K: Sink>(
+    alloc: Global,
+    words: &[&str],
+    scan: &mut S,
+    disk: &mut D,
+    old: &mut D,
+    out: &mut K,
+    probes: &[Probe],
+    tone: &Tone,
+) -> Outcome
+    requires few { length probes.now ≤ 16 }
+    ensures answered { OnSink K.written K.faults out.old out.new (OnFolders D.tells D.history D.faults disk.old old.old disk.new old.new
+        (OnScan S.world S.faults S.loads S.heads scan.old scan.new
+        (Answered (house_of (map (λ p. p.kind) probes.now) tone.now.table) (texts_of words.now)))) result }
+    ensures later { K.faults out.old ≤ K.faults out.new }
+    ensures same { S.same scan.old scan.new }
+
+    // What is left alone is the very disk, or the very scan.
+    ensures untouched { IsLeftAlone disk.old disk.new result }
+    ensures old_untouched { IsLeftAlone old.old old.new result }
+    ensures no_call { IsUncalled CallsDisk (texts_of words.now) → disk.new ≡ disk.old }
+    ensures no_old_call { IsUncalled CallsOld (texts_of words.now) → old.new ≡ old.old }
+    ensures unread { IsNoCommand (texts_of words.now) → scan.new ≡ scan.old }
+    ensures disk_same { D.loans disk.new ≡ D.loans disk.old }
+    ensures old_same { D.loans old.new ≡ D.loans old.old }
+
+    // The headline.
+    ensures headline { (world : World) (job : JobData) → RunsJob (texts_of words.now) (S.world scan.old) D.tells world job
+        → KeepsItsPromise job world (D.history disk.old) (D.history disk.new) (HasEnded result) }
+    ensures adopted { (world : World) (job : JobData)
+        → AdoptsJob (texts_of words.now) (S.world scan.old) D.tells world (view_of (D.history old.old)) job
+        → KeepsItsPromise job world (D.history disk.old) (D.history disk.new) (HasEnded result) }
+
+    // Where nothing stands in the way of the command and no call failed, it is done, or memory ran out.
+    ensures complete { (command : Command) (world : World) → Spells (texts_of words.now) command → S.world scan.old ≡ Some world
+        → IsAccepted command world (folders_of D.tells D.history D.faults disk.old old.old)
+        → NoCallFailed S.faults scan.old scan.new → NoCallFailed D.faults disk.old disk.new
+        → NoCallFailed D.faults old.old old.new → NoCallFailed K.faults out.old out.new
+        → IsComplete command result }
+    ensures unfailed { (command : Command) → Spells (texts_of words.now) command
+        → NoCallFailed S.faults scan.old scan.new → NoCallFailed D.faults disk.old disk.new
+        → NoCallFailed D.faults old.old old.new → NoCallFailed K.faults out.old out.new
+        → IsUnfailed command result }
+{
+    job_laws();
+    let Ok(found) = command_of(alloc, words) else {
+        return put_line(alloc, &Outcome::NoMemory, out);
+    };
+    answer_found(alloc, &OneThread, found, scan, disk, old, out, probes, tone)
+}
+
+/// Does the command that was found in some words, on one thread but for the counts, and puts its output or its line.
+pub fn answer_found<S: Scans, D: Disk, K: Sink, C: Counter>(
+    alloc: Global,
+    counter: &C,
+    found: Option<Command>,
+    scan: &mut S,
+    disk: &mut D,
+    old: &mut D,
+    out: &mut K,
+    probes: &[Probe],
+    tone: &Tone,
+) -> Outcome
+    requires ready { C.ready }
+    requires counts { IfSome found HasCounts }
+    ensures answered { (words : List (List ℕ)) → IsFoundIn words found
+        → OnSink K.written K.faults out.old out.new (OnFolders D.tells D.history D.faults disk.old old.old disk.new old.new
+        (OnScan S.world S.faults S.loads S.heads scan.old scan.new
+        (Answered (house_of (map (λ p. p.kind) probes.now) tone.now.table) words))) result }
+    ensures later { K.faults out.old ≤ K.faults out.new }
+    ensures same { S.same scan.old scan.new }
+    ensures untouched { IsLeftAlone disk.old disk.new result }
+    ensures old_untouched { IsLeftAlone old.old old.new result }
+    ensures no_call { (words : List (List ℕ)) → IsFoundIn words found → IsUncalled CallsDisk words → disk.new ≡ disk.old }
+    ensures no_old_call { (words : List (List ℕ)) → IsFoundIn words found → IsUncalled CallsOld words → old.new ≡ old.old }
+    ensures unread { (words : List (List ℕ)) → IsFoundIn words found → IsNoCommand words → scan.new ≡ scan.old }
+    ensures disk_same { D.loans disk.new ≡ D.loans disk.old }
+    ensures old_same { D.loans old.new ≡ D.loans old.old }
+{
+    let Some(command) = found else {
+        return put_line(alloc, &Outcome::Usage, out);
+    };
+    match carried_out(alloc, counter, &command, scan, disk, old, probes, tone) {
+        Ok(output) => put(&output, &Outcome::Done, out),
+        Err(outcome) => put_line(alloc, &outcome, out),
+    }
+}
+
+/// The output of a command, or the outcome that was reached in its place.
+fn carried_out<S: Scans, D: Disk, C: Counter>(
+    alloc: Global,
+    counter: &C,
+    command: &Command,
+    scan: &mut S,
+    disk: &mut D,
+    old: &mut D,
+    probes: &[Probe],
+    tone: &Tone,
+) -> Result<Vec<u8>, Outcome>
+    requires ready { C.ready }
+    requires counts { HasCounts command.now }
+    ensures reply { Replies result (OnFolders D.tells D.history D.faults disk.old old.old disk.new old.new
+        (OnScan S.world S.faults S.loads S.heads scan.old scan.new
+        (IsReplyOverFolders (house_of (map (λ p. p.kind) probes.now) tone.now.table) command.now))) }
+    ensures same { S.same scan.old scan.new }
+    ensures untouched { IfErr result (IsLeftAlone disk.old disk.new) }
+    ensures old_untouched { IfErr result (IsLeftAlone old.old old.new) }
+    ensures no_call { (CallsDisk command.now → ⊥) → disk.new ≡ disk.old }
+    ensures no_old_call { (CallsOld command.now → ⊥) → old.new ≡ old.old }
+    ensures disk_same { D.loans disk.new ≡ D.loans disk.old }
+    ensures old_same { D.loans old.new ≡ D.loans old.old }
+{
+    match command {
+        Command::Frame(path) => frame(alloc, path, scan),
+        Command::List(path, rate) => list(alloc, path, *rate, scan),
+        Command::Plan(path) => plan(alloc, path, scan),
+        Command::Run {
+            project,
+            workers,
+            share,
+        } => run(alloc, project, *workers, *share, scan, disk),
+        Command::Status(project) => status(alloc, project, scan, disk),
+        Command::Verify(project) => verify(alloc, project, scan, disk),
+        Command::Qc(project) => qc(alloc, counter, project, scan, disk, probes),
+        Command::Sheet(project) => sheet(alloc, project, scan, disk, tone),
+        Command::Adopt {
+            project,
+            old: old_project,
+        } => adopt(alloc, project, old_project, scan, disk, old),
+        Command::Pull { project, margin } => pull(alloc, project, *margin, scan),
+        Command::Demo(count) => demo(alloc, *count),
+    }
+}
+
+/// Puts the output that a command came to, or the line of its outcome.
+pub fn put_result<K: Sink>(
+    alloc: Global,
+    reached: &Result<Vec<u8>, Outcome>,
+    out: &mut K,
+) -> Outcome
+    ensures put { OnSink K.written K.faults out.old out.new (λ was is. MatchResult reached.now
+        (λ output. IsPut was is Outcome.Done output.items result) (λ outcome. IsLinePut was is outcome result)) }
+    ensures later { K.faults out.old ≤ K.faults out.new }
+{
+    match reached {
+        Ok(output) => put(output, &Outcome::Done, out),
+        Err(outcome) => put_line(alloc, outcome, out),
+    }
+}
+
+/// Puts the line of an outcome. One whose line is made and finds no memory becomes NoMemory.
+pub fn put_line<K: Sink>(alloc: Global, outcome: &Outcome, out: &mut K) -> Outcome
+    ensures put { OnSink K.written K.faults out.old out.new IsLinePut outcome.now result }
+    ensures later { K.faults out.old ≤ K.faults out.new }
+{
+    match made_line(alloc, outcome) {
+        None => put(plain_line(outcome).as_bytes(), outcome, out),
+        Some(Ok(line)) => put(&line, outcome, out),
+        Some(Err(_)) => put(
+            plain_line(&Outcome::NoMemory).as_bytes(),
+            &Outcome::NoMemory,
+            out,
+        ),
+    }
+}
+
+/// Puts the output of an outcome, in one piece.
+fn put<K: Sink>(output: &[u8], reached: &Outcome, out: &mut K) -> Outcome
+    ensures put { OnSink K.written K.faults out.old out.new IsPut reached.now output.now result }
+    ensures later { K.faults out.old ≤ K.faults out.new }
+{
+    match out.put(output) {
+        Put::All => *reached,
+        Put::Failed => Outcome::SinkFault {
+            instead: reached.status(),
+        },
+    }
+}

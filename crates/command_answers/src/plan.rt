@@ -1,0 +1,31 @@
+//! The command `plan`.
+ghost use Rattle.project_run.specs.Calls.{Replies};
+ghost use Rattle.command_answers.specs.Reply.{IsReplyOverScan};
+ghost use Rattle.command_answers.specs.States.{OnScan};
+ghost use Rattle.command_words.specs.declared.command.Command.TheVariants as commands;
+
+use cf_base::PathText;
+use outcome_line::Outcome;
+use printed_tables::plan_of;
+use project_job::planned;
+use scan_source::Scans;
+use std::alloc::Global;
+
+/// The plan of the job of the project at a path, or the outcome that was reached.
+pub fn plan<S: Scans>(alloc: Global, path: &PathText, scan: &mut S) -> Result<Vec<u8>, Outcome>
+    ensures reply { Replies result (OnScan S.world S.faults S.loads S.heads scan.old scan.new
+        (IsReplyOverScan (commands.Plan path.now))) }
+    ensures same { S.same scan.old scan.new }
+{
+    let job = match planned(alloc, path, scan) {
+        Ok(job) => job,
+        Err(outcome) => return Err(outcome),
+    };
+    let plan = plan_of(alloc, &job);
+    // By a call: a job that falls out of scope is dropped part by part, here and in each proof.
+    drop(job);
+    match plan {
+        Ok(text) => Ok(text),
+        Err(_) => Err(Outcome::NoMemory),
+    }
+}
