@@ -1,0 +1,89 @@
+//! What the program is handed of the outside: its words, scans over the files of the system, and the two folders.
+#![tactic(auto)]
+
+ghost use Rattle.std.specs.Prelude.{◌≡◌, vec_len, IfOk};
+
+use cf_base::PathText;
+use reel_disk::{Disk, FolderDisk};
+use scan_source::FileScans;
+use std::alloc::AllocError;
+use std::rt::Runtime;
+use std::{env, io};
+
+/// How many scans a call is handed.
+const SCANS: usize = 16;
+
+/// The reel folder, in the current folder.
+const FOLDER: &[u8] = b"conform.out";
+
+/// The folder of an old reel, which `adopt` reads.
+const OLD_FOLDER: &[u8] = b"conform.old";
+
+/// What a call is handed of the outside, beside its words and where its output goes.
+pub struct Outside<R: Runtime> {
+    /// 16 scans over the files of the system, below the current folder.
+    pub scans: Vec<FileScans<R>>,
+    /// The reel folder, before the first call on it.
+    pub disk: FolderDisk<R>,
+    /// The folder of an old reel, in the same way.
+    pub old: FolderDisk<R>,
+}
+
+/// The files of the system, and the two folders before the first call on them. It makes no call on any of them, and fails where
+/// memory is missing.
+pub fn outside_of<R: Runtime + AllocGlobal>(rt: &R) -> Result<Outside<R>, AllocError>
+    ensures scans { IfOk result (λ outside. vec_len outside.scans ≡ 16) }
+    ensures disk { IfOk result (λ outside. ⟦<FolderDisk<R> as Disk>⟧.faults outside.disk ≡ 0) }
+{
+    let (reel, old) = folder_names();
+    Ok(Outside {
+        scans: scans_over(rt)?,
+        disk: folder_at(rt, reel)?,
+        old: folder_at(rt, old)?,
+    })
+}
+
+/// The words after the program's name. Words that aren't UTF-8 are those of no command: then there are none. It fails where
+/// memory is missing.
+pub fn arguments<R: Runtime + AllocGlobal>(rt: &R) -> Result<Vec<String>, AllocError> {
+    let mut words = Vec::new(rt.alloc());
+    match env::args(rt) {
+        Ok(arguments) => {
+            for word in arguments.skip(1) {
+                words.push(word)?;
+            }
+            Ok(words)
+        }
+        Err(error) if error.kind() == io::ErrorKind::OutOfMemory => Err(AllocError),
+        Err(_) => Ok(words),
+    }
+}
+
+/// Scans over the files of the system, below the current folder.
+fn scans_over<R: Runtime + AllocGlobal>(rt: &R) -> Result<Vec<FileScans<R>>, AllocError>
+    ensures { IfOk result (λ scans. vec_len scans ≡ 16) }
+{
+    let mut scans = Vec::new(rt.alloc());
+    for _ in 0..SCANS {
+        scans.push(FileScans::new(rt.clone()?))?;
+    }
+    Ok(scans)
+}
+
+/// The names of the two folders: that of the reel, and that of an old one.
+fn folder_names() -> (PathText, PathText) {
+    let Some(reel) = PathText::of(FOLDER) else {
+        unreachable!()
+    };
+    let Some(old) = PathText::of(OLD_FOLDER) else {
+        unreachable!()
+    };
+    (reel, old)
+}
+
+/// The folder of that name in the current folder, before the first call on it.
+fn folder_at<R: Runtime>(rt: &R, name: PathText) -> Result<FolderDisk<R>, AllocError>
+    ensures { IfOk result (λ disk. ⟦<FolderDisk<R> as Disk>⟧.faults disk ≡ 0) }
+{
+    Ok(FolderDisk::new(rt.clone()?, name))
+}
