@@ -93,7 +93,7 @@ none_instead : (told : Option World) (path : List ℕ) (disk disk_after : DiskSt
 none_instead told path disk disk_after loads loads_after reached none = record { why = told_any told (λ world. tt); kind = tt; untouched = none.untouched; texts = none.texts; refused = λ refusal same. absurd (cc) }
 
 ran_instead : {share : ℕ} (job : JobData) (told : Option World) (disk disk_after : DiskState) (loads loads_after : ℕ) (reached : Outcome) (output : List ℕ)
-    → IsJobRun job told share disk disk_after loads loads_after reached output → IsJobRun job told share disk disk_after loads loads_after outcomes.NoMemory (line_of outcomes.NoMemory)
+    → IsJobRun job share told loads loads_after disk disk_after reached output → IsJobRun job share told loads loads_after disk disk_after outcomes.NoMemory (line_of outcomes.NoMemory)
 ran_instead job told disk disk_after loads loads_after reached output ran = record {
   how = ran.how;
   report = ran.report;
@@ -107,7 +107,7 @@ ran_instead job told disk disk_after loads loads_after reached output ran = reco
 }
 
 run_instead : {share : ℕ} (told : Option World) (path : List ℕ) (disk disk_after : DiskState) (loads loads_after : ℕ) (reached : Outcome) (output : List ℕ)
-    → IsRunReply told path share disk disk_after loads loads_after reached output → IsRunReply told path share disk disk_after loads loads_after outcomes.NoMemory (line_of outcomes.NoMemory)
+    → IsRunReply path share told loads loads_after disk disk_after reached output → IsRunReply path share told loads loads_after disk disk_after outcomes.NoMemory (line_of outcomes.NoMemory)
 run_instead told path disk disk_after loads loads_after reached output (inl has) = inl (record {
   job = has.job;
   comes = has.comes;
@@ -176,7 +176,7 @@ sheet_instead tone job disk disk_after reached output made = record {
 
 -- another outcome of the same adoption
 rest_instead : (job : JobData) (told : Option World) (done : Adopted) (disk disk_after : DiskState) (loads loads_after : ℕ) (reached : Outcome) (output : List ℕ)
-    → IsRest job told done disk disk_after loads loads_after reached output → IsRest job told done disk disk_after loads loads_after outcomes.NoMemory (line_of outcomes.NoMemory)
+    → IsRest job done told loads loads_after disk disk_after reached output → IsRest job done told loads loads_after disk disk_after outcomes.NoMemory (line_of outcomes.NoMemory)
 rest_instead job told done disk disk_after loads loads_after reached output rest = record {
   run_output = line_of outcomes.NoMemory;
   run = ran_instead job told disk disk_after loads loads_after reached rest.run_output rest.run;
@@ -184,14 +184,14 @@ rest_instead job told done disk disk_after loads loads_after reached output rest
 }
 
 adopted_instead : (job old_job : JobData) (told : Option World) (old old_after disk disk_after : DiskState) (loads loads_after : ℕ) (reached : Outcome) (output : List ℕ)
-    → IsAdoption job old_job told old old_after disk disk_after loads loads_after reached output
-    → IsAdoption job old_job told old old_after disk disk_after loads loads_after outcomes.NoMemory (line_of outcomes.NoMemory)
+    → IsAdoption job old_job told loads loads_after old old_after disk disk_after reached output
+    → IsAdoption job old_job told loads loads_after old old_after disk disk_after outcomes.NoMemory (line_of outcomes.NoMemory)
 adopted_instead job old_job told old old_after disk disk_after loads loads_after reached output went = by went.adopted went.answer went.sealed went.went
   where
     by : (adopted : Result Adopted AdoptFault) → HasAnswered job old_job disk.tells old.history old_after.history disk.history went.between.history adopted
         → MatchResult adopted (λ done. disk.tells ≡ true → IsInForce Two (view_of went.between.history)) (λ why. Unit {0})
-        → MatchResult adopted (λ done. IsRest job told done went.between disk_after loads loads_after reached output) (λ why. IsUnadopted why went.between disk_after loads loads_after reached)
-        → IsAdoption job old_job told old old_after disk disk_after loads loads_after outcomes.NoMemory (line_of outcomes.NoMemory)
+        → MatchResult adopted (λ done. IsRest job done told loads loads_after went.between disk_after reached output) (λ why. IsUnadopted why went.between disk_after loads loads_after reached)
+        → IsAdoption job old_job told loads loads_after old old_after disk disk_after outcomes.NoMemory (line_of outcomes.NoMemory)
     by (Ok done) answer sealed rest = record {
       adopted = Ok done;
       between = went.between;
@@ -225,8 +225,8 @@ promised_instead : (job : JobData) (told : Option World) (disk disk_after : Disk
 promised_instead job told disk disk_after reached promised = record { run = promised.run; whole = λ same. absurd (cc) }
 
 onward_instead : (job : JobData) (told : Option World) (old_path : List ℕ) (old old_after disk disk_after : DiskState) (loads loads_after : ℕ) (reached : Outcome) (output : List ℕ)
-    → GoesOn job told old_path old old_after disk disk_after loads loads_after reached output
-    → GoesOn job told old_path old old_after disk disk_after loads loads_after outcomes.NoMemory (line_of outcomes.NoMemory)
+    → GoesOn job old_path told loads loads_after old old_after disk disk_after reached output
+    → GoesOn job old_path told loads loads_after old old_after disk disk_after outcomes.NoMemory (line_of outcomes.NoMemory)
 onward_instead job told old_path old old_after disk disk_after loads loads_after reached output (inl has) = inl (record {
   old_job = has.old_job;
   planned = has.planned;
@@ -243,8 +243,8 @@ onward_instead job told old_path old old_after disk disk_after loads loads_after
 })
 
 adopt_instead : (told : Option World) (path old_path : List ℕ) (old old_after disk disk_after : DiskState) (loads loads_after : ℕ) (reached : Outcome) (output : List ℕ)
-    → IsAdoptReply told path old_path old old_after disk disk_after loads loads_after reached output
-    → IsAdoptReply told path old_path old old_after disk disk_after loads loads_after outcomes.NoMemory (line_of outcomes.NoMemory)
+    → IsAdoptReply path old_path told loads loads_after old old_after disk disk_after reached output
+    → IsAdoptReply path old_path told loads loads_after old old_after disk disk_after outcomes.NoMemory (line_of outcomes.NoMemory)
 adopt_instead told path old_path old old_after disk disk_after loads loads_after reached output (inl has) = inl (record {
   job = has.job;
   planned = has.planned;

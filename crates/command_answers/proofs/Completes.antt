@@ -23,7 +23,7 @@ use Rattle.reel_writer.specs.Reel.{frames_of}
 use Rattle.reel_writer.specs.declared.damage.CheckFault.{CheckFault}
 use Rattle.reel_writer.specs.declared.damage.CheckFault.TheVariants as checks
 use Rattle.single_run.specs.Ends.{IsEnd}
-use Rattle.single_run.specs.Run.{HasRefused}
+use Rattle.single_run.specs.Run.{IsWhyUnopened}
 use Rattle.single_run.specs.declared.run_end.RunEnd.{RunEnd}
 use Rattle.single_run.specs.declared.run_end.RunEnd.TheVariants as ends
 use Rattle.project_job.specs.Jobs.{ComesTo, HasPlanned, IsOfJob}
@@ -123,7 +123,7 @@ opened_complete job told world ends.DiskFault is end no_source no_disk = absurd 
 opened_complete job told world ends.NoMemory is end no_source no_disk = inr refl
 
 -- a run whose folder was not
-pub refused_complete : (job : JobData) (tells : Bool) (old new : History) (how : RunEnd) → tells ≡ true → IsFit job.parts.digest (frames_of job) (view_of old) → HasRefused job tells old new how → how ≢ ends.DiskFault → (how ≡ ends.Done) ⊎ (how ≡ ends.NoMemory)
+pub refused_complete : (job : JobData) (tells : Bool) (old new : History) (how : RunEnd) → tells ≡ true → IsFit job.parts.digest (frames_of job) (view_of old) → IsWhyUnopened job tells old new how → how ≢ ends.DiskFault → (how ≡ ends.Done) ⊎ (how ≡ ends.NoMemory)
 refused_complete job tells old new ends.Done told fit why no_disk = absurd why
 refused_complete job tells old new (ends.OtherJob kept wanted) told fit why no_disk = absurd (other_apart job.parts.digest kept wanted (frames_of job) old new fit (why.2 told))
 refused_complete job tells old new (ends.BadLedger len) told fit why no_disk = absurd (bad_apart job.parts.digest (frames_of job) len old new fit (why told))
@@ -183,7 +183,7 @@ by_end reels how reached is (inr memory) = inr (is ∙ ap (outcome_of_end reels)
 
 -- a run in a folder that is fit for its job
 ran_complete : {share : ℕ} (world : World) (told : Option World) → told ≡ Some world → (job : JobData) (disk disk_after : DiskState) (loads loads_after : ℕ) (reached : Outcome) (output : List ℕ) → disk.tells ≡ true → IsFit job.parts.digest (frames_of job) (view_of disk.history)
-    → IsJobRun job told share disk disk_after loads loads_after reached output → reached ≢ outcomes.SourceFault → reached ≢ outcomes.DiskFault → IsThrough reached
+    → IsJobRun job share told loads loads_after disk disk_after reached output → reached ≢ outcomes.SourceFault → reached ≢ outcomes.DiskFault → IsThrough reached
 ran_complete world told is job disk disk_after loads loads_after reached output tells fit ran no_source no_disk = elim ran.reply.reached_is [
   | inl reached_is ↦
       let reels = job.parts.reels in
@@ -202,13 +202,13 @@ module _ (laws : OneJob) (world : World) (path : List ℕ) (disk : DiskState) (p
   fit_for job comes = subst (λ parts. IsFit parts.digest (frame_count parts.timeline.events) (view_of disk.history))
       (laws.one (file_at world) path place.job.parts job.parts place.comes (at_world told world (λ files. ComesTo (file_at files) path (Ok job.parts)) is comes)) place.fit
 
-  run_complete : {share : ℕ} (disk_after : DiskState) (loads loads_after : ℕ) (reached : Outcome) (output : List ℕ) → IsRunReply told path share disk disk_after loads loads_after reached output
+  run_complete : {share : ℕ} (disk_after : DiskState) (loads loads_after : ℕ) (reached : Outcome) (output : List ℕ) → IsRunReply path share told loads loads_after disk disk_after reached output
       → reached ≢ outcomes.SourceFault → reached ≢ outcomes.DiskFault → IsThrough reached
   run_complete disk_after loads loads_after reached output (inl has) no_source no_disk =
       ran_complete world told is has.job disk disk_after has.planned loads_after reached output place.tells (fit_for has.job has.comes) has.ran no_source no_disk
   run_complete disk_after loads loads_after reached output (inr none) no_source no_disk = planned_complete laws told world path reached is (place.job, place.comes) none.why none.kind no_source
 
-  status_complete : (disk_after : DiskState) (loads loads_after : ℕ) (reached : Outcome) (output : List ℕ) → IsStatusReply told path disk disk_after loads loads_after reached output
+  status_complete : (disk_after : DiskState) (loads loads_after : ℕ) (reached : Outcome) (output : List ℕ) → IsStatusReply path told loads loads_after disk disk_after reached output
       → reached ≢ outcomes.SourceFault → reached ≢ outcomes.DiskFault → IsThrough reached
   status_complete disk_after loads loads_after reached output (inl has) no_source no_disk = elim has.looked.reached_is [
     | inl reached_is ↦ subst IsThrough (sym reached_is)
@@ -236,7 +236,7 @@ module _ (laws : OneJob) (world : World) (path : List ℕ) (disk : DiskState) (p
     | inr memory ↦ through (commands.Verify path) reached (inr memory)
   ]
 
-  verify_complete : (disk_after : DiskState) (loads loads_after : ℕ) (reached : Outcome) (output : List ℕ) → IsVerifyReply told path disk disk_after loads loads_after reached output
+  verify_complete : (disk_after : DiskState) (loads loads_after : ℕ) (reached : Outcome) (output : List ℕ) → IsVerifyReply path told loads loads_after disk disk_after reached output
       → reached ≢ outcomes.SourceFault → reached ≢ outcomes.DiskFault → IsComplete (commands.Verify path) reached
   verify_complete disk_after loads loads_after reached output (inl has) no_source no_disk =
       found_complete (commands.Verify path) _ has.job disk_after reached has.comes has.looked.seen (λ view checked. checked_complete has.job view reached output no_disk checked) no_disk
@@ -249,13 +249,13 @@ module _ (laws : OneJob) (world : World) (path : List ℕ) (disk : DiskState) (p
   behind_complete outcomes.NoMemory no_disk kind = inr refl
   behind_complete other no_disk kind = absurd kind
 
-  qc_complete : {kinds : List ProbeKind} (disk_after : DiskState) (loads loads_after : ℕ) (reached : Outcome) (output : List ℕ) → IsQcReply kinds told path disk disk_after loads loads_after reached output
+  qc_complete : {kinds : List ProbeKind} (disk_after : DiskState) (loads loads_after : ℕ) (reached : Outcome) (output : List ℕ) → IsQcReply kinds path told loads loads_after disk disk_after reached output
       → reached ≢ outcomes.SourceFault → reached ≢ outcomes.DiskFault → IsThrough reached
   qc_complete disk_after loads loads_after reached output (inl has) no_source no_disk =
       found_complete (commands.Qc path) _ has.job disk_after reached has.comes has.looked.seen (λ view counted. behind_complete reached no_disk counted.kind) no_disk
   qc_complete disk_after loads loads_after reached output (inr none) no_source no_disk = planned_complete laws told world path reached is (place.job, place.comes) none.why none.kind no_source
 
-  sheet_complete : {tone : List ℕ} (disk_after : DiskState) (loads loads_after : ℕ) (reached : Outcome) (output : List ℕ) → IsSheetReply tone told path disk disk_after loads loads_after reached output
+  sheet_complete : {tone : List ℕ} (disk_after : DiskState) (loads loads_after : ℕ) (reached : Outcome) (output : List ℕ) → IsSheetReply tone path told loads loads_after disk disk_after reached output
       → reached ≢ outcomes.SourceFault → reached ≢ outcomes.DiskFault → IsThrough reached
   sheet_complete disk_after loads loads_after reached output (inl has) no_source no_disk =
       found_complete (commands.Sheet path) _ has.job disk_after reached has.comes has.looked.seen (λ view sheeted. behind_complete reached no_disk sheeted.kind) no_disk
@@ -281,17 +281,17 @@ adoption_complete job old_job tells old old_after disk between adopts.NoMemory t
 module _ (laws : OneJob) (world : World) (path old_path : List ℕ) (disk old : DiskState) (place : HasFitFolder world path disk) (old_place : HasSoundFolder world old_path old) (told : Option World) (is : told ≡ Some world) where
   -- the rest was run
   rest_complete : (job : JobData) (done : Adopted) (between disk_after : DiskState) (loads loads_after : ℕ) (reached : Outcome) (output : List ℕ) → between.tells ≡ true → IsFit job.parts.digest (frames_of job) (view_of between.history)
-      → IsRest job told done between disk_after loads loads_after reached output → reached ≢ outcomes.SourceFault → reached ≢ outcomes.DiskFault → IsThrough reached
+      → IsRest job done told loads loads_after between disk_after reached output → reached ≢ outcomes.SourceFault → reached ≢ outcomes.DiskFault → IsThrough reached
   rest_complete job done between disk_after loads loads_after reached output tells fit rest no_source no_disk =
       ran_complete world told is job between disk_after loads loads_after reached rest.run_output tells fit rest.run no_source no_disk
 
   went_complete : (job old_job : JobData) (old_after disk_after : DiskState) (loads loads_after : ℕ) (reached : Outcome) (output : List ℕ)
       → IsFit old_job.parts.digest (frames_of old_job) (view_of old.history) → IsFit job.parts.digest (frames_of job) (view_of disk.history)
-      → IsAdoption job old_job told old old_after disk disk_after loads loads_after reached output → reached ≢ outcomes.SourceFault → reached ≢ outcomes.DiskFault → IsThrough reached
+      → IsAdoption job old_job told loads loads_after old old_after disk disk_after reached output → reached ≢ outcomes.SourceFault → reached ≢ outcomes.DiskFault → IsThrough reached
   went_complete job old_job old_after disk_after loads loads_after reached output old_fit fit went no_source no_disk = by went.adopted went.answer went.went
     where
       by : (adopted : Result Adopted AdoptFault) → HasAnswered job old_job disk.tells old.history old_after.history disk.history went.between.history adopted
-          → MatchResult adopted (λ done. IsRest job told done went.between disk_after loads loads_after reached output) (λ why. IsUnadopted why went.between disk_after loads loads_after reached)
+          → MatchResult adopted (λ done. IsRest job done told loads loads_after went.between disk_after reached output) (λ why. IsUnadopted why went.between disk_after loads loads_after reached)
           → IsThrough reached
       by (Ok done) answer rest = rest_complete job done went.between disk_after loads loads_after reached output (went.tells ∙ place.tells) (answer.fit place.tells) rest no_source no_disk
       by (Err why) answer unadopted = subst IsThrough (sym unadopted.reached_is)
@@ -309,7 +309,7 @@ module _ (laws : OneJob) (world : World) (path old_path : List ℕ) (disk old : 
       by other reached_is through_found = subst IsThrough (sym reached_is) (through_found (λ source. no_source (reached_is ∙ source)))
 
   onward_complete : (job : JobData) (old_after disk_after : DiskState) (loads loads_after : ℕ) (reached : Outcome) (output : List ℕ) → IfSome told (λ files. ComesTo (file_at files) path (Ok job.parts))
-      → GoesOn job told old_path old old_after disk disk_after loads loads_after reached output → reached ≢ outcomes.SourceFault → reached ≢ outcomes.DiskFault → IsThrough reached
+      → GoesOn job old_path told loads loads_after old old_after disk disk_after reached output → reached ≢ outcomes.SourceFault → reached ≢ outcomes.DiskFault → IsThrough reached
   onward_complete job old_after disk_after loads loads_after reached output comes (inl has) no_source no_disk =
       went_complete job has.old_job old_after disk_after has.planned loads_after reached output
       (fit_for laws world old_path old old_place.place told is has.old_job has.came.comes) (fit_for laws world path disk place told is job comes) has.went no_source no_disk
@@ -317,7 +317,7 @@ module _ (laws : OneJob) (world : World) (path old_path : List ℕ) (disk old : 
       of_old_complete none.found reached none.reached_is
       (λ none_source. planned_complete laws told world old_path none.found is (old_place.place.job, old_place.place.comes) none.unplanned.why none.unplanned.kind none_source) no_source
 
-  adopt_complete : (disk_after old_after : DiskState) (loads loads_after : ℕ) (reached : Outcome) (output : List ℕ) → IsAdoptReply told path old_path old old_after disk disk_after loads loads_after reached output
+  adopt_complete : (disk_after old_after : DiskState) (loads loads_after : ℕ) (reached : Outcome) (output : List ℕ) → IsAdoptReply path old_path told loads loads_after old old_after disk disk_after reached output
       → reached ≢ outcomes.SourceFault → reached ≢ outcomes.DiskFault → IsThrough reached
   adopt_complete disk_after old_after loads loads_after reached output (inl has) no_source no_disk =
       onward_complete has.job old_after disk_after has.planned loads_after reached output has.came.comes has.went no_source no_disk

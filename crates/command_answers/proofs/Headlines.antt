@@ -181,7 +181,7 @@ unread_promise words scan scan_after folders folders_after sink sink_after resul
 
 module _ (laws : OneJob) (job : JobData) (world : World) (path : List ℕ) (comes : ComesTo (file_at world) path (Ok job.parts)) where
   reply_promise : {share : ℕ} (told : Option World) (disk disk_after : DiskState) (loads loads_after : ℕ) (reached : Outcome) (output : List ℕ) (Ended : Type 0)
-      → told ≡ Some world → disk.tells ≡ true → (Ended → reached ≡ outcomes.Done) → IsRunReply told path share disk disk_after loads loads_after reached output
+      → told ≡ Some world → disk.tells ≡ true → (Ended → reached ≡ outcomes.Done) → IsRunReply path share told loads loads_after disk disk_after reached output
       → KeepsItsPromise job world disk.history disk_after.history Ended
   reply_promise told disk disk_after loads loads_after reached output Ended is tells done (inl has) =
       run_promise job has.job told world disk.history disk_after.history Ended is
@@ -223,7 +223,7 @@ module _ (laws : OneJob) (job : JobData) (world : World) (path old_path : List �
   -- the old project came to some job, or to none
   onward_promise : (ran : JobData) (old old_after disk disk_after : DiskState) (loads loads_after : ℕ) (reached : Outcome) (output : List ℕ) (Ended : Type 0)
       → ((old_job : JobData) → ComesTo (file_at world) old_path (Ok old_job.parts) → IsOldSound old_job world (view_of old.history))
-      → ran.parts ≡ job.parts → disk.tells ≡ true → (Ended → reached ≡ outcomes.Done) → GoesOn ran told old_path old old_after disk disk_after loads loads_after reached output
+      → ran.parts ≡ job.parts → disk.tells ≡ true → (Ended → reached ≡ outcomes.Done) → GoesOn ran old_path told loads loads_after old old_after disk disk_after reached output
       → KeepsItsPromise job world disk.history disk_after.history Ended
   onward_promise ran old old_after disk disk_after loads loads_after reached output Ended sound same tells done (inl has) =
       let came = at_world told world (λ w. ComesTo (file_at w) old_path (Ok has.old_job.parts)) is has.came.comes in
@@ -235,7 +235,7 @@ module _ (laws : OneJob) (job : JobData) (world : World) (path old_path : List �
 
   adopt_promise : (old old_after disk disk_after : DiskState) (loads loads_after : ℕ) (reached : Outcome) (output : List ℕ) (Ended : Type 0)
       → ((old_job : JobData) → ComesTo (file_at world) old_path (Ok old_job.parts) → IsOldSound old_job world (view_of old.history))
-      → disk.tells ≡ true → (Ended → reached ≡ outcomes.Done) → IsAdoptReply told path old_path old old_after disk disk_after loads loads_after reached output
+      → disk.tells ≡ true → (Ended → reached ≡ outcomes.Done) → IsAdoptReply path old_path told loads loads_after old old_after disk disk_after reached output
       → KeepsItsPromise job world disk.history disk_after.history Ended
   adopt_promise old old_after disk disk_after loads loads_after reached output Ended sound tells done (inl has) =
       onward_promise has.job old old_after disk disk_after has.planned loads_after reached output Ended sound

@@ -1,11 +1,10 @@
 -- What the top call answers and puts.
---     texts_of words      what the words say
 --     SinkState, sink_state, OnSink      what a sink tells at a moment, and its count; and what was made of one
 --     IsUnread      an outcome that was reached before anything was read
 --     IsUncalled Calls words      the words spell no command that makes such calls
 --     Answered      the answer to these words, over one scan and the two folders, in this house
-use Rattle.std.specs.Prelude.{◌≡◌, ◌⊎◌, ℕ, List, map, Option, MatchOption}
-use Rattle.std.specs.Borrow.{Bor}
+use Rattle.std.specs.Prelude.{◌≡◌, ◌⊎◌, ℕ, List, Option, MatchOption, Result, MatchResult, Vec}
+use Rattle.std.specs.declared.alloc.Global.{Global}
 use Rattle.std.specs.Io.KnownBytes.{Appends}
 use Rattle.cf_base.specs.Count.{HasRisen}
 use Rattle.cf_base.specs.Sink.{AppendsPrefix}
@@ -15,10 +14,7 @@ use Rattle.command_answers.specs.Reply.{IsReplyOverFolders}
 use Rattle.command_answers.specs.States.{Folders, House, ScanState}
 use Rattle.command_words.specs.declared.command.Command.{Command}
 use Rattle.outcome_line.specs.declared.outcome.Outcome.{Outcome}
-use Rattle.outcome_line.specs.declared.outcome.Outcome.TheVariants.{Usage, SinkFault, NoMemory}
-
-abbrev pub texts_of : List (Bor (List ℕ)) → List (List ℕ)
-texts_of words = map (λ word. word.now) words
+use Rattle.outcome_line.specs.declared.outcome.Outcome.TheVariants.{Done, Usage, SinkFault, NoMemory}
 
 pub record SinkState : Type 0 where
   pub written : Option (List ℕ)
@@ -42,6 +38,11 @@ IsPut before after reached output result =
 abbrev pub IsLinePut : SinkState → SinkState → Outcome → Outcome → Type 0
 IsLinePut before after outcome result =
     IsPut before after outcome (line_of outcome) result ⊎ (IsMade outcome × IsPut before after NoMemory (line_of NoMemory) result)
+
+-- The output that a command came to is put, or the line of its outcome.
+abbrev pub IsResultPut : SinkState → SinkState → Result (Vec ℕ Global) Outcome → Outcome → Type 0
+IsResultPut before after reached result =
+    MatchResult reached (λ output. IsPut before after Done output.items result) (λ outcome. IsLinePut before after outcome result)
 
 -- This outcome was reached before anything was read, with its line.
 pub record IsUnread (outcome : Outcome) (scan scan_after : ScanState) (folders folders_after : Folders) (reached : Outcome) (output : List ℕ) : Type 0 where

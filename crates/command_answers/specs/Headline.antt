@@ -5,6 +5,7 @@
 --     RunsJob words told tells world job      the words run a project that comes to this job, over scans and a disk that tell
 --     AdoptsJob words told tells world old job      the same of an adoption, whose old folder is sound
 --     KeepsItsPromise job world opening now Ended      that sentence, of a run from its opening until now
+--     KeepsHeadline, KeepsItAdopting      the same of the words, for each world and job that they run
 -- A job's reel is the same whatever `job.infos` is: it looks at the job's parts alone.
 use Rattle.std.specs.Prelude.{◌≡◌, ◌⊎◌, ℕ, ◌<◌, Bool, true, List, [], Option, Some, None, Ok}
 use Rattle.cf_base.specs.declared.file.FileId.{FileId}
@@ -77,3 +78,13 @@ pub record KeepsItsPromise (job : JobData) (world : World) (opening now : Histor
 -- The command was done, though its output may be lost: a fault of the sink keeps the status in whose place it stands.
 abbrev pub HasEnded : Outcome → Type 0
 HasEnded result = (result ≡ Done) ⊎ (result ≡ SinkFault 0)
+
+-- The whole sentence: of words, the scans and the disk that they are handed, and what they come to.
+abbrev pub KeepsHeadline : List (List ℕ) → Option World → Bool → (opening now : History) → (Ended : Type 0) → Type 0
+KeepsHeadline words told tells opening now Ended =
+    (world : World) (job : JobData) → RunsJob words told tells world job → KeepsItsPromise job world opening now Ended
+
+-- the same of an adoption, from this old folder
+abbrev pub KeepsItAdopting : List (List ℕ) → Option World → Bool → (old opening now : History) → (Ended : Type 0) → Type 0
+KeepsItAdopting words told tells old opening now Ended =
+    (world : World) (job : JobData) → AdoptsJob words told tells world (view_of old) job → KeepsItsPromise job world opening now Ended

@@ -3,7 +3,7 @@ ghost use Rattle.std.specs.Prelude.{◌≡◌, Err, IfErr};
 ghost use Rattle.command_answers.specs.Reply.{IsReplyOverScan};
 ghost use Rattle.command_answers.specs.States.{OnScan};
 ghost use Rattle.project_adopt.specs.Adopt.{IsAdoptReply, LeavesDisks, OnDisks};
-ghost use Rattle.project_run.specs.Calls.{IsLeftAlone, Replies};
+ghost use Rattle.project_run.specs.Calls.{IsLeftAlone, Replies, OverScan};
 ghost use Rattle.command_words.specs.declared.command.Command.TheVariants as commands;
 
 use cf_base::PathText;
@@ -25,8 +25,7 @@ pub fn adopt<S: Scans, D: Disk>(
     ensures reply { Replies result (OnScan S.world S.faults S.loads S.heads scan.old scan.new
         (IsReplyOverScan (commands.Adopt path.now old_path.now))) }
     ensures folders { Replies result (OnDisks D.tells D.history D.faults old.old old.new disk.old disk.new
-        (λ old_was old_is was is.
-        IsAdoptReply (S.world scan.old) path.now old_path.now old_was old_is was is (S.loads scan.old) (S.loads scan.new))) }
+        (OverScan S.world S.loads scan.old scan.new (IsAdoptReply path.now old_path.now))) }
     ensures disks { LeavesDisks D.faults D.loans (result ≡ Err Outcome.DiskFault) old.old old.new disk.old disk.new }
     ensures untouched { IfErr result (IsLeftAlone disk.old disk.new) }
     ensures old_untouched { IfErr result (IsLeftAlone old.old old.new) }

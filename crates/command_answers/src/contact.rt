@@ -3,7 +3,7 @@ ghost use Rattle.std.specs.Prelude.{◌≡◌, Err, IfErr};
 ghost use Rattle.command_answers.specs.Reply.{IsReplyOverScan};
 ghost use Rattle.command_answers.specs.States.{OnScan};
 ghost use Rattle.project_run.specs.Sheet.{IsSheetReply};
-ghost use Rattle.project_run.specs.Calls.{IsLeftAlone, LeavesDisk, OnDisk, Replies};
+ghost use Rattle.project_run.specs.Calls.{IsLeftAlone, LeavesDisk, OnDisk, Replies, OverScan};
 ghost use Rattle.command_words.specs.declared.command.Command.TheVariants as commands;
 
 use cf_base::PathText;
@@ -25,7 +25,7 @@ pub fn sheet<S: Scans, D: Disk>(
     ensures reply { Replies result (OnScan S.world S.faults S.loads S.heads scan.old scan.new
         (IsReplyOverScan (commands.Sheet path.now))) }
     ensures folder { Replies result (OnDisk D.tells D.history D.faults disk.old disk.new
-        (λ was is. IsSheetReply tone.now.table (S.world scan.old) path.now was is (S.loads scan.old) (S.loads scan.new))) }
+        (OverScan S.world S.loads scan.old scan.new (IsSheetReply tone.now.table path.now))) }
     ensures disk { LeavesDisk D.faults D.loans (result ≡ Err Outcome.DiskFault) disk.old disk.new }
     ensures untouched { IfErr result (IsLeftAlone disk.old disk.new) }
     ensures same { S.same scan.old scan.new }

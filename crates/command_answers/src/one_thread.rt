@@ -1,15 +1,14 @@
 //! A command on one thread, and what is put for it.
-ghost use Rattle.std.specs.Prelude.{◌≡◌, ◌≤◌, ℕ, List, length, map, Some, IfSome, MatchResult, IfErr};
-ghost use Rattle.conform_job.specs.Job.{JobData};
+ghost use Rattle.std.specs.Prelude.{◌≡◌, ◌≤◌, ℕ, List, length, Some, IfSome, IfErr, map};
 ghost use Rattle.scan_source.specs.World.{World};
-ghost use Rattle.reel_disk.specs.Disk.{view_of};
-ghost use Rattle.command_answers.specs.Answer.{Answered, IsFoundIn, IsLinePut, IsPut, IsUncalled, OnSink, texts_of};
+ghost use Rattle.command_answers.specs.Answer.{Answered, IsFoundIn, IsLinePut, IsPut, IsUncalled, OnSink, IsResultPut};
 ghost use Rattle.command_answers.specs.Complete.{IsAccepted, IsComplete, IsUnfailed, NoCallFailed};
-ghost use Rattle.command_answers.specs.Headline.{AdoptsJob, RunsJob, KeepsItsPromise, HasEnded};
+ghost use Rattle.command_answers.specs.Headline.{HasEnded, KeepsHeadline, KeepsItAdopting};
 ghost use Rattle.command_answers.specs.Reply.{CallsDisk, CallsOld, IsReplyOverFolders};
 ghost use Rattle.command_answers.specs.States.{OnFolders, OnScan, folders_of, house_of};
 ghost use Rattle.command_words.specs.Commands.{HasCounts, IsNoCommand, Spells};
 ghost use Rattle.project_run.specs.Calls.{IsLeftAlone, Replies};
+ghost use Rattle.command_words.specs.Lines.{texts_of};
 
 use crate::adoption::adopt;
 use crate::contact::sheet;
@@ -63,11 +62,10 @@ pub fn answer<S: Scans, D: Disk, K: Sink>(
     ensures old_same { D.loans old.new ≡ D.loans old.old }
 
     // The headline.
-    ensures headline { (world : World) (job : JobData) → RunsJob (texts_of words.now) (S.world scan.old) D.tells world job
-        → KeepsItsPromise job world (D.history disk.old) (D.history disk.new) (HasEnded result) }
-    ensures adopted { (world : World) (job : JobData)
-        → AdoptsJob (texts_of words.now) (S.world scan.old) D.tells world (view_of (D.history old.old)) job
-        → KeepsItsPromise job world (D.history disk.old) (D.history disk.new) (HasEnded result) }
+    ensures headline { KeepsHeadline (texts_of words.now) (S.world scan.old) D.tells
+        (D.history disk.old) (D.history disk.new) (HasEnded result) }
+    ensures adopted { KeepsItAdopting (texts_of words.now) (S.world scan.old) D.tells
+        (D.history old.old) (D.history disk.old) (D.history disk.new) (HasEnded result) }
 
     // Where nothing stands in the way of the command and no call failed, it is done, or memory ran out.
     ensures complete { (command : Command) (world : World) → Spells (texts_of words.now) command → S.world scan.old ≡ Some world
@@ -176,8 +174,7 @@ pub fn put_result<K: Sink>(
     reached: &Result<Vec<u8>, Outcome>,
     out: &mut K,
 ) -> Outcome
-    ensures put { OnSink K.written K.faults out.old out.new (λ was is. MatchResult reached.now
-        (λ output. IsPut was is Outcome.Done output.items result) (λ outcome. IsLinePut was is outcome result)) }
+    ensures put { OnSink K.written K.faults out.old out.new IsResultPut reached.now result }
     ensures later { K.faults out.old ≤ K.faults out.new }
 {
     match reached {

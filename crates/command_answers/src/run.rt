@@ -3,7 +3,7 @@ ghost use Rattle.std.specs.Prelude.{◌≡◌, Err, IfErr};
 ghost use Rattle.command_words.specs.Lines.{HasCount};
 ghost use Rattle.command_answers.specs.Reply.{IsReplyOverScan};
 ghost use Rattle.command_answers.specs.States.{OnScan};
-ghost use Rattle.project_run.specs.Calls.{IsLeftAlone, LeavesDisk, OnDisk, Replies};
+ghost use Rattle.project_run.specs.Calls.{IsLeftAlone, LeavesDisk, OnDisk, Replies, OverScan};
 ghost use Rattle.project_run.specs.Run.{IsRunReply};
 ghost use Rattle.command_words.specs.declared.command.Command.TheVariants as commands;
 
@@ -27,7 +27,7 @@ pub fn run<S: Scans, D: Disk>(
     ensures reply { Replies result (OnScan S.world S.faults S.loads S.heads scan.old scan.new
         (IsReplyOverScan (commands.Run path.now workers share))) }
     ensures folder { Replies result (OnDisk D.tells D.history D.faults disk.old disk.new
-        (λ was is. IsRunReply (S.world scan.old) path.now share was is (S.loads scan.old) (S.loads scan.new))) }
+        (OverScan S.world S.loads scan.old scan.new (IsRunReply path.now share))) }
     ensures disk { LeavesDisk D.faults D.loans (result ≡ Err Outcome.DiskFault) disk.old disk.new }
     ensures untouched { IfErr result (IsLeftAlone disk.old disk.new) }
     ensures same { S.same scan.old scan.new }

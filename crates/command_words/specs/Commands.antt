@@ -2,7 +2,7 @@
 --     Gives line command      the line is a row of the table, which says this command
 --     Spells words command, IsNoCommand words      the words spell this command, or none
 --     HasCounts command      its numbers are in their ranges
-use Rattle.std.specs.Prelude.{◌≡◌, ◌≤◌, ℕ, false, List, Option, Some, None, IsSomeAnd, codes, length}
+use Rattle.std.specs.Prelude.{◌≡◌, ◌≤◌, ℕ, false, List, Option, Some, None, IsSomeAnd, MatchOption, codes, length}
 use Rattle.std.specs.Str.Parse.{IsNumeral, digits_value}
 use Rattle.clap.specs.Walk.{Text}
 use Rattle.cf_base.specs.Text.{path_text_of}
@@ -81,3 +81,29 @@ HasCounts (commands.Run project workers share) = HasCount workers × HasCount sh
 HasCounts (commands.Pull project margin) = margin ≤ 1000
 HasCounts (commands.Demo count) = HasDemoCount count
 HasCounts command = Unit {0}
+
+-- The rest is said of one row of the table: what the line gives by it, or that it gives nothing.
+
+abbrev pub FindsList : LineText → Option Command → Type 0
+FindsList line found = MatchOption found ((file : List ℕ) (rate : Rate) → Gives line (commands.List file rate) → ⊥) (Gives line)
+
+abbrev pub FindsRun : LineText → Option Command → Type 0
+FindsRun line found =
+    MatchOption found ((project : List ℕ) (workers share : ℕ) → Gives line (commands.Run project workers share) → ⊥) (Gives line)
+
+abbrev pub FindsAdopt : LineText → Option Command → Type 0
+FindsAdopt line found = MatchOption found ((project old : List ℕ) → Gives line (commands.Adopt project old) → ⊥) (Gives line)
+
+abbrev pub FindsPull : LineText → Option Command → Type 0
+FindsPull line found = MatchOption found ((project : List ℕ) (margin : ℕ) → Gives line (commands.Pull project margin) → ⊥) (Gives line)
+
+-- the subject of a line that is this word and a path, or a count
+abbrev pub FindsPath : LineText → Text → Option (List ℕ) → Type 0
+FindsPath line word found = MatchOption found
+    ((path : List ℕ) → IsRow line word None → IsPath line.subject path → ⊥)
+    (λ path. IsRow line word None × IsPath line.subject path)
+
+abbrev pub FindsCount : LineText → Text → Option ℕ → Type 0
+FindsCount line word found = MatchOption found
+    ((count : ℕ) → IsRow line word None → IsCount line.subject count → ⊥)
+    (λ count. IsRow line word None × IsCount line.subject count)

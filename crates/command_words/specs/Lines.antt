@@ -2,7 +2,8 @@
 --     simple_command      the command: two words that have to be there, a third, and two options
 --     LineText      the words of a line, each in its place
 --     MakesLine words line, HasNoLine words      the words make this line, or none
-use Rattle.std.specs.Prelude.{◌≡◌, ◌<◌, ◌≤◌, ◌^◌, ◌||◌, ℕ, Bool, true, false, List, [], ◌∷◌, Option, Some, None, IsSomeAnd, codes, find, option_and_then, option_map, pos}
+use Rattle.std.specs.Prelude.{◌≡◌, ◌<◌, ◌≤◌, ◌^◌, ◌||◌, ℕ, Bool, true, false, List, [], ◌∷◌, Option, Some, None, IsSomeAnd, MatchOption, codes, find, map, option_and_then, option_map, pos}
+use Rattle.std.specs.Borrow.{Bor}
 use Rattle.std.specs.Str.{bytes_eq}
 use Rattle.std.specs.Str.Parse.{IsNumeral, digits_value, without_leading_plus}
 use Rattle.clap.specs.Faults.{fault_of}
@@ -62,6 +63,10 @@ abbrev pub ReadsNumeral : Option Text → Option ℕ → Type 0
 ReadsNumeral text (Some n) = IsSomeAnd text (Writes n)
 ReadsNumeral text None = (n : ℕ) → n < 2 ^ 16 → IsSomeAnd text (Writes n) → ⊥
 
+-- the same of a number from 1 to 16
+abbrev pub ReadsNumber : Option Text → Option ℕ → Type 0
+ReadsNumber text found = MatchOption found ((n : ℕ) → IsSomeAnd text (IsNumber n) → ⊥) (λ n. IsSomeAnd text (IsNumber n))
+
 abbrev pub from_words : Option ValueSource → Bool
 from_words (Some CommandLine) = true
 from_words _ = false
@@ -107,3 +112,14 @@ MakesLine words line = (fault_of simple_command words ≡ []) × IsLine (matches
 
 abbrev pub HasNoLine : List Text → Type 0
 HasNoLine words = (line : LineText) → MakesLine words line → ⊥
+
+-- what the words of a line say
+abbrev pub texts_of : List (Bor Text) → List Text
+texts_of words = map (λ word. word.now) words
+
+-- the line that was found, or that there is none: of the words, and of what `clap` found in them
+abbrev pub FindsLine : List Text → Option Line → Type 0
+FindsLine words found = MatchOption found (HasNoLine words) (λ line. MakesLine words (text_of_line line))
+
+abbrev pub FindsLineIn : List Row → Option Line → Type 0
+FindsLineIn rows found = MatchOption found ((line : LineText) → IsLine rows line → ⊥) (λ line. IsLine rows (text_of_line line))

@@ -1,7 +1,7 @@
 //! The commands, and which of them a line gives.
-ghost use Rattle.std.specs.Prelude.{◌≡◌, ◌↔◌, ℕ, List, IfOk, IfSome, IsTrue, MatchOption, None, codes, map};
+ghost use Rattle.std.specs.Prelude.{◌≡◌, ◌↔◌, ℕ, List, IfOk, IfSome, IsTrue, MatchOption, None, map};
 ghost use Rattle.std.specs.Str.Parse.{AllDigits};
-ghost use Rattle.command_words.specs.Commands.{Gives, HasCounts, IsCount, IsDigit, IsFewDigits, IsNoCommand, IsPath, IsRow, Spells, rate_word};
+ghost use Rattle.command_words.specs.Commands.{Gives, HasCounts, IsCount, IsDigit, IsFewDigits, IsNoCommand, IsPath, IsRow, Spells, rate_word, FindsAdopt, FindsCount, FindsList, FindsPath, FindsPull, FindsRun};
 ghost use Rattle.command_words.specs.Lines.{text_of_line};
 
 use crate::line::{Line, line_of};
@@ -106,9 +106,7 @@ fn command_on(line: &Line<'_>) -> Option<Command>
 
 /// The path of a line that is a command's word and a path.
 fn path_after(line: &Line<'_>, word: &str) -> Option<PathText>
-    ensures { MatchOption result
-        ((path : List ℕ) → IsRow (text_of_line line.now) word.now None → IsPath (text_of_line line.now).subject path → ⊥)
-        (λ path. IsRow (text_of_line line.now) word.now None × IsPath (text_of_line line.now).subject path) }
+    ensures { FindsPath (text_of_line line.now) word.now result }
 {
     if !is_alone(line, word) {
         return None;
@@ -118,9 +116,7 @@ fn path_after(line: &Line<'_>, word: &str) -> Option<PathText>
 
 /// The count of a line that is a command's word and a count.
 fn count_after(line: &Line<'_>, word: &str) -> Option<u32>
-    ensures { MatchOption result
-        ((count : ℕ) → IsRow (text_of_line line.now) word.now None → IsCount (text_of_line line.now).subject count → ⊥)
-        (λ count. IsRow (text_of_line line.now) word.now None × IsCount (text_of_line line.now).subject count) }
+    ensures { FindsCount (text_of_line line.now) word.now result }
 {
     if !is_alone(line, word) {
         return None;
@@ -130,9 +126,7 @@ fn count_after(line: &Line<'_>, word: &str) -> Option<u32>
 
 /// The row `list FILE RATE`.
 fn list_on(line: &Line<'_>) -> Option<Command>
-    ensures { MatchOption result
-        ((file : List ℕ) (rate : Rate) → Gives (text_of_line line.now) (Command.List file rate) → ⊥)
-        (λ command. Gives (text_of_line line.now) command) }
+    ensures { FindsList (text_of_line line.now) result }
 {
     if line.command != "list" || line.has_options {
         return None;
@@ -145,9 +139,7 @@ fn list_on(line: &Line<'_>) -> Option<Command>
 
 /// The row `run PROJECT`, with its options.
 fn run_on(line: &Line<'_>) -> Option<Command>
-    ensures { MatchOption result
-        ((project : List ℕ) (workers share : ℕ) → Gives (text_of_line line.now) (Command.Run project workers share) → ⊥)
-        (λ command. Gives (text_of_line line.now) command) }
+    ensures { FindsRun (text_of_line line.now) result }
 {
     if line.command != "run" || line.extra.is_some() {
         return None;
@@ -162,9 +154,7 @@ fn run_on(line: &Line<'_>) -> Option<Command>
 
 /// The row `adopt PROJECT OLD`.
 fn adopt_on(line: &Line<'_>) -> Option<Command>
-    ensures { MatchOption result
-        ((project old : List ℕ) → Gives (text_of_line line.now) (Command.Adopt project old) → ⊥)
-        (λ command. Gives (text_of_line line.now) command) }
+    ensures { FindsAdopt (text_of_line line.now) result }
 {
     if line.command != "adopt" || line.has_options {
         return None;
@@ -177,9 +167,7 @@ fn adopt_on(line: &Line<'_>) -> Option<Command>
 
 /// The row `pull PROJECT MARGIN`.
 fn pull_on(line: &Line<'_>) -> Option<Command>
-    ensures { MatchOption result
-        ((project : List ℕ) (margin : ℕ) → Gives (text_of_line line.now) (Command.Pull project margin) → ⊥)
-        (λ command. Gives (text_of_line line.now) command) }
+    ensures { FindsPull (text_of_line line.now) result }
 {
     if line.command != "pull" || line.has_options {
         return None;

@@ -1,7 +1,7 @@
 //! What stands on a command line, whatever the command.
-ghost use Rattle.std.specs.Prelude.{◌≡◌, ℕ, IfOk, IsSomeAnd, MatchOption, false, map, option_map};
+ghost use Rattle.std.specs.Prelude.{◌≡◌, IfOk, false, option_map};
 ghost use Rattle.clap.specs.Words.{app_of, first_of, found_of, one_of, rows_of, rule_of};
-ghost use Rattle.command_words.specs.Lines.{HasNoLine, IsLine, IsNumber, LineText, MakesLine, ReadsNumeral, from_words, number_rule, positional_command, simple_command, stands, text_of_line};
+ghost use Rattle.command_words.specs.Lines.{ReadsNumeral, from_words, number_rule, positional_command, simple_command, stands, FindsLine, FindsLineIn, ReadsNumber, texts_of};
 
 use cf_base::{Fail, Never};
 use clap::error::ErrorKind;
@@ -26,9 +26,7 @@ pub struct Line<'a> {
 
 /// The line that the words make, None exactly where they make none.
 pub fn line_of<'a>(alloc: Global, words: &'a [&'a str]) -> Result<Option<Line<'a>>, Fail<Never>>
-    ensures line { IfOk result (λ found. MatchOption found
-        (HasNoLine (map (λ w. w.now) words.now))
-        (λ line. MakesLine (map (λ w. w.now) words.now) (text_of_line line))) }
+    ensures line { IfOk result (FindsLine (texts_of words.now)) }
 {
     let Ok(command) = simple_command(alloc) else {
         return Err(Fail::NoMemory);
@@ -80,9 +78,7 @@ fn number_option<'a>(alloc: Global, name: &'a str, default: &'a str) -> Arg<'a>
 
 /// The line of what was found.
 fn line_in<'a>(matches: &ArgMatches<'a>) -> Option<Line<'a>>
-    ensures line { MatchOption result
-        ((line : LineText) → IsLine (rows_of (found_of matches.now)) line → ⊥)
-        (λ line. IsLine (rows_of (found_of matches.now)) (text_of_line line)) }
+    ensures line { FindsLineIn (rows_of (found_of matches.now)) result }
 {
     let Some(command) = text_of(matches, "command") else {
         return None;
@@ -115,9 +111,7 @@ fn text_of<'a>(matches: &ArgMatches<'a>, id: &str) -> Option<&'a str>
 
 /// The number of an option. `clap` has refused all others, but says so of the words and not of the value.
 fn number_of(matches: &ArgMatches<'_>, id: &str) -> Option<u16>
-    ensures number { MatchOption result
-        ((n : ℕ) → IsSomeAnd (one_of id.now (rows_of (found_of matches.now))) (IsNumber n) → ⊥)
-        (λ n. IsSomeAnd (one_of id.now (rows_of (found_of matches.now))) (IsNumber n)) }
+    ensures number { ReadsNumber (one_of id.now (rows_of (found_of matches.now))) result }
 {
     let Some(number) = numeral_of(matches, id) else {
         return None;

@@ -1,7 +1,6 @@
 -- What is made of a file that was looked at is what the definition has.
 use Rattle.std.proofs.Common.{◌≡◌, ℕ, Bool, true, false, cond, ◌&&◌, ◌==◌, List, refl, Option, Result}
 use Rattle.std.specs.Prelude.{Some, None, Ok, Err, IfSome, IfOk}
-use Rattle.cf_base.specs.Count.{HasRisen}
 use Rattle.cf_base.specs.declared.key.Key.{Key}
 use Rattle.dpx_header.specs.declared.info.FrameInfo.{FrameInfo}
 use Rattle.scan_source.specs.World.{World, file_at}
@@ -37,12 +36,18 @@ module _ (n : Named) (width height : ℕ) where
   judged_told seen.Absent result file j h = rw (j, h) refl
   judged_told seen.Fault result file j h = rw j tt
 
-  pub judged_failed : (s : Seen) (result : Result FrameInfo JobFault) (before after : ℕ) → IsJudged n width height s result → (s ≡ seen.Fault → HasRisen before after)
-      → result ≡ Err fault.SourceFault → HasRisen before after
-  judged_failed (seen.Info info) result before after j h e = absurd (not_failed (info.width == width && info.height == height) info result j.0 e)
-  judged_failed (seen.Bad bad) result before after j h e = absurd (cc)
-  judged_failed seen.Absent result before after j h e = absurd (cc)
-  judged_failed seen.Fault result before after j h e = h refl
+  -- the end is a fault of the scan just where the file was not seen for one
+  pub judged_failed : (s : Seen) (result : Result FrameInfo JobFault) → IsJudged n width height s result → result ≡ Err fault.SourceFault → s ≡ seen.Fault
+  judged_failed (seen.Info info) result j e = absurd (not_failed (info.width == width && info.height == height) info result j.0 e)
+  judged_failed (seen.Bad bad) result j e = absurd (cc)
+  judged_failed seen.Absent result j e = absurd (cc)
+  judged_failed seen.Fault result j e = refl
+
+  pub failed_judged : (s : Seen) (result : Result FrameInfo JobFault) → IsJudged n width height s result → s ≡ seen.Fault → result ≡ Err fault.SourceFault
+  failed_judged (seen.Info info) result j e = absurd (cc)
+  failed_judged (seen.Bad bad) result j e = absurd (cc)
+  failed_judged seen.Absent result j e = absurd (cc)
+  failed_judged seen.Fault result j e = j
 
 module _ (p : JobParts) (told : Option World) (key : Key) (n : Named) where
   kept_info : (info : FrameInfo) (result : Result FrameInfo JobFault) → IfSome told (λ world. IsSeen (seen.Info info) (file_of_key p.reels (file_at world) key)) → IsSeenFrame (seen.Info info)

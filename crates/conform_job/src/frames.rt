@@ -1,6 +1,5 @@
 //! The source frames that a timeline asks for, each inspected where it is first asked for.
-ghost use Rattle.std.specs.Prelude.{◌≡◌, ◌≢◌, ◌+◌, ◌<◌, ◌≤◌, length, [], ◌∷◌, Some, None, Err, IfSome, IfOk, IfErr, OnOk};
-ghost use Rattle.cf_base.specs.Count.{HasRisen};
+ghost use Rattle.std.specs.Prelude.{◌≡◌, ◌+◌, ◌<◌, length, [], ◌∷◌, Some, None, Err, IfSome, IfOk, IfErr, OnOk};
 ghost use Rattle.scan_source.specs.Plan.{one_more};
 ghost use Rattle.scan_source.specs.World.{file_at};
 ghost use Rattle.record_timeline.specs.Accepted.{first_frame, frame_count};
@@ -14,6 +13,7 @@ ghost use Rattle.conform_job.specs.Infos.{IsSetTo, HasEachOnce};
 ghost use Rattle.conform_job.specs.Keys.{info_at, key_at, key_of_ask};
 ghost use Rattle.conform_job.specs.Lines.{places_of};
 ghost use Rattle.conform_job.specs.Refusals.{asks_refusal, frames_refusal, key_refusal, name_of_ask};
+ghost use Rattle.scan_source.specs.Leaves.{LeavesScan};
 
 use crate::infos::Infos;
 use crate::{JobFault, JobParts};
@@ -64,15 +64,11 @@ fn inspect_key<S: Scans>(
     ensures info { IfOk result (IsInfoOf parts.now (S.world scans.old) key) }
     ensures of_frames { IfErr result IsOfFrames }
 
-    ensures failed { result ≡ Err JobFault.SourceFault → HasRisen (S.faults scans.old) (S.faults scans.new) }
-    ensures steady { result ≢ Err JobFault.SourceFault → S.faults scans.new ≡ S.faults scans.old }
-    ensures later { S.faults scans.old ≤ S.faults scans.new }
+    ensures scan { LeavesScan S.world S.faults S.same (result ≡ Err JobFault.SourceFault) scans.old scans.new }
 
     ensures heads { OnOk result (S.heads scans.new ≡ one_more (S.heads scans.old)) }
     ensures asked { S.heads scans.new ≡ count_after (path_count (path_of_key parts.now.reels key)) (S.heads scans.old) }
     ensures loads { S.loads scans.new ≡ S.loads scans.old }
-    ensures world { S.world scans.new ≡ S.world scans.old }
-    ensures same { S.same scans.old scans.new }
 {
     let Some(path) = path_of_key(&parts.reels, key) else {
         return Err(named.missing());
@@ -186,15 +182,11 @@ fn inspect_frame<S: Scans>(
     ensures grows { OnOk result (Grows parts.now (S.world scans.old) (ask ∷ []) infos.old infos.new) }
     ensures of_frames { IfErr result IsOfFrames }
 
-    ensures failed { result ≡ Err JobFault.SourceFault → HasRisen (S.faults scans.old) (S.faults scans.new) }
-    ensures steady { result ≢ Err JobFault.SourceFault → S.faults scans.new ≡ S.faults scans.old }
-    ensures later { S.faults scans.old ≤ S.faults scans.new }
+    ensures scan { LeavesScan S.world S.faults S.same (result ≡ Err JobFault.SourceFault) scans.old scans.new }
 
     ensures heads { OnOk result (HeadsGrow (S.heads scans.old) (S.heads scans.new) (length infos.old) (length infos.new)) }
     ensures end { IfErr result (EndAt parts.now (S.world scans.old) (ask ∷ []) infos.old (S.heads scans.old) (S.heads scans.new)) }
     ensures loads { S.loads scans.new ≡ S.loads scans.old }
-    ensures world { S.world scans.new ≡ S.world scans.old }
-    ensures same { S.same scans.old scans.new }
 {
     let named = named_of(parts, ask);
     let Some(key) = key_of(parts, places, ask) else {
@@ -224,15 +216,11 @@ fn inspect_side<S: Scans>(
     ensures grows { OnOk result (Grows parts.now (S.world scans.old) (asks_of_side side) infos.old infos.new) }
     ensures of_frames { IfErr result IsOfFrames }
 
-    ensures failed { result ≡ Err JobFault.SourceFault → HasRisen (S.faults scans.old) (S.faults scans.new) }
-    ensures steady { result ≢ Err JobFault.SourceFault → S.faults scans.new ≡ S.faults scans.old }
-    ensures later { S.faults scans.old ≤ S.faults scans.new }
+    ensures scan { LeavesScan S.world S.faults S.same (result ≡ Err JobFault.SourceFault) scans.old scans.new }
 
     ensures heads { OnOk result (HeadsGrow (S.heads scans.old) (S.heads scans.new) (length infos.old) (length infos.new)) }
     ensures end { IfErr result (EndAt parts.now (S.world scans.old) (asks_of_side side) infos.old (S.heads scans.old) (S.heads scans.new)) }
     ensures loads { S.loads scans.new ≡ S.loads scans.old }
-    ensures world { S.world scans.new ≡ S.world scans.old }
-    ensures same { S.same scans.old scans.new }
 {
     match side {
         Side::Black => Ok(()),
@@ -261,15 +249,11 @@ fn inspect_shot<S: Scans>(
     ensures grows { OnOk result (Grows parts.now (S.world scans.old) (asks_of_shot shot) infos.old infos.new) }
     ensures of_frames { IfErr result IsOfFrames }
 
-    ensures failed { result ≡ Err JobFault.SourceFault → HasRisen (S.faults scans.old) (S.faults scans.new) }
-    ensures steady { result ≢ Err JobFault.SourceFault → S.faults scans.new ≡ S.faults scans.old }
-    ensures later { S.faults scans.old ≤ S.faults scans.new }
+    ensures scan { LeavesScan S.world S.faults S.same (result ≡ Err JobFault.SourceFault) scans.old scans.new }
 
     ensures heads { OnOk result (HeadsGrow (S.heads scans.old) (S.heads scans.new) (length infos.old) (length infos.new)) }
     ensures end { IfErr result (EndAt parts.now (S.world scans.old) (asks_of_shot shot) infos.old (S.heads scans.old) (S.heads scans.new)) }
     ensures loads { S.loads scans.new ≡ S.loads scans.old }
-    ensures world { S.world scans.new ≡ S.world scans.old }
-    ensures same { S.same scans.old scans.new }
 {
     match shot {
         Shot::Gap => Ok(()),
@@ -293,15 +277,11 @@ pub fn infos_of<S: Scans>(
     ensures grows { IfOk result (Grows parts.now (S.world scans.old) (asks_of parts.now.timeline) []) }
     ensures of_frames { IfErr result IsOfFrames }
 
-    ensures failed { result ≡ Err JobFault.SourceFault → HasRisen (S.faults scans.old) (S.faults scans.new) }
-    ensures steady { result ≢ Err JobFault.SourceFault → S.faults scans.new ≡ S.faults scans.old }
-    ensures later { S.faults scans.old ≤ S.faults scans.new }
+    ensures scan { LeavesScan S.world S.faults S.same (result ≡ Err JobFault.SourceFault) scans.old scans.new }
 
     ensures heads { IfOk result (λ infos. HeadsGrow (S.heads scans.old) (S.heads scans.new) 0 (length infos)) }
     ensures end { IfErr result (EndInTurn parts.now (S.world scans.old) (S.heads scans.old) (S.heads scans.new)) }
     ensures loads { S.loads scans.new ≡ S.loads scans.old }
-    ensures world { S.world scans.new ≡ S.world scans.old }
-    ensures same { S.same scans.old scans.new }
 {
     let mut infos = Infos::new(alloc);
     for i in 0..parts.timeline.count() {

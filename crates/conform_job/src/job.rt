@@ -1,6 +1,5 @@
 //! A job, and how it is planned.
-ghost use Rattle.std.specs.Prelude.{◌≡◌, ◌≢◌, ◌<◌, ◌≤◌, [], length, None, Some, Err, IfSome, IfOk, IfErr, MatchResult};
-ghost use Rattle.cf_base.specs.Count.{HasRisen};
+ghost use Rattle.std.specs.Prelude.{◌≡◌, ◌<◌, ◌≤◌, [], length, None, Some, Err, IfSome, IfOk, IfErr, MatchResult};
 ghost use Rattle.scan_source.specs.World.{file_at};
 ghost use Rattle.record_timeline.specs.Accepted.{frame_count};
 ghost use Rattle.record_timeline.specs.Shots.{IsShotIn};
@@ -14,6 +13,7 @@ ghost use Rattle.conform_job.specs.Infos.{HasEachOnce};
 ghost use Rattle.conform_job.specs.Job.{ArePlanned, IsByLines, IsNeeded, file_of};
 ghost use Rattle.conform_job.specs.Lines.{ArePlaces, IsPlacedUnless};
 ghost use Rattle.conform_job.specs.Refusals.{first_refusal, told_refusal};
+ghost use Rattle.scan_source.specs.Leaves.{LeavesScan};
 
 use crate::cuts::{cut_numbers, record_reel, reel_span};
 use crate::frames::{events_of, frame_of, infos_of, path_of_key, shot_of};
@@ -80,13 +80,9 @@ impl Job {
         // has a path.
         ensures asked { IfErr result (HasAsked parts (S.world scans.old) (S.heads scans.old) (S.heads scans.new)) }
 
-        ensures failed { result ≡ Err JobFault.SourceFault → HasRisen (S.faults scans.old) (S.faults scans.new) }
-        ensures steady { result ≢ Err JobFault.SourceFault → S.faults scans.new ≡ S.faults scans.old }
-        ensures later { S.faults scans.old ≤ S.faults scans.new }
+        ensures scan { LeavesScan S.world S.faults S.same (result ≡ Err JobFault.SourceFault) scans.old scans.new }
 
         ensures loads { S.loads scans.new ≡ S.loads scans.old }
-        ensures world { S.world scans.new ≡ S.world scans.old }
-        ensures same { S.same scans.old scans.new }
     {
         match found_of(alloc, &parts, scans) {
             Ok(found) => Ok(Job {
@@ -264,13 +260,9 @@ fn found_of<S: Scans>(alloc: Global, parts: &JobParts, scans: &mut S) -> Result<
     ensures heads { IfOk result (λ found. HeadsGrow (S.heads scans.old) (S.heads scans.new) 0 (length found.infos)) }
     ensures asked { IfErr result (HasAsked parts.now (S.world scans.old) (S.heads scans.old) (S.heads scans.new)) }
 
-    ensures failed { result ≡ Err JobFault.SourceFault → HasRisen (S.faults scans.old) (S.faults scans.new) }
-    ensures steady { result ≢ Err JobFault.SourceFault → S.faults scans.new ≡ S.faults scans.old }
-    ensures later { S.faults scans.old ≤ S.faults scans.new }
+    ensures scan { LeavesScan S.world S.faults S.same (result ≡ Err JobFault.SourceFault) scans.old scans.new }
 
     ensures loads { S.loads scans.new ≡ S.loads scans.old }
-    ensures world { S.world scans.new ≡ S.world scans.old }
-    ensures same { S.same scans.old scans.new }
 {
     let cuts = match cut_numbers(alloc, parts) {
         Ok(cuts) => cuts,

@@ -21,7 +21,7 @@ use Rattle.conform_tool.specs.Conform.{AnsweredByCrew}
 use Rattle.command_answers.specs.Headline.{KeepsItsPromise, HasEnded}
 use Rattle.frame_share.specs.declared.step.ShareStep.{ShareStep}
 use Rattle.render_board.specs.declared.step.Step.{Step}
-use Rattle.station.specs.Crews.{WasCrewed, IsUnstepped}
+use Rattle.station.specs.Crews.{TookSteps, TookNoSteps}
 use Rattle.single_run.specs.declared.run_end.Report.{Report}
 use Rattle.command_words.specs.declared.command.Command.{Command}
 use Rattle.command_answers.specs.ByFolder.{HasFitFolder}
@@ -59,7 +59,7 @@ crew_answered_promise laws world_of faults loads same path workers scans scans_a
 -- ---- completeness
 
 steps_complete : (world : World) (told : Option World) (is : told ≡ Some world) (log : List ShareStep) (count : ℕ) (job : JobData) (old new : History) (how : RunEnd) (report : Report) (tells : Bool) (steps : Option (List Step)) → tells ≡ true → IsFit job.parts.digest (frames_of job) (view_of old)
-    → MatchOption steps (IsUnstepped job tells old new how report log) (λ all. WasCrewed job told count tells old new all how report log)
+    → MatchOption steps (TookNoSteps job tells old new how report log) (λ all. TookSteps job told count tells old new all how report log)
     → how ≢ ends.SourceFault → how ≢ ends.DiskFault → (how ≡ ends.Done) ⊎ (how ≡ ends.NoMemory)
 steps_complete world told is log count job old new how report tells None tell fit (inl refused) none_source none_disk = refused_complete job tells old new how tell fit refused.why none_disk
 steps_complete world told is log count job old new how report tells None tell fit (inr unmade) none_source none_disk = inr unmade.no_memory

@@ -2,11 +2,13 @@
 --     IsAlone words      the words are no such run
 --     IsFirst scans scan      the scan is the first of them
 --     AnsweredByCrew      the answer to them, over all scans
-use Rattle.std.specs.Prelude.{◌≡◌, ◌≢◌, ◌⊎◌, ℕ, ◌≤◌, List, slice_get, Option, Some}
+use Rattle.std.specs.Prelude.{◌≡◌, ◌≢◌, ◌⊎◌, ℕ, ◌≤◌, List, slice_get, Option, Some, None}
 use Rattle.cf_base.specs.Count.{HasRisen}
 use Rattle.scan_source.specs.World.{World}
 use Rattle.command_words.specs.Commands.{Spells}
+use Rattle.command_words.specs.declared.command.Command.{Command}
 use Rattle.command_words.specs.declared.command.Command.TheVariants as commands
+use Rattle.conform_tool.specs.declared.top.CrewRun.{CrewRun}
 use Rattle.outcome_line.specs.Output.{line_of}
 use Rattle.outcome_line.specs.declared.outcome.Outcome.{Outcome}
 use Rattle.outcome_line.specs.declared.outcome.Outcome.TheVariants.{Done, SourceFault, DiskFault, NoMemory}
@@ -43,3 +45,8 @@ module _ {S : Type 0} (world : S → Option World) (faults loads : S → ℕ) (s
     pub output : List ℕ
     pub put : IsPut sink sink_after reached output result
     pub crewed : IsCausedByCrew path workers scans scans_after disk disk_after reached output ⊎ WereUnread scans scans_after disk disk_after reached output
+
+-- the run with several workers that a command is, or that it is none
+abbrev pub IsCrewOf : Option Command → Option CrewRun → Type 0
+IsCrewOf found (Some crew) = (found ≡ Some (commands.Run crew.project crew.workers crew.share)) × (2 ≤ crew.workers)
+IsCrewOf found None = (path : List ℕ) (workers share : ℕ) → found ≡ Some (commands.Run path workers share) → workers ≤ 1

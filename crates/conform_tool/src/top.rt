@@ -1,16 +1,14 @@
 //! The top call: a run with more than one worker by a crew, and all else on one thread.
-ghost use Rattle.std.specs.Prelude.{◌≡◌, ◌≤◌, ℕ, List, true, length, map, drop, vec_len, Some, IfSome, AllPairs, MatchOption};
+ghost use Rattle.std.specs.Prelude.{◌≡◌, ◌≤◌, ℕ, List, true, length, drop, vec_len, Some, IfSome, AllPairs, map};
 ghost use Rattle.command_words.specs.Commands.{HasCounts, Spells};
-ghost use Rattle.command_words.specs.Lines.{HasCount};
+ghost use Rattle.command_words.specs.Lines.{HasCount, texts_of};
 ghost use Rattle.command_words.specs.declared.command.Command.TheVariants as commands;
-ghost use Rattle.reel_disk.specs.Disk.{view_of};
-ghost use Rattle.command_answers.specs.Answer.{Answered, IsFoundIn, IsUncalled, OnSink, texts_of};
-ghost use Rattle.conform_tool.specs.Conform.{AnsweredByCrew, IsAlone, IsFirst};
+ghost use Rattle.command_answers.specs.Answer.{Answered, IsFoundIn, IsUncalled, OnSink};
+ghost use Rattle.conform_tool.specs.Conform.{AnsweredByCrew, IsAlone, IsFirst, IsCrewOf};
 ghost use Rattle.command_answers.specs.Complete.{IsAccepted, IsComplete, IsUnfailed, NoCallFailed};
-ghost use Rattle.command_answers.specs.Headline.{AdoptsJob, RunsJob, KeepsItsPromise, HasEnded};
+ghost use Rattle.command_answers.specs.Headline.{HasEnded, KeepsHeadline, KeepsItAdopting};
 ghost use Rattle.command_answers.specs.Reply.{CallsDisk, CallsOld};
 ghost use Rattle.command_answers.specs.States.{OnFolders, OnScan, folders_of, house_of};
-ghost use Rattle.conform_job.specs.Job.{JobData};
 ghost use Rattle.project_crew.specs.Crew.{HasFailed, told_by};
 ghost use Rattle.project_run.specs.Calls.{IsLeftAlone, OnDisk};
 ghost use Rattle.scan_source.specs.World.{World};
@@ -88,13 +86,12 @@ pub fn conform<S: Scans + Send, D: Disk + Send, K: Sink, R: Threads + Wait + Syn
     ensures old_same { D.loans old.new ≡ D.loans old.old }
 
     // The headline, for any number of workers.
-    ensures headline { (world : World) (job : JobData) → RunsJob (texts_of words.now) (told_by S.world scans.items) D.tells world job
-        → KeepsItsPromise job world (D.history disk) (D.history result.disk) (HasEnded result.outcome) }
+    ensures headline { KeepsHeadline (texts_of words.now) (told_by S.world scans.items) D.tells
+        (D.history disk) (D.history result.disk) (HasEnded result.outcome) }
 
     // The same of an adoption, whose old folder is sound.
-    ensures adopted { (world : World) (job : JobData)
-        → AdoptsJob (texts_of words.now) (told_by S.world scans.items) D.tells world (view_of (D.history old.old)) job
-        → KeepsItsPromise job world (D.history disk) (D.history result.disk) (HasEnded result.outcome) }
+    ensures adopted { KeepsItAdopting (texts_of words.now) (told_by S.world scans.items) D.tells
+        (D.history old.old) (D.history disk) (D.history result.disk) (HasEnded result.outcome) }
 
     // Where nothing stands in the way of the command and no call failed, it is done, or memory ran out.
     ensures complete { (command : Command) (world : World) → Spells (texts_of words.now) command
@@ -143,9 +140,7 @@ struct CrewRun {
 
 /// The run with several workers that a command is, None exactly where it is none.
 fn crew_of(found: &Option<Command>) -> Option<CrewRun>
-    ensures { MatchOption result
-        ((path : List ℕ) (workers share : ℕ) → found.now ≡ Some (commands.Run path workers share) → workers ≤ 1)
-        (λ crew. (found.now ≡ Some (commands.Run crew.project crew.workers crew.share)) × (2 ≤ crew.workers)) }
+    ensures { IsCrewOf found.now result }
 {
     match *found {
         Some(

@@ -16,7 +16,7 @@ use Rattle.resume_ledger.specs.declared.layout.Version.TheVariants.{One, Two}
 use Rattle.reel_writer.specs.Reel.{frames_of, IsSoundReel}
 use Rattle.single_run.specs.Asks.{closed_frames}
 use Rattle.single_run.specs.Ends.{IsEnd}
-use Rattle.single_run.specs.Run.{WasOpened, WasRefused, HasRefused, HasWhole, IsWhole}
+use Rattle.single_run.specs.Run.{WasOpened, WasUnopened, IsWhyUnopened, HasWhole, IsWhole}
 use Rattle.frame_share.specs.declared.step.ShareStep.{ShareStep}
 use Rattle.single_run.specs.declared.run_end.Report.{Report}
 use Rattle.single_run.specs.declared.run_end.RunEnd.{RunEnd}
@@ -75,7 +75,7 @@ module _ (old : History) (faults : ℕ) (fresh : IsNewDisk (λ id. None) old fau
 
     module _ (capacity : ℕ) (report : Report) (log : List ShareStep) where
       -- and every frame is among those that were finished
-      pub acked_at_done : WasOpened job told capacity true old new Done report log ⊎ WasRefused job true old new Done report log → report.kept + report.rendered ≡ frames_of job
+      pub acked_at_done : WasOpened job told capacity true old new Done report log ⊎ WasUnopened job true old new Done report log → report.kept + report.rendered ≡ frames_of job
       acked_at_done (inl opened) =
           let shut : (k : ℕ) → get_or opened.gates k false ≡ true → ⊥ = λ k is. let acks = ((opened.opening refl k).0 is).0 in unsealed (acks.version, acks.in_force) in
           let kept : report.kept ≡ 0 = opened.kept ∙ none_open opened.gates shut in
@@ -84,7 +84,7 @@ module _ (old : History) (faults : ℕ) (fresh : IsNewDisk (λ id. None) old fau
       acked_at_done (inr refused) = absurd refused.why
 
       -- an empty disk is no other job's, and has no bad ledger
-      never_refused : (end : RunEnd) → HasRefused job true old new end → (end ≡ DiskFault → ⊥) → (end ≡ NoMemory → ⊥) → ⊥
+      never_refused : (end : RunEnd) → IsWhyUnopened job true old new end → (end ≡ DiskFault → ⊥) → (end ≡ NoMemory → ⊥) → ⊥
       never_refused Done why disk memory = why
       never_refused (OtherJob kept wanted) why disk memory = let other = why.2 refl in unsealed (other.version, other.in_force)
       never_refused (BadLedger len) why disk memory = let bad = why refl in unsealed (bad.version, bad.in_force)
@@ -94,7 +94,7 @@ module _ (old : History) (faults : ℕ) (fresh : IsNewDisk (λ id. None) old fau
       never_refused NoMemory why disk memory = memory refl
 
       -- so a run over files that are told, of which no load fails, ends otherwise for want of memory alone
-      pub ends_in_memory : (end : RunEnd) → WasOpened job told capacity true old new end report log ⊎ WasRefused job true old new end report log → IsSome told
+      pub ends_in_memory : (end : RunEnd) → WasOpened job told capacity true old new end report log ⊎ WasUnopened job true old new end report log → IsSome told
           → (end ≡ SourceFault → ⊥) → (end ≡ Done → ⊥) → (end ≡ DiskFault → ⊥) → (end ≡ NoMemory → ⊥) → ⊥
       ends_in_memory end (inl opened) tells source done disk memory = by end opened.is_end source done disk memory
         where

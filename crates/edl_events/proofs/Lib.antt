@@ -7,6 +7,7 @@ pub mod OneMore
 pub mod LabelLaws
 pub mod StateLaws
 pub mod PictureLaws
+pub mod PictureSteps
 pub mod StepLaws
 pub mod MakeLaws
 pub mod ReadLaws

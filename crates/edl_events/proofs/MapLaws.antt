@@ -1,6 +1,8 @@
 -- A map of the table with one entry set.
 use Rattle.std.proofs.Common.{◌≡◌, ℕ, Bool, true, false, ◌&&◌, cond, eqb, List, refl, ap, ◌∙◌, arith, Option}
-use Rattle.std.specs.Prelude.{Some, unwrap_or}
+use Rattle.std.specs.Prelude.{Some, None, unwrap_or}
+use Rattle.std.specs.Option.{option_eq}
+use Rattle.std.proofs.Math.Bool.{not}
 use Rattle.std.specs.Str.{bytes_eq}
 use Rattle.std.specs.BTreeMap.{BTreeMap, Updates, get}
 use Rattle.std.specs.declared.cmp.Ordering.{Ordering}
@@ -11,7 +13,7 @@ use Rattle.std.proofs.lemmas.Bool.Decides.{nat_tests}
 use Rattle.std.proofs.lemmas.Map.Text.{is_eq-slice_cmp}
 use Rattle.edl_events.specs.declared.table.ReelKey.{ReelKey}
 use Rattle.edl_events.specs.declared.table.Count.{Count}
-use Rattle.edl_events.specs.Table.{reel_cmp, seat_cmp, no_count, count_of, place_of, with_line, with_place}
+use Rattle.edl_events.specs.Table.{goes_on, reel_cmp, seat_cmp, no_count, count_of, place_of, with_line, with_place}
 
 same_number : (k n : ℕ) → is_eq (nat_cmp k n) ≡ eqb k n
 same_number k n = grind (arith, nat_tests)
@@ -44,3 +46,8 @@ same_line f g same reel q = rw (same reel, same q) refl
 
 pub same_place : (f g : List ℕ → Count) (s t : List ℕ → ℕ → Option ℕ) → ((q : List ℕ) → f q ≡ g q) → ((q : List ℕ) (nth : ℕ) → s q nth ≡ t q nth) → (place : ℕ) (reel q : List ℕ) (nth : ℕ) → with_place f s place reel q nth ≡ with_place g t place reel q nth
 same_place f g s t counts places place reel q nth = rw (counts reel, places q nth) refl
+
+-- a run ends where the number is another one
+pub ends_where : (number : Option ℕ) (n : ℕ) (other : Bool) → other ≡ not (option_eq eqb number (Some n)) → other ≡ not (goes_on number n)
+ends_where None n other is = is
+ends_where (Some k) n other is = is

@@ -3,7 +3,8 @@
 -- project's own rule.
 --     words_of_key job files key      the pixel words of a key's file, by the file's own header
 --     shot_colour job shot old new x y      what a shot shows at a pixel, before the look
---     frame_file job files i      the file of record frame i: its header, then its picture
+--     file_by job i old new      the file of record frame i: its header, then its picture
+--     frame_file job files i      the same over these files
 -- Colours are lists of codes by channel: red, green, blue.
 use Rattle.std.specs.Prelude.{◌≡◌, ℕ, ◌+◌, ◌-◌, ◌*◌, List, take, [], ◌++◌, length, map, flat_map, slice_index, Option, Some, None, IfSome, IsSomeAnd, Result, Ok, Err, if◌then◌else◌}
 use Rattle.std.specs.Option.{option_map}
@@ -141,12 +142,15 @@ out_head job i = record {
   title = job.parts.project.title;
 }
 
--- the file of frame i: its header, and then the picture
+-- the file of frame i, where its sides have these words: its header, and then the picture
+abbrev pub file_by : JobData → ℕ → (old new : Option (List ℕ)) → List ℕ
+file_by job i old new = header_of (out_head job i) ++ picture job (shot_of_frame job.parts.timeline i) old new
+
+-- the file of frame i
 unfoldable pub frame_file : JobData → Files → ℕ → List ℕ
 frame_file job files i =
     let shot = shot_of_frame job.parts.timeline i in
-    header_of (out_head job i)
-    ++ picture job shot (old_words job files shot) (new_words job files shot)
+    file_by job i (old_words job files shot) (new_words job files shot)
 
 -- how many pixels a frame has, and how many bytes its file
 abbrev pub pixel_count : JobData → ℕ

@@ -1,13 +1,12 @@
 //! The file of a frame: its header, and then its picture.
-ghost use Rattle.std.specs.Prelude.{◌≡◌, ◌+◌, ◌++◌, ◌<◌, ◌≤◌, length, take, IfSome};
+ghost use Rattle.std.specs.Prelude.{◌≡◌, ◌+◌, ◌<◌, ◌≤◌, length, take, IfSome};
 ghost use Rattle.std.specs.Option.{option_copied};
 ghost use Rattle.cf_base.specs.Timing.{frames_in_day};
 ghost use Rattle.dpx_header.specs.Writing.{IsOutHead, header_of};
 ghost use Rattle.record_timeline.specs.Accepted.{frame_count};
-ghost use Rattle.conform_job.specs.Asks.{shot_of_frame};
 ghost use Rattle.conform_job.specs.Job.{ArePlanned, need_at};
 ghost use Rattle.scan_source.specs.World.{file_at};
-ghost use Rattle.frame_render.specs.Frame.{HasKeyOf, HasWords, IsDecoded, frame_size, out_head, picture, timecode_of, words_kept};
+ghost use Rattle.frame_render.specs.Frame.{HasKeyOf, HasWords, IsDecoded, file_by, frame_size, out_head, timecode_of, words_kept};
 
 use crate::picture::{render_bands, render_parts};
 use crate::{Decoded, FrameBuf, Rendered};
@@ -102,9 +101,7 @@ fn render_file(job: &Job, i: u32, old: Option<&[u32]>, new: Option<&[u32]>, out:
     requires old { HasWords job.now (option_copied old) }
     requires new { HasWords job.now (option_copied new) }
     requires room { length out.old ≡ frame_size job.now }
-    ensures { out.new ≡ header_of (out_head job.now i)
-        ++ picture job.now (shot_of_frame job.now.parts.timeline i)
-        (option_copied old.entry) (option_copied new.entry) }
+    ensures { out.new ≡ file_by job.now i (option_copied old.entry) (option_copied new.entry) }
 {
     put_header(job, i, out);
     render_bands(job, job.shot(i), old, new, &mut out[2048..]);
@@ -124,9 +121,7 @@ fn render_file_forked<R: Threads + Sync>(
     requires old { HasWords job.now (option_copied old) }
     requires new { HasWords job.now (option_copied new) }
     requires room { length out.old ≡ frame_size job.now }
-    ensures { out.new ≡ header_of (out_head job.now i)
-        ++ picture job.now (shot_of_frame job.now.parts.timeline i)
-        (option_copied old.entry) (option_copied new.entry) }
+    ensures { out.new ≡ file_by job.now i (option_copied old.entry) (option_copied new.entry) }
 {
     put_header(job, i, out);
     render_parts(rt, job, job.shot(i), old, new, threads, &mut out[2048..]);

@@ -1,13 +1,12 @@
 //! The words of one line of a frame. What the shot is, and whether there is a look, is asked outside of the loops over
 //! pixels.
-ghost use Rattle.std.specs.Prelude.{◌≡◌, ◌<◌, ◌≤◌, length, slice_index};
+ghost use Rattle.std.specs.Prelude.{◌≡◌, ◌<◌, ◌≤◌, length};
 ghost use Rattle.std.specs.Option.{option_copied};
 ghost use Rattle.cf_base.specs.Rgb.{codes_of};
-ghost use Rattle.dpx_pack.specs.Pixels.{word_codes};
 ghost use Rattle.record_timeline.specs.Shots.{IsShotIn, Lasts};
 ghost use Rattle.conform_job.specs.Job.{ArePlanned};
-ghost use Rattle.frame_render.specs.Frame.{HasWords, black_of, line_of, line_words, seen_word, side_colour, transition_colour};
-ghost use Rattle.frame_render.specs.Lines.{HasColours};
+ghost use Rattle.frame_render.specs.Frame.{HasWords, black_of, line_of, line_words, seen_word, side_colour};
+ghost use Rattle.frame_render.specs.Lines.{HasColours, joined_colour};
 
 use band_kernels::{blend_band, copy_band, fill_band, look_band, seen_band, wipe_band};
 use cf_base::{Rgb, Transition};
@@ -99,10 +98,7 @@ fn fill_transition(
     requires new { length new.now ≡ job.now.parts.project.width }
     requires line { y < job.now.parts.project.height }
     requires room { length out.old ≡ job.now.parts.project.width }
-    ensures { out.new ≡ line_of job.now (λ x.
-        transition_colour job.now.parts.project.width job.now.parts.project.height
-        frame.transition frame.k frame.d x y
-        (word_codes (slice_index old.now x)) (word_codes (slice_index new.now x))) }
+    ensures { out.new ≡ line_of job.now (joined_colour job.now frame.transition frame.k frame.d y old.now new.now) }
 {
     let look = job.look();
     join_sides(job, frame, old, new, y, out);
@@ -117,10 +113,7 @@ fn join_sides(job: &Job, frame: TransitionFrame, old: &[u32], new: &[u32], y: u3
     requires new { length new.now ≡ job.now.parts.project.width }
     requires line { y < job.now.parts.project.height }
     requires room { length out.old ≡ job.now.parts.project.width }
-    ensures { HasColours job.now (λ x.
-        transition_colour job.now.parts.project.width job.now.parts.project.height
-        frame.transition frame.k frame.d x y
-        (word_codes (slice_index old.now x)) (word_codes (slice_index new.now x))) out.new }
+    ensures { HasColours job.now (joined_colour job.now frame.transition frame.k frame.d y old.now new.now) out.new }
 {
     let TransitionFrame { transition, k, d } = frame;
     match transition {

@@ -5,7 +5,7 @@ ghost use Rattle.byteorder.specs.Endian.{big_bytes};
 ghost use Rattle.record_timeline.specs.Shots.{IsShotIn};
 ghost use Rattle.conform_job.specs.Job.{ArePlanned};
 ghost use Rattle.frame_render.specs.Frame.{HasWords, black_of, line_words, picture, pixel_count};
-ghost use Rattle.frame_render.specs.Lines.{HasColours, lines_from, stride};
+ghost use Rattle.frame_render.specs.Lines.{HasColours, StandsAt, lines_from, stride};
 
 use crate::line::fill_line;
 use conform_job::Job;
@@ -114,10 +114,8 @@ fn render_part(
     requires start { start % (lines * stride job.now) ≡ 0 }
     requires length { length out.old ≡ min (lines * stride job.now) (4 * pixel_count job.now - start) }
     requires within { start + length out.old ≤ 4 * pixel_count job.now }
-    ensures { EachIndex out.new (λ k.
-        slice_index out.new k
-        ≡ slice_index (picture job.now shot (option_copied old.entry) (option_copied new.entry))
-        (start + k)) }
+    ensures { StandsAt start out.new
+        (picture job.now shot (option_copied old.entry) (option_copied new.entry)) }
 {
     let stride = 4 * job.width() as usize;
     let (first, count) = (start / stride, out.len() / stride);

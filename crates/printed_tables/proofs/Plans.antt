@@ -1,7 +1,8 @@
 -- The plan of a job from its pieces.
-use Rattle.std.proofs.Common.{◌≡◌, ℕ, ◌+◌, List, [], ◌∷◌, ◌++◌, codes, refl, sym, ap, ◌∙◌}
-use Rattle.std.specs.Prelude.{decimal}
+use Rattle.std.proofs.Common.{◌≡◌, ℕ, ◌+◌, true, false, eqb, List, [], ◌∷◌, ◌++◌, length, codes, refl, sym, ap, ◌∙◌, arith}
+use Rattle.std.specs.Prelude.{decimal, nat_lt, ◌&&◌}
 use Rattle.std.specs.List.{flat_map, range_with_len}
+use Rattle.std.proofs.lemmas.Bool.Decides.{nat_tests}
 use Rattle.std.proofs.lemmas.List.{append_assoc}
 use Rattle.std.proofs.Common.{append-nil}
 use Rattle.std.proofs.lemmas.List.Concat.{flat_map-append}
@@ -9,12 +10,14 @@ use Rattle.cf_base.proofs.RangeLaws.{range_more}
 use Rattle.cf_base.specs.declared.event.EventRec.{EventRec}
 use Rattle.cf_base.specs.declared.timing.Mode.{Mode}
 use Rattle.cf_base.specs.declared.timing.Rate.{Rate}
+use Rattle.cf_base.specs.declared.lines.Span.{Span}
 use Rattle.conform_job.specs.Asks.{shot_of_frame}
+use Rattle.conform_job.specs.Cuts.{record_reel, reel_span}
 use Rattle.conform_job.specs.declared.parts.JobParts.{JobParts}
 use Rattle.record_timeline.specs.Accepted.{RecordReel, first_frame, frame_count}
 use Rattle.record_timeline.specs.declared.Shot.{Shot}
 use Rattle.printed_text.specs.Text.{spaced}
-use Rattle.printed_tables.specs.Plan.{plan_of, plan_line, frame_line, reel_line, shot_text}
+use Rattle.printed_tables.specs.Plan.{begins_reel, plan_of, plan_line, frame_line, reel_line, shot_text}
 use Rattle.printed_tables.specs.Table.{label_word}
 
 -- the pieces of a transition, and of a frame's line
@@ -47,3 +50,13 @@ pub plan_joined : (p : JobParts) (text : List ℕ) (count : ℕ) → count ≡ f
     → text ++ codes "frames " ++ decimal count ++ 10 ∷ [] ≡ plan_of p
 unfolding plan_of
 plan_joined p text count is lines = rw (lines, is) (simp append_assoc refl)
+
+-- where the record is cut, a frame is the first of its reel where that reel's span begins
+some_cuts : (n : ℕ) → eqb n 0 ≡ false → nat_lt 0 n ≡ true
+some_cuts n cut = grind (arith, nat_tests)
+
+pub first_of_reel : (p : JobParts) (reel i : ℕ) (span : Span) → reel ≡ record_reel p i → span ≡ reel_span p reel → eqb (length p.project.cuts) 0 ≡ false
+    → eqb i span.start ≡ begins_reel p i
+first_of_reel p reel i span own is cut =
+    ap (λ (s : Span). eqb i s.start) (is ∙ ap (reel_span p) own)
+    ∙ sym (ap (λ b. b && eqb i (reel_span p (record_reel p i)).start) (some_cuts (length p.project.cuts) cut))

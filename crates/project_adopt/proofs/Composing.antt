@@ -17,7 +17,7 @@ use Rattle.reel_writer.specs.Reel.{HasFrameFiles, IsReelRun, IsSoundReel}
 use Rattle.reel_writer.specs.Changes.{HasKept, IsOwnFile, MayWrite}
 use Rattle.reel_writer.proofs.ReelLaws.{reel_run_along}
 use Rattle.reel_writer.proofs.Writing.{writes_wider}
-use Rattle.reconform.specs.Adopt.{IsOfOld, WasAdopted, WasRefused}
+use Rattle.reconform.specs.Adopt.{IsOfOld, WasAdopted, IsWhyUnadopted}
 use Rattle.reconform.specs.declared.adopting.Adopted.{Adopted}
 use Rattle.reconform.specs.declared.adopting.AdoptFault.{AdoptFault}
 use Rattle.reconform.specs.declared.adopting.AdoptFault.TheVariants as faults
@@ -127,9 +127,9 @@ kept_on job old_job tells old_files before after done adopted told two k kept =
 
 -- the rest of the same job
 pub rest_of : {job other : JobData} {told : Option World} {done : Adopted} {disk disk_after : DiskState} {loads loads_after : ℕ} {reached : Outcome} {output : List ℕ} → other ≡ job
-    → IsRest other told done disk disk_after loads loads_after reached output → IsRest job told done disk disk_after loads loads_after reached output
+    → IsRest other done told loads loads_after disk disk_after reached output → IsRest job done told loads loads_after disk disk_after reached output
 rest_of {told = told} {done = done} {disk = disk} {disk_after = disk_after} {loads = loads} {loads_after = loads_after} {reached = reached} {output = output} same rest =
-    subst (λ (j : JobData). IsRest j told done disk disk_after loads loads_after reached output) same rest
+    subst (λ (j : JobData). IsRest j done told loads loads_after disk disk_after reached output) same rest
 
 -- what a disk is at a moment
 abbrev at : Bool → History → ℕ → DiskState
@@ -139,7 +139,7 @@ module _ (job old_job : JobData) (lent told : Option World) (tells_lent : Tells 
     (spares : tells ≡ true → Spares before between (IsOwnFile job (view_of before))) (writes : tells ≡ true → WritesOnly before between (MayWrite job (view_of before))) where
   -- both folders were opened
   module _ (done : Adopted) (adopted : WasAdopted job old_job tells (view_of h) (view_of before) (view_of between) done) (two : tells ≡ true → IsInForce Two (view_of between))
-      (loads loads_after : ℕ) (reached : Outcome) (output : List ℕ) (rest : IsRest job told done (at tells between f_between) (at tells after f_after_all) loads loads_after reached output) where
+      (loads loads_after : ℕ) (reached : Outcome) (output : List ℕ) (rest : IsRest job done told loads loads_after (at tells between f_between) (at tells after f_after_all) reached output) where
     both_acked : reached ≡ outcome.Done → tells ≡ true → AreAllAcked job (moment_of after)
     both_acked is t = rest.run.keeps.acked (done_ends job.parts.reels rest.run.how reached rest.run.reply.reached_is is) t
 
@@ -149,7 +149,7 @@ module _ (job old_job : JobData) (lent told : Option World) (tells_lent : Tells 
     kept_still : tells ≡ true → (k : ℕ) → HasKept job k (view_of before) → HasKept job k (view_of between)
     kept_still t = kept_on job old_job tells (view_of h) (view_of before) (view_of between) done adopted t (two t)
 
-    pub went_on : IsAdoption job old_job told (at tells h f) (at tells h_after f_after) (at tells before f_before) (at tells after f_after_all) loads loads_after reached output
+    pub went_on : IsAdoption job old_job told loads loads_after (at tells h f) (at tells h_after f_after) (at tells before f_before) (at tells after f_after_all) reached output
     went_on = record {
       adopted = Ok done;
       between = at tells between f_between;
@@ -172,9 +172,9 @@ module _ (job old_job : JobData) (lent told : Option World) (tells_lent : Tells 
     }
 
   -- the adoption didn't come to its end
-  module _ (why : AdoptFault) (refused : WasRefused job old_job tells h h_after before between why) (untouched : IsOfOld why → at tells between f_between ≡ at tells before f_before)
+  module _ (why : AdoptFault) (refused : IsWhyUnadopted job old_job tells h h_after before between why) (untouched : IsOfOld why → at tells between f_between ≡ at tells before f_before)
       (loads : ℕ) (reached : Outcome) (output : List ℕ) (is : reached ≡ outcome_of_fault why) where
-    pub went_no_further : IsAdoption job old_job told (at tells h f) (at tells h_after f_after) (at tells before f_before) (at tells between f_between) loads loads reached output
+    pub went_no_further : IsAdoption job old_job told loads loads (at tells h f) (at tells h_after f_after) (at tells before f_before) (at tells between f_between) reached output
     went_no_further = record {
       adopted = Err why;
       between = at tells between f_between;

@@ -24,11 +24,11 @@ no_fault fault.NoMemory refused = refused
 
 -- where frames were taken over no project was refused
 pub adoption_unrefused : (job old_job : JobData) (told : Option World) (old old_after disk disk_after : DiskState) (loads loads_after : ℕ) (reached : Outcome) (output : List ℕ)
-    → IsAdoption job old_job told old old_after disk disk_after loads loads_after reached output → IsRefusal reached → ⊥
+    → IsAdoption job old_job told loads loads_after old old_after disk disk_after reached output → IsRefusal reached → ⊥
 adoption_unrefused job old_job told old old_after disk disk_after loads loads_after reached output went = by went.adopted went.went
   where
     by : (adopted : Result Adopted AdoptFault)
-        → MatchResult adopted (λ done. IsRest job told done went.between disk_after loads loads_after reached output) (λ why. IsUnadopted why went.between disk_after loads loads_after reached)
+        → MatchResult adopted (λ done. IsRest job done told loads loads_after went.between disk_after reached output) (λ why. IsUnadopted why went.between disk_after loads loads_after reached)
         → IsRefusal reached → ⊥
     by (Ok done) rest refused = run_unrefused job told went.between disk_after loads loads_after reached rest.run_output rest.run refused
     by (Err why) unadopted refused = no_fault why (subst IsRefusal unadopted.reached_is refused)
@@ -51,7 +51,7 @@ old_refused outcome.DiskFault refusal kind is = kind
 old_refused (outcome.SinkFault instead) refusal kind is = kind
 
 onward_unrefused : (job : JobData) (told : Option World) (old_path : List ℕ) (old old_after disk disk_after : DiskState) (loads loads_after : ℕ) (reached : Outcome) (output : List ℕ) (refusal : Refused)
-    → GoesOn job told old_path old old_after disk disk_after loads loads_after reached output → reached ≡ outcome.Refused refusal → ⊥
+    → GoesOn job old_path told loads loads_after old old_after disk disk_after reached output → reached ≡ outcome.Refused refusal → ⊥
 onward_unrefused job told old_path old old_after disk disk_after loads loads_after reached output refusal (inl has) is =
     adoption_unrefused job has.old_job told old old_after disk disk_after has.planned loads_after reached output has.went (subst IsRefusal (sym is) tt)
 onward_unrefused job told old_path old old_after disk disk_after loads loads_after reached output refusal (inr none) is =
@@ -59,7 +59,7 @@ onward_unrefused job told old_path old old_after disk disk_after loads loads_aft
 
 pub asked_onward : {A : Type 0} (r : Result A Outcome) (P : A → Type 0) (job : JobData) (told here : Option World) (path old_path : List ℕ) (old old_after disk disk_after : DiskState)
     (loads loads_after before after : ℕ) (output : Outcome → List ℕ)
-    → MatchResult r P (λ reached. GoesOn job here old_path old old_after disk disk_after loads loads_after reached (output reached)) → IfErr r (HasInspectedFor told path before after)
+    → MatchResult r P (λ reached. GoesOn job old_path here loads loads_after old old_after disk disk_after reached (output reached)) → IfErr r (HasInspectedFor told path before after)
 asked_onward (Ok a) P job told here path old_path old old_after disk disk_after loads loads_after before after output went = tt
 asked_onward (Err reached) P job told here path old_path old old_after disk disk_after loads loads_after before after output went =
     λ refusal is. absurd (onward_unrefused job here old_path old old_after disk disk_after loads loads_after reached (output reached) refusal went is)

@@ -72,10 +72,10 @@ abbrev pub share_count : ℕ
 share_count = 8
 
 -- The rest was run in the folder as `run` does, and its report put with the number of frames that were taken over.
-pub record IsRest (job : JobData) (told : Option World) (done : Adopted) (disk disk_after : DiskState) (loads loads_after : ℕ) (reached : Outcome) (output : List ℕ) : Type 0 where
+pub record IsRest (job : JobData) (done : Adopted) (told : Option World) (loads loads_after : ℕ) (disk disk_after : DiskState) (reached : Outcome) (output : List ℕ) : Type 0 where
   -- what `run` would have put
   pub run_output : List ℕ
-  pub run : IsJobRun job told share_count disk disk_after loads loads_after reached run_output
+  pub run : IsJobRun job share_count told loads loads_after disk disk_after reached run_output
   pub form : reached ≡ outcome.Done → output ≡ adopt_text done run.report
 
 -- The adoption didn't come to its end, and nothing was loaded or written after it.
@@ -109,14 +109,14 @@ pub record IsPromised (job : JobData) (told : Option World) (disk disk_after : D
   pub whole : reached ≡ outcome.Done → HasWhole job told disk.history disk_after.history
 
 -- Frames of the old folder were taken over into the new one, as far as they have an intact donor, and the rest was run.
-pub record IsAdoption (job old_job : JobData) (told : Option World) (old old_after disk disk_after : DiskState) (loads loads_after : ℕ) (reached : Outcome) (output : List ℕ) : Type 0 where
+pub record IsAdoption (job old_job : JobData) (told : Option World) (loads loads_after : ℕ) (old old_after disk disk_after : DiskState) (reached : Outcome) (output : List ℕ) : Type 0 where
   -- what the adoption came to, and the new folder behind it
   pub adopted : Result Adopted AdoptFault
   pub between : DiskState
   pub tells : between.tells ≡ disk.tells
   pub answer : HasAnswered job old_job disk.tells old.history old_after.history disk.history between.history adopted
   pub went : MatchResult adopted
-      (λ done. IsRest job told done between disk_after loads loads_after reached output)
+      (λ done. IsRest job done told loads loads_after between disk_after reached output)
       (λ why. IsUnadopted why between disk_after loads loads_after reached)
   -- at its end the new folder is of version 2, so the run keeps all that it acknowledges
   pub sealed : MatchResult adopted (λ done. disk.tells ≡ true → IsInForce Two (view_of between.history)) (λ why. Unit {0})
@@ -142,7 +142,7 @@ pub record HasAdopted (job : JobData) (told : Option World) (old_path : List ℕ
   -- the loads when it was planned
   pub planned : ℕ
   pub came : CameTo told old_path old_job loads planned
-  pub went : IsAdoption job old_job told old old_after disk disk_after planned loads_after reached output
+  pub went : IsAdoption job old_job told planned loads_after old old_after disk disk_after reached output
   -- the crash promise; where the old folder may hold anything, nothing is said of the source files
   pub promise : disk.tells ≡ true → IsPromised job None disk disk_after reached
   pub sound : disk.tells ≡ true → IsOldSoundIn told old_job (view_of old.history) → IsPromised job told disk disk_after reached
@@ -156,8 +156,8 @@ pub record HasNoOldJob (told : Option World) (old_path : List ℕ) (old old_afte
   pub untouched : old_after ≡ old
 
 -- what the command comes to once its project came to this job
-abbrev pub GoesOn : JobData → Option World → (old_path : List ℕ) → (old old_after disk disk_after : DiskState) → (loads loads_after : ℕ) → Outcome → List ℕ → Type 0
-GoesOn job told old_path old old_after disk disk_after loads loads_after reached output =
+abbrev pub GoesOn : JobData → (old_path : List ℕ) → Option World → (loads loads_after : ℕ) → (old old_after disk disk_after : DiskState) → Outcome → List ℕ → Type 0
+GoesOn job old_path told loads loads_after old old_after disk disk_after reached output =
     HasAdopted job told old_path old old_after disk disk_after loads loads_after reached output
     ⊎ HasNoOldJob told old_path old old_after disk disk_after loads loads_after reached
 
@@ -167,15 +167,15 @@ pub record HasJob (told : Option World) (path old_path : List ℕ) (old old_afte
   -- the loads when it was planned
   pub planned : ℕ
   pub came : CameTo told path job loads planned
-  pub went : GoesOn job told old_path old old_after disk disk_after planned loads_after reached output
+  pub went : GoesOn job old_path told planned loads_after old old_after disk disk_after reached output
 
 -- The project came to no job. Both folders are as they were, and the old project was not looked at.
 pub record HasNoJob (told : Option World) (path : List ℕ) (old old_after disk disk_after : DiskState) (loads loads_after : ℕ) (reached : Outcome) : Type 0 where
   pub unplanned : IsUnplanned told path disk disk_after loads loads_after reached
   pub untouched : old_after ≡ old
 
-abbrev pub IsAdoptReply : Option World → (path old_path : List ℕ) → (old old_after disk disk_after : DiskState) → (loads loads_after : ℕ) → Outcome → List ℕ → Type 0
-IsAdoptReply told path old_path old old_after disk disk_after loads loads_after reached output =
+abbrev pub IsAdoptReply : (path old_path : List ℕ) → Option World → (loads loads_after : ℕ) → (old old_after disk disk_after : DiskState) → Outcome → List ℕ → Type 0
+IsAdoptReply path old_path told loads loads_after old old_after disk disk_after reached output =
     HasJob told path old_path old old_after disk disk_after loads loads_after reached output
     ⊎ HasNoJob told path old old_after disk disk_after loads loads_after reached
 

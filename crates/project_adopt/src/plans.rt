@@ -2,8 +2,8 @@
 ghost use Rattle.std.specs.Prelude.{◌≡◌, Err, IfErr, MatchResult};
 ghost use Rattle.conform_job.specs.Answers.{AreInfosOf};
 ghost use Rattle.project_job.specs.Asked.{HasInspectedFor};
-ghost use Rattle.project_job.specs.Leaves.{LeavesScan};
-ghost use Rattle.project_run.specs.Calls.{IsLeftAlone, Replies};
+ghost use Rattle.scan_source.specs.Leaves.{LeavesScan};
+ghost use Rattle.project_run.specs.Calls.{IsLeftAlone, Replies, OverScan};
 ghost use Rattle.project_adopt.specs.Adopt.{GoesOn, IsAdoptReply, IsJobOver, IsOfAdopt, LeavesDisks, OnDisks};
 
 use crate::reels::adopt_jobs;
@@ -34,8 +34,7 @@ pub fn adopt<S: Scans, D: Disk>(
     old: &mut D,
 ) -> Result<Vec<u8>, Outcome>
     ensures folders { Replies result (OnDisks D.tells D.history D.faults old.old old.new disk.old disk.new
-        (λ old_was old_is was is.
-        IsAdoptReply (S.world scan.old) path.now old_path.now old_was old_is was is (S.loads scan.old) (S.loads scan.new))) }
+        (OverScan S.world S.loads scan.old scan.new (IsAdoptReply path.now old_path.now))) }
     ensures kind { MatchResult result (λ text. Unit {0}) IsOfAdopt }
 
     ensures scan { LeavesScan S.world S.faults S.same (result ≡ Err Outcome.SourceFault) scan.old scan.new }
@@ -67,8 +66,7 @@ fn adopt_onto<S: Scans, D: Disk>(
     requires infos { AreInfosOf job.now.parts (S.world scan.old) job.now.infos }
     requires over { IsJobOver (S.world scan.old) job.now }
     ensures folders { Replies result (OnDisks D.tells D.history D.faults old.old old.new disk.old disk.new
-        (λ old_was old_is was is.
-        GoesOn job.now (S.world scan.old) old_path.now old_was old_is was is (S.loads scan.old) (S.loads scan.new))) }
+        (OverScan S.world S.loads scan.old scan.new (GoesOn job.now old_path.now))) }
     ensures kind { MatchResult result (λ text. Unit {0}) IsOfAdopt }
 
     ensures scan { LeavesScan S.world S.faults S.same (result ≡ Err Outcome.SourceFault) scan.old scan.new }

@@ -2,8 +2,8 @@
 ghost use Rattle.std.specs.Prelude.{◌≡◌, true, None, Err, IfSome, MatchResult};
 ghost use Rattle.conform_job.specs.Answers.{AreInfosOf};
 ghost use Rattle.conform_job.specs.Names.{Tells};
-ghost use Rattle.project_job.specs.Leaves.{LeavesScan};
-ghost use Rattle.project_run.specs.Calls.{LeavesDisk, OnDisk, Replies};
+ghost use Rattle.scan_source.specs.Leaves.{LeavesScan};
+ghost use Rattle.project_run.specs.Calls.{LeavesDisk, OnDisk, Replies, OverScan};
 ghost use Rattle.project_run.specs.Run.{IsOfRun};
 ghost use Rattle.reconform.specs.Adopt.{CanServe};
 ghost use Rattle.reel_disk.specs.Disk.{view_of};
@@ -38,8 +38,7 @@ pub(crate) fn adopt_jobs<S: Scans, D: Disk>(
     requires over { IsJobOver (S.world scan.old) job.now }
     requires old_over { IsJobOver (S.world scan.old) old_job.now }
     ensures went { Replies result (OnDisks D.tells D.history D.faults old.old old.new disk.old disk.new
-        (λ old_was old_is was is.
-        IsAdoption job.now old_job.now (S.world scan.old) old_was old_is was is (S.loads scan.old) (S.loads scan.new))) }
+        (OverScan S.world S.loads scan.old scan.new (IsAdoption job.now old_job.now))) }
     ensures promise { D.tells ≡ true → Ends result (OnDisk D.tells D.history D.faults disk.old disk.new
         (IsPromised job.now None)) }
     ensures sound { D.tells ≡ true → IsOldSoundIn (S.world scan.old) old_job.now (view_of (D.history old.old))
@@ -69,8 +68,7 @@ fn adopt_and_run<N: Work, O: Work, S: Scans, D: Disk>(
     requires infos { AreInfosOf N.job.parts (S.world scan.old) N.job.infos }
     requires can_serve { IfSome N.files (λ world. CanServe N.job O.job world D.tells (view_of (D.history old.old))) }
     ensures went { Replies result (OnDisks D.tells D.history D.faults old.old old.new disk.old disk.new
-        (λ old_was old_is was is.
-        IsAdoption N.job O.job (S.world scan.old) old_was old_is was is (S.loads scan.old) (S.loads scan.new))) }
+        (OverScan S.world S.loads scan.old scan.new (IsAdoption N.job O.job))) }
     ensures promise { D.tells ≡ true → Ends result (OnDisk D.tells D.history D.faults disk.old disk.new
         (IsPromised N.job N.files)) }
     ensures kind { MatchResult result (λ text. Unit {0}) IsOfAdopt }
@@ -95,7 +93,7 @@ fn run_rest<S: Scans, D: Disk>(
 ) -> Result<Vec<u8>, Outcome>
     requires infos { AreInfosOf job.now.parts (S.world scan.old) job.now.infos }
     ensures ran { Replies result (OnDisk D.tells D.history D.faults disk.old disk.new
-        (λ was is. IsRest job.now (S.world scan.old) done was is (S.loads scan.old) (S.loads scan.new))) }
+        (OverScan S.world S.loads scan.old scan.new (IsRest job.now done))) }
     ensures kind { MatchResult result (λ text. Unit {0}) IsOfRun }
 
     ensures scan { LeavesScan S.world S.faults S.same (result ≡ Err Outcome.SourceFault) scan.old scan.new }

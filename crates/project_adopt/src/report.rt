@@ -1,8 +1,8 @@
 //! What an adoption and the run behind it come to: a report, or an outcome.
 ghost use Rattle.std.specs.Prelude.{◌≡◌, ◌↔◌, Err, IfOk, MatchResult};
-ghost use Rattle.outcome_line.specs.Output.{line_of};
 ghost use Rattle.project_run.specs.Run.{IsKnown, IsOfRun};
 ghost use Rattle.project_adopt.specs.Adopt.{ReportsAdoption, adopt_text, of_old_project, outcome_of_fault};
+ghost use Rattle.project_run.specs.Calls.{Replies};
 
 use conform_job::Job;
 use outcome_line::Outcome;
@@ -44,9 +44,7 @@ pub(crate) fn reply_of(
     report: &Report,
 ) -> Result<Vec<u8>, Outcome>
     requires { IsKnown job.now end }
-    ensures reply { MatchResult result
-        (λ text. ReportsAdoption job.now done end report.now Outcome.Done text.items)
-        (λ outcome. ReportsAdoption job.now done end report.now outcome (line_of outcome)) }
+    ensures reply { Replies result (ReportsAdoption job.now done end report.now) }
     ensures kind { MatchResult result (λ text. Unit {0}) IsOfRun }
     ensures source { (result ≡ Err Outcome.SourceFault) ↔ (end ≡ RunEnd.SourceFault) }
     ensures disk { (result ≡ Err Outcome.DiskFault) ↔ (end ≡ RunEnd.DiskFault) }

@@ -11,7 +11,7 @@ use Rattle.resume_ledger.specs.Sound.{WritesOnly}
 use Rattle.reel_writer.specs.Changes.{IsOwnFile, MayWrite}
 use Rattle.reel_writer.specs.Reel.{frames_of, HasFrameFiles, IsReelRun, IsSoundReel}
 use Rattle.render_board.specs.declared.step.Step.{Step}
-use Rattle.station.specs.Crews.{AreWorked, IsUnstepped, WasCrewed}
+use Rattle.station.specs.Crews.{AreWorked, TookNoSteps, TookSteps}
 use Rattle.single_run.specs.Ends.{IsChange}
 use Rattle.single_run.specs.Run.{AreAllAcked, HasWhole}
 use Rattle.single_run.specs.declared.run_end.Report.{Report}
@@ -41,7 +41,7 @@ module _ {S : Type 0} (world : S → Option World) (faults loads : S → ℕ) (s
 
   pub crew_job_run : (log : List ShareStep) (job : JobData) (told : Option World) (workers count : ℕ) (old new : List S) (disk disk_after : DiskState) (how : RunEnd) (report : Report) (steps : Option (List Step)) → count ≡ length old
       → report.frames ≡ frames_of job
-      → MatchOption steps (IsUnstepped job disk.tells disk.history disk_after.history how report log) (λ all. WasCrewed job told (min workers count) disk.tells disk.history disk_after.history all how report log)
+      → MatchOption steps (TookNoSteps job disk.tells disk.history disk_after.history how report log) (λ all. TookSteps job told (min workers count) disk.tells disk.history disk_after.history all how report log)
       → (disk.tells ≡ true → IsReelRun job told disk.history disk_after.history)
       → (how ≡ ends.Done → disk.tells ≡ true → AreAllAcked job (moment_of disk_after.history))
       → (how ≡ ends.Done → disk.tells ≡ true → HasWhole job told disk.history disk_after.history)
@@ -59,7 +59,7 @@ module _ {S : Type 0} (world : S → Option World) (faults loads : S → ℕ) (s
     frames = frames;
     steps = steps;
     log = log;
-    ran = subst (λ n. MatchOption steps (IsUnstepped job disk.tells disk.history disk_after.history how report log) (λ all. WasCrewed job told (min workers n) disk.tells disk.history disk_after.history all how report log)) all ran;
+    ran = subst (λ n. MatchOption steps (TookNoSteps job disk.tells disk.history disk_after.history how report log) (λ all. TookSteps job told (min workers n) disk.tells disk.history disk_after.history all how report log)) all ran;
     keeps = record { run = run; acked = acked; whole = whole; sound_has = sound_has; spares = spares; writes = writes };
     scans = subst (λ n. AreWorked world faults loads same (min workers n) report.loads (how ≡ ends.SourceFault) old new) all scans;
     changed = changed;

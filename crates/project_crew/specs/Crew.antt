@@ -11,7 +11,7 @@ use Rattle.reel_writer.specs.Reel.{frames_of}
 use Rattle.conform_job.specs.Answers.{count_after}
 use Rattle.conform_job.specs.Job.{JobData}
 use Rattle.render_board.specs.declared.step.Step.{Step}
-use Rattle.station.specs.Crews.{AreWorked, IsUnstepped, WasCrewed}
+use Rattle.station.specs.Crews.{AreWorked, TookNoSteps, TookSteps}
 use Rattle.single_run.specs.Ends.{IsChange}
 use Rattle.single_run.specs.declared.run_end.Report.{Report}
 use Rattle.single_run.specs.declared.run_end.RunEnd.{RunEnd}
@@ -52,8 +52,8 @@ module _ {S : Type 0} (world : S → Option World) (faults loads : S → ℕ) (s
     pub steps : Option (List Step)
     pub log : List ShareStep
     -- there are as many workers as were asked for, at most one a scan
-    pub ran : MatchOption steps (IsUnstepped job disk.tells disk.history disk_after.history how report log)
-        (λ all. WasCrewed job told (min workers (length old)) disk.tells disk.history disk_after.history all how report log)
+    pub ran : MatchOption steps (TookNoSteps job disk.tells disk.history disk_after.history how report log)
+        (λ all. TookSteps job told (min workers (length old)) disk.tells disk.history disk_after.history all how report log)
     pub keeps : IsSafeRun job told how disk disk_after
     -- what was done with the scans: as many loads as were reported
     pub scans : AreWorked world faults loads same (min workers (length old)) report.loads (how ≡ ends.SourceFault) old new

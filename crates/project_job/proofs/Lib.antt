@@ -1,5 +1,4 @@
 mod Counted
 pub mod Laws
-pub mod Leaving
 pub mod Loading
 pub mod Projects

@@ -1,5 +1,4 @@
 pub mod Asked
 pub mod Jobs
 pub mod Laws
-pub mod Leaves
 pub mod Load

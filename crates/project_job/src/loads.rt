@@ -2,7 +2,7 @@
 ghost use Rattle.std.specs.Prelude.{◌≡◌, min, length, Err, IfSome, IfOk, IfErr};
 ghost use Rattle.scan_source.specs.Plan.{one_more};
 ghost use Rattle.scan_source.specs.World.{file_at};
-ghost use Rattle.project_job.specs.Leaves.{LeavesScan};
+ghost use Rattle.scan_source.specs.Leaves.{LeavesScan};
 ghost use Rattle.project_job.specs.Load.{IsLoadOf, IsOfLoad};
 
 use cf_base::PathText;

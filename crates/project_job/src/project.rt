@@ -11,7 +11,7 @@ ghost use Rattle.conform_job.specs.Infos.{HasEachOnce};
 ghost use Rattle.conform_job.specs.Job.{ArePlanned};
 ghost use Rattle.project_job.specs.Asked.{ComesBehind, HasInspectedFor, HasLoadedBehind, HasLoadedFor, IsOfTexts};
 ghost use Rattle.project_job.specs.Jobs.{list_in, cube_in, look_in, look_of_text, parts_of, itself, list_and_text, look_and_text, outcome_of_fault, Reaches, HasPlanned, MeansFile, unless_refused, IsOfJob, cube_count, AreCounted, AreLoaded};
-ghost use Rattle.project_job.specs.Leaves.{LeavesScan};
+ghost use Rattle.scan_source.specs.Leaves.{LeavesScan};
 ghost use Rattle.outcome_line.specs.declared.outcome.Refused.TheVariants as refused;
 
 use crate::loads::load;

@@ -75,7 +75,7 @@ pub end_unrefused : (entries : List ReelEntry) (how : RunEnd) (reached : Outcome
 end_unrefused entries how reached is = neither reached (outcome_of_end entries how) outcomes.NoMemory (no_end entries how) (λ no. no) is
 
 pub run_unrefused : {share : ℕ} (job : JobData) (told : Option World) (disk disk_after : DiskState) (loads loads_after : ℕ) (reached : Outcome) (output : List ℕ)
-    → IsJobRun job told share disk disk_after loads loads_after reached output → IsRefusal reached → ⊥
+    → IsJobRun job share told loads loads_after disk disk_after reached output → IsRefusal reached → ⊥
 run_unrefused job told disk disk_after loads loads_after reached output ran = end_unrefused job.parts.reels ran.how reached ran.reply.reached_is
 
 pub status_unrefused : (job : JobData) (disk disk_after : DiskState) (reached : Outcome) (output : List ℕ) → IsStatus job disk disk_after reached output → IsRefusal reached → ⊥

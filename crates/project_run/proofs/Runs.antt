@@ -8,7 +8,7 @@ use Rattle.conform_job.specs.Job.{JobData}
 use Rattle.conform_job.specs.Names.{Tells}
 use Rattle.reel_disk.specs.Disk.{History}
 use Rattle.single_run.specs.Ends.{IsEnd}
-use Rattle.single_run.specs.Run.{WasOpened, WasRefused, HasRefused}
+use Rattle.single_run.specs.Run.{WasOpened, WasUnopened, IsWhyUnopened}
 use Rattle.single_run.specs.declared.run_end.Report.{Report}
 use Rattle.single_run.specs.declared.run_end.RunEnd.{RunEnd}
 use Rattle.single_run.specs.declared.run_end.RunEnd.TheVariants as ends
@@ -40,7 +40,7 @@ opened_end job told ends.SourceFault is = tt
 opened_end job told ends.DiskFault is = tt
 opened_end job told ends.NoMemory is = tt
 
-refused_end : (job : JobData) (tells : Bool) (old new : History) (how : RunEnd) → HasRefused job tells old new how → IsKnown job how
+refused_end : (job : JobData) (tells : Bool) (old new : History) (how : RunEnd) → IsWhyUnopened job tells old new how → IsKnown job how
 refused_end job tells old new ends.Done is = tt
 refused_end job tells old new (ends.OtherJob kept wanted) is = tt
 refused_end job tells old new (ends.BadLedger len) is = tt
@@ -50,7 +50,7 @@ refused_end job tells old new ends.DiskFault is = tt
 refused_end job tells old new ends.NoMemory is = tt
 
 pub is_known : {capacity : ℕ} {log : List ShareStep} (job : JobData) (told : Option World) (tells : Bool) (old new : History) (how : RunEnd) (report : Report)
-    → WasOpened job told capacity tells old new how report log ⊎ WasRefused job tells old new how report log → IsKnown job how
+    → WasOpened job told capacity tells old new how report log ⊎ WasUnopened job tells old new how report log → IsKnown job how
 is_known job told tells old new how report (inl opened) = opened_end job told how opened.is_end
 is_known job told tells old new how report (inr refused) = refused_end job tells old new how refused.why
 
@@ -98,13 +98,13 @@ job_verifies outcome kind = look_verifies outcome (job_looks outcome kind)
 
 pub run_in : {share : ℕ} (job : JobData) (here told : Option World) (path : List ℕ) (disk disk_after : DiskState) (loads between loads_after : ℕ) (reached : Outcome) (output : List ℕ) → here ≡ told
     → IfSome told (λ world. HasPlanned (file_at world) path (Ok job)) → between ≡ count_after (2 + cube_count job.parts.project.cube) loads
-    → IsJobRun job here share disk disk_after between loads_after reached output → IsRunReply told path share disk disk_after loads loads_after reached output
+    → IsJobRun job share here between loads_after disk disk_after reached output → IsRunReply path share told loads loads_after disk disk_after reached output
 run_in {share = share} job here told path disk disk_after loads between loads_after reached output same comes texts ran = inl (record {
   job = job;
   comes = comes;
   planned = between;
   texts = texts;
-  ran = subst (λ told. IsJobRun job told share disk disk_after between loads_after reached output) same ran;
+  ran = subst (λ told. IsJobRun job share told between loads_after disk disk_after reached output) same ran;
 })
 
 pub looked_in : (Looked : JobData → Type 0) (job : JobData) (told : Option World) (path : List ℕ) (disk disk_after : DiskState) (loads loads_after : ℕ) (reached : Outcome)

@@ -2,14 +2,15 @@
 -- own rule.
 --     Replies result IsReply      what it came to is such a reply
 --     DiskState, disk_state      what a disk tells at a moment, and its count of faults
---     OnDisk      what it made of a disk
+--     OnDisk, OverScan      what it made of a disk, and over which scan
 --     LeavesDisk      what it leaves of a disk, whatever it comes to, as `LeavesScan` says it of a scan
 --     IsLeftAlone before after reached      where a project is refused, it left this alone
-use Rattle.std.specs.Prelude.{◌≡◌, ℕ, Bool, List, Result, MatchResult, Vec}
+use Rattle.std.specs.Prelude.{◌≡◌, ℕ, Bool, List, Option, Result, MatchResult, Vec}
 use Rattle.std.specs.declared.alloc.Global.{Global}
 use Rattle.reel_disk.specs.Disk.{History}
 use Rattle.reel_disk.specs.Loan.{Loan}
-use Rattle.project_job.specs.Leaves.{CountsFaults}
+use Rattle.scan_source.specs.Leaves.{CountsFaults}
+use Rattle.scan_source.specs.World.{World}
 use Rattle.outcome_line.specs.Output.{line_of}
 use Rattle.outcome_line.specs.declared.outcome.Outcome.{Outcome}
 use Rattle.outcome_line.specs.declared.outcome.Outcome.TheVariants as outcome
@@ -30,6 +31,10 @@ disk_state tells history faults disk = record { tells = tells; history = history
 -- what it made of a disk, by its meanings: this is so of the disk before the call and of the disk after it
 abbrev pub OnDisk : {D : Type 0} {A : Type 1} → Bool → (D → History) → (D → ℕ) → (before after : D) → (DiskState → DiskState → A) → A
 OnDisk tells history faults before after Made = Made (disk_state tells history faults before) (disk_state tells history faults after)
+
+-- what it made of it over what a scan tells, and by the loads before and after
+abbrev pub OverScan : {S : Type 0} {A : Type 1} → (S → Option World) → (S → ℕ) → (before after : S) → (Option World → ℕ → ℕ → A) → A
+OverScan world loads before after Made = Made (world before) (loads before) (loads after)
 
 -- The disk is lent as it was.
 pub record LeavesDisk {D : Type 0} (faults : D → ℕ) (loans : D → List Loan) (Failed : Type 0) (before after : D) : Type 0 where

@@ -27,6 +27,6 @@ pub record IsCounted (kinds : List ProbeKind) (job : JobData) (view : ViewState)
 abbrev pub IsTabled : List ProbeKind → JobData → DiskState → DiskState → Outcome → List ℕ → Type 0
 IsTabled kinds job disk disk_after reached output = HasSeen job disk disk_after reached (λ view. IsCounted kinds job view disk reached output)
 
-abbrev pub IsQcReply : List ProbeKind → Option World → List ℕ → DiskState → DiskState → ℕ → ℕ → Outcome → List ℕ → Type 0
-IsQcReply kinds told path disk disk_after loads loads_after reached output =
+abbrev pub IsQcReply : List ProbeKind → List ℕ → Option World → (loads loads_after : ℕ) → (disk disk_after : DiskState) → Outcome → List ℕ → Type 0
+IsQcReply kinds path told loads loads_after disk disk_after reached output =
     IsLookReply told path disk disk_after loads loads_after reached (λ job. IsTabled kinds job disk disk_after reached output)

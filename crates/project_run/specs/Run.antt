@@ -17,7 +17,7 @@ use Rattle.conform_job.specs.Answers.{count_after}
 use Rattle.conform_job.specs.Job.{JobData}
 use Rattle.conform_job.specs.Keys.{info_at}
 use Rattle.single_run.specs.Ends.{IsChange}
-use Rattle.single_run.specs.Run.{WasOpened, WasRefused, AreAllAcked, HasWhole}
+use Rattle.single_run.specs.Run.{WasRun, AreAllAcked, HasWhole}
 use Rattle.single_run.specs.declared.run_end.Report.{Report}
 use Rattle.single_run.specs.declared.run_end.RunEnd.{RunEnd}
 use Rattle.single_run.specs.declared.run_end.RunEnd.TheVariants as ends
@@ -77,7 +77,7 @@ pub record IsSafeRun (job : JobData) (told : Option World) (how : RunEnd) (disk 
   pub writes : disk.tells ≡ true → WritesOnly disk.history disk_after.history (MayWrite job (view_of disk.history))
 
 -- The job was run in the folder.
-pub record IsJobRun (job : JobData) (told : Option World) (share : ℕ) (disk disk_after : DiskState) (loads loads_after : ℕ) (reached : Outcome) (output : List ℕ) : Type 0 where
+pub record IsJobRun (job : JobData) (share : ℕ) (told : Option World) (loads loads_after : ℕ) (disk disk_after : DiskState) (reached : Outcome) (output : List ℕ) : Type 0 where
   pub how : RunEnd
   pub report : Report
   pub reply : ReportsEnd job how report reached output
@@ -85,7 +85,7 @@ pub record IsJobRun (job : JobData) (told : Option World) (share : ℕ) (disk di
   -- what the folder acknowledged and does now, what was rendered, and what was asked for and loaded, with a share of so many
   -- frames; or why the folder was not opened
   pub log : List ShareStep
-  pub ran : WasOpened job told share disk.tells disk.history disk_after.history how report log ⊎ WasRefused job disk.tells disk.history disk_after.history how report log
+  pub ran : WasRun job told share disk.tells disk.history disk_after.history how report log
   pub keeps : IsSafeRun job told how disk disk_after
   pub loaded : loads_after ≡ count_after report.loads loads
   -- a source file that changed was loaded
@@ -98,7 +98,7 @@ pub record RanItsJob (told : Option World) (path : List ℕ) (share : ℕ) (disk
   -- the loads when it was planned
   pub planned : ℕ
   pub texts : planned ≡ count_after (2 + cube_count job.parts.project.cube) loads
-  pub ran : IsJobRun job told share disk disk_after planned loads_after reached output
+  pub ran : IsJobRun job share told planned loads_after disk disk_after reached output
 
 -- The project came to no job, and the folder is as it was.
 pub record IsUnplanned (told : Option World) (path : List ℕ) (disk disk_after : DiskState) (loads loads_after : ℕ) (reached : Outcome) : Type 0 where
@@ -109,8 +109,8 @@ pub record IsUnplanned (told : Option World) (path : List ℕ) (disk disk_after 
   -- of a refused one the files up to the one that has the fault
   pub refused : HasLoadedFor told path loads loads_after reached
 
-abbrev pub IsRunReply : Option World → List ℕ → ℕ → DiskState → DiskState → ℕ → ℕ → Outcome → List ℕ → Type 0
-IsRunReply told path share disk disk_after loads loads_after reached output =
+abbrev pub IsRunReply : List ℕ → ℕ → Option World → (loads loads_after : ℕ) → (disk disk_after : DiskState) → Outcome → List ℕ → Type 0
+IsRunReply path share told loads loads_after disk disk_after reached output =
     RanItsJob told path share disk disk_after loads loads_after reached output ⊎ IsUnplanned told path disk disk_after loads loads_after reached
 
 -- the outcomes that a run of a job may come to in place of Done

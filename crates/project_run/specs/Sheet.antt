@@ -45,6 +45,6 @@ pub record HasSheet (tone : List ℕ) (job : JobData) (disk disk_after : DiskSta
       → LeavesOnly disk.history disk_after.history (HasAcked job i)
   pub refused : disk.tells ≡ true → IsErr seen.ledger → IsStill disk.history disk_after.history
 
-abbrev pub IsSheetReply : List ℕ → Option World → List ℕ → DiskState → DiskState → ℕ → ℕ → Outcome → List ℕ → Type 0
-IsSheetReply tone told path disk disk_after loads loads_after reached output =
+abbrev pub IsSheetReply : List ℕ → List ℕ → Option World → (loads loads_after : ℕ) → (disk disk_after : DiskState) → Outcome → List ℕ → Type 0
+IsSheetReply tone path told loads loads_after disk disk_after reached output =
     IsLookReply told path disk disk_after loads loads_after reached (λ job. HasSheet tone job disk disk_after reached output)

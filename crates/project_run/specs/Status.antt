@@ -33,6 +33,6 @@ pub record IsStatus (job : JobData) (disk disk_after : DiskState) (reached : Out
   pub known : IsPeekFor job.parts.digest (frames_of job) answer
   pub still : disk.tells ≡ true → IsStill disk.history disk_after.history
 
-abbrev pub IsStatusReply : Option World → List ℕ → DiskState → DiskState → ℕ → ℕ → Outcome → List ℕ → Type 0
-IsStatusReply told path disk disk_after loads loads_after reached output =
+abbrev pub IsStatusReply : List ℕ → Option World → (loads loads_after : ℕ) → (disk disk_after : DiskState) → Outcome → List ℕ → Type 0
+IsStatusReply path told loads loads_after disk disk_after reached output =
     IsLookReply told path disk disk_after loads loads_after reached (λ job. IsStatus job disk disk_after reached output)

@@ -45,8 +45,8 @@ pub record IsChecked (job : JobData) (view : ViewState) (disk : DiskState) (reac
 abbrev pub IsVerified : JobData → DiskState → DiskState → Outcome → List ℕ → Type 0
 IsVerified job disk disk_after reached output = HasSeen job disk disk_after reached (λ view. IsChecked job view disk reached output)
 
-abbrev pub IsVerifyReply : Option World → List ℕ → DiskState → DiskState → ℕ → ℕ → Outcome → List ℕ → Type 0
-IsVerifyReply told path disk disk_after loads loads_after reached output =
+abbrev pub IsVerifyReply : List ℕ → Option World → (loads loads_after : ℕ) → (disk disk_after : DiskState) → Outcome → List ℕ → Type 0
+IsVerifyReply path told loads loads_after disk disk_after reached output =
     IsLookReply told path disk disk_after loads loads_after reached (λ job. IsVerified job disk disk_after reached output)
 
 -- the outcomes that it may come to in place of Done

@@ -2,8 +2,8 @@
 ghost use Rattle.std.specs.Prelude.{◌≡◌, Err, IfErr, MatchResult};
 ghost use Rattle.conform_job.specs.Answers.{AreInfosOf};
 ghost use Rattle.project_job.specs.Asked.{HasInspectedFor};
-ghost use Rattle.project_job.specs.Leaves.{LeavesScan};
-ghost use Rattle.project_run.specs.Calls.{IsLeftAlone, LeavesDisk, OnDisk, Replies};
+ghost use Rattle.scan_source.specs.Leaves.{LeavesScan};
+ghost use Rattle.project_run.specs.Calls.{IsLeftAlone, LeavesDisk, OnDisk, Replies, OverScan};
 ghost use Rattle.project_run.specs.Run.{IsJobRun, IsOfRun, IsRunReply, IsShareCount};
 
 use crate::report::reply_of;
@@ -31,7 +31,7 @@ pub fn run<S: Scans, D: Disk>(
 ) -> Result<Vec<u8>, Outcome>
     requires { IsShareCount share }
     ensures folder { Replies result (OnDisk D.tells D.history D.faults disk.old disk.new
-        (λ was is. IsRunReply (S.world scan.old) path.now share was is (S.loads scan.old) (S.loads scan.new))) }
+        (OverScan S.world S.loads scan.old scan.new (IsRunReply path.now share))) }
     ensures kind { MatchResult result (λ text. Unit {0}) IsOfRun }
 
     ensures scan { LeavesScan S.world S.faults S.same (result ≡ Err Outcome.SourceFault) scan.old scan.new }
@@ -61,7 +61,7 @@ fn run_job<S: Scans, D: Disk>(
     requires share { IsShareCount share }
     requires infos { AreInfosOf job.now.parts (S.world scan.old) job.now.infos }
     ensures ran { Replies result (OnDisk D.tells D.history D.faults disk.old disk.new
-        (λ was is. IsJobRun job.now (S.world scan.old) share was is (S.loads scan.old) (S.loads scan.new))) }
+        (OverScan S.world S.loads scan.old scan.new (IsJobRun job.now share))) }
     ensures kind { MatchResult result (λ text. Unit {0}) IsOfRun }
 
     ensures scan { LeavesScan S.world S.faults S.same (result ≡ Err Outcome.SourceFault) scan.old scan.new }

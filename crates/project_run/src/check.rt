@@ -4,8 +4,8 @@ ghost use Rattle.reel_disk.specs.Disk.{view_of, IsStill};
 ghost use Rattle.reel_writer.specs.Reel.{frames_of};
 ghost use Rattle.resume_ledger.specs.Look.{IsViewOf};
 ghost use Rattle.project_job.specs.Asked.{HasInspectedFor};
-ghost use Rattle.project_job.specs.Leaves.{LeavesScan};
-ghost use Rattle.project_run.specs.Calls.{IsLeftAlone, LeavesDisk, OnDisk, Replies};
+ghost use Rattle.scan_source.specs.Leaves.{LeavesScan};
+ghost use Rattle.project_run.specs.Calls.{IsLeftAlone, LeavesDisk, OnDisk, Replies, OverScan};
 ghost use Rattle.project_run.specs.Verify.{IsChecked, IsOfVerify, IsVerified, IsVerifyReply, outcome_of_check, verify_text};
 
 use crate::progress::outcome_of_fault;
@@ -34,7 +34,7 @@ pub fn verify<S: Scans, D: Disk>(
     disk: &mut D,
 ) -> Result<Vec<u8>, Outcome>
     ensures folder { Replies result (OnDisk D.tells D.history D.faults disk.old disk.new
-        (λ was is. IsVerifyReply (S.world scan.old) path.now was is (S.loads scan.old) (S.loads scan.new))) }
+        (OverScan S.world S.loads scan.old scan.new (IsVerifyReply path.now))) }
     ensures kind { MatchResult result (λ text. Unit {0}) IsOfVerify }
 
     ensures scan { LeavesScan S.world S.faults S.same (result ≡ Err Outcome.SourceFault) scan.old scan.new }

@@ -1,9 +1,9 @@
 //! The command `status`.
 ghost use Rattle.std.specs.Prelude.{◌≡◌, ◌≢◌, Ok, Err, IfErr, IfOk, MatchResult};
 ghost use Rattle.project_job.specs.Asked.{HasInspectedFor};
-ghost use Rattle.project_job.specs.Leaves.{LeavesScan};
+ghost use Rattle.scan_source.specs.Leaves.{LeavesScan};
 ghost use Rattle.project_run.specs.Look.{IsOfLook, outcome_of_fault};
-ghost use Rattle.project_run.specs.Calls.{IsLeftAlone, LeavesDisk, OnDisk, Replies};
+ghost use Rattle.project_run.specs.Calls.{IsLeftAlone, LeavesDisk, OnDisk, Replies, OverScan};
 ghost use Rattle.project_run.specs.Status.{IsStatus, IsStatusReply, status_text};
 
 use crate::report::put_count;
@@ -28,7 +28,7 @@ pub fn status<S: Scans, D: Disk>(
     disk: &mut D,
 ) -> Result<Vec<u8>, Outcome>
     ensures folder { Replies result (OnDisk D.tells D.history D.faults disk.old disk.new
-        (λ was is. IsStatusReply (S.world scan.old) path.now was is (S.loads scan.old) (S.loads scan.new))) }
+        (OverScan S.world S.loads scan.old scan.new (IsStatusReply path.now))) }
     ensures kind { MatchResult result (λ text. Unit {0}) IsOfLook }
 
     ensures scan { LeavesScan S.world S.faults S.same (result ≡ Err Outcome.SourceFault) scan.old scan.new }

@@ -1,13 +1,13 @@
 //! The command `qc`.
-ghost use Rattle.std.specs.Prelude.{◌≡◌, ◌≢◌, true, length, map, Err, IfErr, MatchResult};
+ghost use Rattle.std.specs.Prelude.{◌≡◌, ◌≢◌, true, length, Err, IfErr, MatchResult, map};
 ghost use Rattle.reel_disk.specs.Disk.{view_of, IsStill};
 ghost use Rattle.reel_writer.specs.Reel.{frames_of};
 ghost use Rattle.resume_ledger.specs.Look.{IsViewOf};
 ghost use Rattle.project_job.specs.Asked.{HasInspectedFor};
-ghost use Rattle.project_job.specs.Leaves.{LeavesScan};
+ghost use Rattle.scan_source.specs.Leaves.{LeavesScan};
 ghost use Rattle.project_run.specs.Look.{IsOfLook};
 ghost use Rattle.project_run.specs.Quality.{IsCounted, IsQcReply, IsTabled};
-ghost use Rattle.project_run.specs.Calls.{IsLeftAlone, LeavesDisk, OnDisk, Replies};
+ghost use Rattle.project_run.specs.Calls.{IsLeftAlone, LeavesDisk, OnDisk, Replies, OverScan};
 
 use crate::progress::outcome_of_fault;
 use cf_base::PathText;
@@ -36,7 +36,7 @@ pub fn qc<S: Scans, D: Disk, C: Counter>(
 ) -> Result<Vec<u8>, Outcome>
     requires ready { C.ready }
     ensures folder { Replies result (OnDisk D.tells D.history D.faults disk.old disk.new
-        (λ was is. IsQcReply (map (λ p. p.kind) probes.now) (S.world scan.old) path.now was is (S.loads scan.old) (S.loads scan.new))) }
+        (OverScan S.world S.loads scan.old scan.new (IsQcReply (map (λ p. p.kind) probes.now) path.now))) }
     ensures kind { MatchResult result (λ text. Unit {0}) IsOfLook }
 
     ensures scan { LeavesScan S.world S.faults S.same (result ≡ Err Outcome.SourceFault) scan.old scan.new }

@@ -1,10 +1,10 @@
 //! What a run of a job comes to: its report, or an outcome.
 ghost use Rattle.std.specs.Prelude.{◌≡◌, ◌↔◌, [], ◌∷◌, ◌++◌, Some, Err, IfOk, OnOk, MatchResult, decimal};
 ghost use Rattle.conform_job.specs.Keys.{info_at};
-ghost use Rattle.outcome_line.specs.Output.{line_of};
 ghost use Rattle.printed_text.specs.Text.{spaced_line};
 ghost use Rattle.project_run.specs.Run.{IsKnown, IsOfRun, ReportsEnd, name_in, outcome_of_end, run_text};
 ghost use Rattle.outcome_line.specs.declared.outcome.Outcome.TheVariants as outcomes;
+ghost use Rattle.project_run.specs.Calls.{Replies};
 
 use cf_base::Key;
 use conform_job::Job;
@@ -18,9 +18,7 @@ use std::alloc::{AllocError, Global};
 /// The report of a run that ended so, or its outcome; want of memory where there is none for the report.
 pub fn reply_of(alloc: Global, job: &Job, end: RunEnd, report: &Report) -> Result<Vec<u8>, Outcome>
     requires { IsKnown job.now end }
-    ensures reply { MatchResult result
-        (λ text. ReportsEnd job.now end report.now Outcome.Done text.items)
-        (λ outcome. ReportsEnd job.now end report.now outcome (line_of outcome)) }
+    ensures reply { Replies result (ReportsEnd job.now end report.now) }
     ensures kind { MatchResult result (λ text. Unit {0}) IsOfRun }
     ensures source { (result ≡ Err Outcome.SourceFault) ↔ (end ≡ RunEnd.SourceFault) }
     ensures disk { (result ≡ Err Outcome.DiskFault) ↔ (end ≡ RunEnd.DiskFault) }

@@ -13,7 +13,7 @@ use Rattle.reel_writer.specs.View.{ReelView}
 use Rattle.reconform.specs.declared.adopting.Adopted.{Adopted}
 use Rattle.reconform.specs.declared.adopting.AdoptFault.{AdoptFault}
 use Rattle.reconform.specs.declared.adopting.AdoptFault.TheVariants.{OldOtherJob, OldBadLedger, OtherJob, BadLedger, DiskFault, NoMemory}
-use Rattle.reconform.specs.Adopt.{HasAnswered, AsOpened, IsOfOld, IsStop, WasOpened, WasRefused, by_old, by_new}
+use Rattle.reconform.specs.Adopt.{HasAnswered, AsOpened, IsOfOld, IsStop, WasOpenedWith, IsWhyUnadopted, by_old, by_new}
 use Rattle.reconform.specs.Donor.{HasIntactDonor}
 
 module _ (new old : JobData) (tells : Bool) (h mid after : History) (still : tells ≡ true → IsStill h mid) (before done : History) where
@@ -43,14 +43,14 @@ module _ (new old : JobData) (tells : Bool) (h mid after : History) (still : tel
 
 module _ (new old : JobData) (tells : Bool) (h after before done : History) where
   -- why the old folder wasn't looked at
-  pub old_refused : (fault : OpenFault) → IsRefusalFor old.parts.digest fault → (tells ≡ true → IsRefused old.parts.digest (frames_of old) h after fault) → WasRefused new old tells h after before done (by_old fault)
+  pub old_refused : (fault : OpenFault) → IsRefusalFor old.parts.digest fault → (tells ≡ true → IsRefused old.parts.digest (frames_of old) h after fault) → IsWhyUnadopted new old tells h after before done (by_old fault)
   old_refused (cause.OtherJob kept wanted) known is = (known.0, known.1, is)
   old_refused (cause.BadLedger len) known is = is
   old_refused cause.DiskFault known is = tt
   old_refused cause.NoMemory known is = tt
 
   -- and why the new one wasn't opened
-  pub new_refused : (tells ≡ true → IsFit old.parts.digest (frames_of old) (view_of h)) → (fault : OpenFault) → IsRefusalFor new.parts.digest fault → (tells ≡ true → IsRefused new.parts.digest (frames_of new) before done fault) → WasRefused new old tells h after before done (by_new fault)
+  pub new_refused : (tells ≡ true → IsFit old.parts.digest (frames_of old) (view_of h)) → (fault : OpenFault) → IsRefusalFor new.parts.digest fault → (tells ≡ true → IsRefused new.parts.digest (frames_of new) before done fault) → IsWhyUnadopted new old tells h after before done (by_new fault)
   new_refused fit (cause.OtherJob kept wanted) known is = (known.0, known.1, λ told. (fit told, is told))
   new_refused fit (cause.BadLedger len) known is = λ told. (fit told, is told)
   new_refused fit cause.DiskFault known is = tt
@@ -80,7 +80,7 @@ never_opened new old old_tells tells view files opened after (Err fault) did = n
 -- what an adoption into an opened folder comes to
 pub opened_answer : {D : Type 0} (new old : JobData) (old_tells tells : Bool) → old_tells ≡ tells → (view : ViewState) (h after before done : History) (opened : ReelView D)
     → (old_tells ≡ true → IsViewOf old.parts.digest (frames_of old) (view_of h) view)
-    → (tells ≡ true → WasOpened new (view_of before) opened.ledger.gates) → opened.kept ≡ count_by (λ gate. gate) opened.ledger.gates
+    → (tells ≡ true → WasOpenedWith new (view_of before) opened.ledger.gates) → opened.kept ≡ count_by (λ gate. gate) opened.ledger.gates
     → (result : Result Adopted AdoptFault) → AsOpened new old old_tells tells view (view_of h) opened (view_of done) result → HasAnswered new old tells h after before done result
 opened_answer new old old_tells tells one view h after before done opened viewed opening kept (Ok adopted) did = record {
   view = view;
@@ -109,7 +109,7 @@ opened_answer new old old_tells tells one view h after before done opened viewed
         back (inr here) = (did.exactly (one ∙ told) k).1 (inr (lt, here))
 opened_answer new old old_tells tells one view h after before done opened viewed opening kept (Err fault) did = stopped fault did
   where
-    stopped : (fault : AdoptFault) → IsStop fault → WasRefused new old tells h after before done fault
+    stopped : (fault : AdoptFault) → IsStop fault → IsWhyUnadopted new old tells h after before done fault
     stopped (OldOtherJob kept wanted) (inl is) = cc
     stopped (OldOtherJob kept wanted) (inr is) = cc
     stopped (OldBadLedger len) (inl is) = cc

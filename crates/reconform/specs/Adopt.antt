@@ -1,7 +1,7 @@
 -- What an adoption promises. All of it is this project's own rule.
 --     CanServe      what the old folder has to be, where the source files are told
 --     WasAdopted      which frames are acknowledged at the end, and how many of them were adopted
---     WasRefused      why there was no adoption
+--     IsWhyUnadopted      why there was no adoption
 --     IsCaused      a failure has its cause in one of the two disks
 use Rattle.std.specs.Prelude.{◌≡◌, ◌≢◌, ◌⊎◌, ◌↔◌, ℕ, ◌+◌, ◌<◌, ◌≤◌, Bool, true, false, List, count_by, length, slice_index_or, Result, Ok, Err}
 use Rattle.cf_base.specs.Count.{HasRisen}
@@ -33,7 +33,7 @@ pub record CanServe (new old : JobData) (world : World) (tells : Bool) (files : 
   pub look : HaveOneLook new old
 
 -- the new folder was unsealed or the new job's, and its opening kept these frames
-pub record WasOpened (new : JobData) (before : Files) (kept : List Bool) : Type 0 where
+pub record WasOpenedWith (new : JobData) (before : Files) (kept : List Bool) : Type 0 where
   pub fit : IsFit new.parts.digest (frames_of new) before
   pub kept_are : (k : ℕ) → (slice_index_or kept k false ≡ true)
       ↔ HasKept new k before
@@ -44,7 +44,7 @@ pub record WasAdopted (new old : JobData) (tells : Bool) (old_files before after
   pub view : ViewState
   pub looked : tells ≡ true → IsViewOf old.parts.digest (frames_of old) old_files view
   pub kept : List Bool
-  pub opened : tells ≡ true → WasOpened new before kept
+  pub opened : tells ≡ true → WasOpenedWith new before kept
   pub acked : List Bool
   pub exit : tells ≡ true → AreFlagsOf new.parts.digest (frames_of new) after acked
   pub fit : tells ≡ true → IsFit new.parts.digest (frames_of new) after
@@ -55,22 +55,22 @@ pub record WasAdopted (new old : JobData) (tells : Bool) (old_files before after
   pub adopted_is : done.kept + done.adopted ≡ count_by (λ gate. gate) acked
 
 -- Why there was no adoption: first what is wrong with the old folder, by 20.1 and 20.2, and then with the new one.
-abbrev pub WasRefused : JobData → JobData → Bool → (old old_after before after : History) → AdoptFault → Type 0
-WasRefused new old tells h h_after before after (OldOtherJob kept wanted) = (kept ≢ wanted) × (wanted ≡ old.parts.digest)
+abbrev pub IsWhyUnadopted : JobData → JobData → Bool → (old old_after before after : History) → AdoptFault → Type 0
+IsWhyUnadopted new old tells h h_after before after (OldOtherJob kept wanted) = (kept ≢ wanted) × (wanted ≡ old.parts.digest)
     × (tells ≡ true → IsOtherJob old.parts.digest kept wanted h h_after)
-WasRefused new old tells h h_after before after (OldBadLedger len) = tells ≡ true
+IsWhyUnadopted new old tells h h_after before after (OldBadLedger len) = tells ≡ true
     → IsBadLedger old.parts.digest (frames_of old) len h h_after
-WasRefused new old tells h h_after before after (OtherJob kept wanted) = (kept ≢ wanted) × (wanted ≡ new.parts.digest)
+IsWhyUnadopted new old tells h h_after before after (OtherJob kept wanted) = (kept ≢ wanted) × (wanted ≡ new.parts.digest)
     × (tells ≡ true → IsFit old.parts.digest (frames_of old) (view_of h) × IsOtherJob new.parts.digest kept wanted before after)
-WasRefused new old tells h h_after before after (BadLedger len) = tells ≡ true
+IsWhyUnadopted new old tells h h_after before after (BadLedger len) = tells ≡ true
     → IsFit old.parts.digest (frames_of old) (view_of h) × IsBadLedger new.parts.digest (frames_of new) len before after
-WasRefused new old tells h h_after before after DiskFault = Unit {0}
-WasRefused new old tells h h_after before after NoMemory = Unit {0}
+IsWhyUnadopted new old tells h h_after before after DiskFault = Unit {0}
+IsWhyUnadopted new old tells h h_after before after NoMemory = Unit {0}
 
 -- The answer of an adoption.
 abbrev pub HasAnswered : JobData → JobData → Bool → (old old_after before after : History) → Result Adopted AdoptFault → Type 0
 HasAnswered new old tells h h_after before after (Ok done) = WasAdopted new old tells (view_of h) (view_of before) (view_of after) done
-HasAnswered new old tells h h_after before after (Err fault) = WasRefused new old tells h h_after before after fault
+HasAnswered new old tells h h_after before after (Err fault) = IsWhyUnadopted new old tells h h_after before after fault
 
 -- a refusal of the old folder comes before the new one is touched
 abbrev pub IsOfOld : AdoptFault → Type 0
@@ -115,6 +115,11 @@ IsServed new old view files i before after = (k : ℕ)
 abbrev pub AreServed : JobData → JobData → ViewState → Files → ℕ → (before after : List Bool) → Type 0
 AreServed new old view files count before after = (k : ℕ)
     → (slice_index_or after k false ≡ true) ↔ ((slice_index_or before k false ≡ true) ⊎ ((k < count) × HasIntactDonor new old view files k))
+
+-- all frames of a reel
+abbrev pub IsReelServed : {D : Type 0} → JobData → JobData → ViewState → Files → (before after : ReelView D) → Type 0
+IsReelServed new old view files before after =
+    AreServed new old view files (frames_of new) before.ledger.gates after.ledger.gates
 
 -- what stays as it was in a reel while it takes over frames: which were acknowledged, among the rest
 pub record IsSameReel {D : Type 0} (before after : ReelView D) : Type 0 where

@@ -2,8 +2,9 @@
 --     IsDonor      the least frame of the old job that is acknowledged and has an equal plan
 --     IsIntactFile      its file is what was written, as far as that can be known
 --     HasIntactDonor      both
-use Rattle.std.specs.Prelude.{◌≡◌, ◌≢◌, ℕ, ◌<◌, Bool, true, false, List, length, slice_index_or, Option, Some, None, IfSome}
-use Rattle.std.specs.BTreeMap.{BTreeMap, get}
+use Rattle.std.specs.Prelude.{◌≡◌, ◌≢◌, ℕ, ◌<◌, Bool, true, false, List, length, slice_index_or, Option, Some, None, IfSome, cond}
+use Rattle.std.specs.BTreeMap.{BTreeMap, get, is_at}
+use Rattle.std.specs.Option.{option_or}
 use Rattle.sha2.specs.Sha256.{sha256}
 use Rattle.conform_job.specs.Job.{JobData, file_of}
 use Rattle.frame_render.specs.Frame.{frame_size}
@@ -61,3 +62,8 @@ donor_in donors plan = get plan_cmp donors plan
 -- the map has the least frame of each plan
 abbrev pub AreLeast : JobData → List Bool → ℕ → BTreeMap FramePlan ℕ → Type 0
 AreLeast old acked count donors = (plan : FramePlan) → IsLeast old acked count plan (donor_in donors plan)
+
+-- the frame is the donor of its plan now, if there was none
+abbrev pub AddsDonor : FramePlan → ℕ → (before after : BTreeMap FramePlan ℕ) → Type 0
+AddsDonor plan j before after = (other : FramePlan)
+    → donor_in after other ≡ option_or (donor_in before other) (cond (is_at (plan_cmp plan) other) (Some j) None)

@@ -1,9 +1,8 @@
 //! The donors of an old reel, by their plan.
-ghost use Rattle.std.specs.Prelude.{◌≡◌, ◌+◌, ◌<◌, [], cond, length, Some, None, OnOk, IfOk};
-ghost use Rattle.std.specs.Option.{option_or};
-ghost use Rattle.std.specs.BTreeMap.{get, is_at, Updates};
+ghost use Rattle.std.specs.Prelude.{◌≡◌, ◌+◌, ◌<◌, [], length, Some, OnOk, IfOk};
+ghost use Rattle.std.specs.BTreeMap.{get, Updates};
 ghost use Rattle.reel_writer.specs.Reel.{frames_of};
-ghost use Rattle.reconform.specs.Donor.{AreLeast, donor_in, plan_cmp};
+ghost use Rattle.reconform.specs.Donor.{AreLeast, donor_in, AddsDonor};
 ghost use Rattle.reconform.specs.declared.plan.FramePlan.{FramePlan};
 
 use crate::plan::{FramePlan, plan_at};
@@ -63,8 +62,7 @@ impl Donors {
 
     /// Frame `j` has the plan: it is the donor where there was none.
     fn add(&mut self, plan: FramePlan, j: u32) -> Result<(), AllocError>
-        ensures first { OnOk result ((q : FramePlan) → donor_in self.new.by_plan q
-            ≡ option_or (donor_in self.old.by_plan q) (cond (is_at (plan_cmp plan) q) (Some j) None)) }
+        ensures first { OnOk result (AddsDonor plan j self.old.by_plan self.new.by_plan) }
     {
         if self.by_plan.contains_key(&plan) {
             return Ok(());

@@ -8,7 +8,7 @@ ghost use Rattle.reel_disk.specs.Runs.{Spares};
 ghost use Rattle.resume_ledger.specs.Look.{IsViewOf};
 ghost use Rattle.reel_writer.specs.Changes.{IsRunFile};
 ghost use Rattle.reel_writer.specs.Reel.{frames_of, IsReelRun, KeepsReel};
-ghost use Rattle.reconform.specs.Adopt.{AreServed, CanServe, IsCaused, IsSameReel, IsServed, IsStop};
+ghost use Rattle.reconform.specs.Adopt.{CanServe, IsCaused, IsSameReel, IsServed, IsStop, IsReelServed};
 ghost use Rattle.reconform.specs.Donor.{AreLeast, HasIntactDonor};
 ghost use Rattle.reconform.specs.Laws.{HasTitle};
 ghost use Rattle.reconform.specs.Plan.{AreAlike};
@@ -188,7 +188,7 @@ fn adopt_frames<N: Work, O: Work, D: Disk, E: Disk>(
     requires size { length reel.old.ledger.gates ≡ frames_of N.job }
 
     ensures served { OnOk result (D.tells ≡ true
-        → AreServed N.job O.job view.now (view_of (D.history old.old)) (frames_of N.job) reel.old.ledger.gates reel.new.ledger.gates) }
+        → IsReelServed N.job O.job view.now (view_of (D.history old.old)) reel.old reel.new) }
     ensures stays { IsSameReel reel.old reel.new }
     ensures stays_open { OnOk result (reel.new.ledger.closed ≡ false) }
     ensures end { IfErr result IsStop }
@@ -261,7 +261,7 @@ pub(crate) fn adopt_alike<N: Work, O: Work, D: Disk, E: Disk>(
     requires size { length reel.old.ledger.gates ≡ frames_of N.job }
 
     ensures served { OnOk result (D.tells ≡ true
-        → AreServed N.job O.job view.now (view_of (D.history old.old)) (frames_of N.job) reel.old.ledger.gates reel.new.ledger.gates) }
+        → IsReelServed N.job O.job view.now (view_of (D.history old.old)) reel.old reel.new) }
     ensures stays { IsSameReel reel.old reel.new }
     ensures stays_open { OnOk result (reel.new.ledger.closed ≡ false) }
     ensures end { IfErr result IsStop }

@@ -1,3 +1,4 @@
+mod BuildLaws
 mod CoverLaws
 mod EndLaws
 mod OverlapLaws

@@ -1,7 +1,7 @@
 -- The shot of a frame: what its covering event and the one before it give.
-use Rattle.std.proofs.Common.{◌≡◌, ℕ, ℤ, zero, suc, ◌-◌, ◌<◌, ◌≤◌, Bool, true, false, cond, List, [], ◌∷◌, length, get_or, refl, sym, ◌∙◌, subst, arith, lit≤, lit<, Option, inl, inr}
-use Rattle.std.specs.Prelude.{Some, None, IsSome, slice_get, nat_lt}
-use Rattle.std.proofs.lemmas.Bool.{false≢true, cases_Bool, ltb-true}
+use Rattle.std.proofs.Common.{◌≡◌, ℕ, ℤ, zero, suc, ◌-◌, ◌<◌, ◌≤◌, Bool, true, false, cond, List, [], ◌∷◌, length, get_or, refl, ap, sym, ◌∙◌, subst, arith, lit≤, lit<, Option, inl, inr}
+use Rattle.std.specs.Prelude.{Some, None, IsSome, slice_get, nat_lt, if◌then◌else◌}
+use Rattle.std.proofs.lemmas.Bool.{false≢true, cases_Bool, ltb-true, lt-ltb}
 use Rattle.std.proofs.lemmas.Option.{none-some, same_Some, slice_get_read, slice_get_within, get_or_from_slice_get}
 use Rattle.cf_base.specs.declared.timing.Rate.{Rate}
 use Rattle.cf_base.specs.declared.timing.Rate.TheVariants.{R24, R25, R30}
@@ -13,6 +13,7 @@ use Rattle.cf_base.specs.declared.event.EventRec.{EventRec}
 use Rattle.cf_base.specs.Timing.{frames_in_day}
 use Rattle.cf_base.specs.Events.{IsWellMade, IsWellMadeEvent, AllFollowOn, FollowsOn, FitsTransition, is_black_reel, record_length}
 use Rattle.record_timeline.specs.declared.Side.TheVariants.{Black, Frame}
+use Rattle.record_timeline.specs.declared.Shot.TheVariants.{One, Two}
 use Rattle.record_timeline.specs.Shots.{covering, duration_of, side_of, two_sides, shot_within, shot_in, shot_by, shot_of, event_before, IsSideIn, Lasts, IsShotIn}
 use Rattle.record_timeline.proofs.CoverLaws.{covering_in}
 
@@ -122,3 +123,8 @@ module _ (rate : Rate) (mode : Mode) (events : List EventRec) (made : IsWellMade
 pub shot_is : (rate : Rate) (events : List EventRec) (n place : ℕ) (e : EventRec) (old : Option EventRec) → covering events n ≡ Some place → slice_get events place ≡ Some e → old ≡ event_before events place
     → shot_within rate place e old n (duration_of e.transition) ≡ shot_of rate events n
 shot_is rate events n place e old found at before = rw (found, at, before) refl
+
+pub two_shown : (rate : Rate) (place : ℕ) (e old : EventRec) (n d : ℕ) → duration_of e.transition ≡ Some d → n - e.rec_in < d
+    → shot_within rate place e (Some old) n (duration_of e.transition) ≡ Two (side_of rate (place - 1) old n) (side_of rate place e n) e.transition (n - e.rec_in) d
+two_shown rate place e old n d lasts within =
+    rw lasts (ap (λ b. if b then two_sides rate place e (Some old) n d else One (side_of rate place e n)) (lt-ltb (n - e.rec_in) d within))

@@ -17,6 +17,10 @@ LeavesOnly old new P = (m : ℕ) → old.now ≤ m → m ≤ new.now → (files 
 abbrev pub Surely : Moment → (Files → Type 0) → Type 0
 Surely moment P = (files : Files) → IsImage moment files → P files
 
+-- Where whatever a crash leaves at the start has P, it has P at each moment.
+abbrev pub StaysSo : History → History → (Files → Type 0) → Type 0
+StaysSo old new P = Surely (moment_of old) P → LeavesOnly old new P
+
 -- What all images of one moment since the old one have, all images of each later one have.
 abbrev pub NeverForgets : History → History → (Files → Type 0) → Type 0
 NeverForgets old new P = (m later : ℕ) → old.now ≤ m → m ≤ later → later ≤ new.now → Surely (new.past m) P → Surely (new.past later) P

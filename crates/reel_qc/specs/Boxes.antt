@@ -10,7 +10,7 @@ use Rattle.reel_qc.specs.Counts.{blue_of, green_of, red_of}
 use Rattle.reel_disk.specs.Disk.{History, view_of}
 use Rattle.dpx_header.specs.Writing.{header_of}
 use Rattle.resume_ledger.specs.Look.{ViewState}
-use Rattle.reel_qc.specs.Sheet.{box_colour, box_pixels, cell_height, cell_width, rounded_mean, row_colours, sheet_colours, sheet_head, sheet_width, toned_bytes}
+use Rattle.reel_qc.specs.Sheet.{box_colour, box_pixels, cell_height, cell_width, picture_at, rounded_mean, row_colours, sheet_colours, sheet_head, sheet_width, toned_bytes}
 use Rattle.reel_qc.specs.declared.boxes.Boxes.{Boxes}
 use Rattle.reel_qc.specs.declared.drawing.Drawing.{Drawing}
 
@@ -86,6 +86,11 @@ pub record HasPictures (job : JobData) (Told : Type 0) (exact : ℕ → Option (
   pub told : Told → pictures ≡ map exact (range_with_len 0 (length cells))
   pub are : AreCells job pictures cells
 
+-- those of a row of the sheet, by what the disk tells
+abbrev pub HasRow : JobData → ViewState → Bool → History → ℕ → List (Option Boxes) → Type 0
+HasRow job view tells history row cells =
+    HasPictures job (tells ≡ true) (λ c. picture_at job view (view_of history) (row * 8 + c)) cells
+
 -- the colour at column x of line y of a row of cells, also as a list; the line; and all lines of that row
 abbrev pub pictured_colour : JobData → List (Option (List ℕ)) → (x y : ℕ) → List ℕ
 pictured_colour job pictures x y =
@@ -99,6 +104,10 @@ pictured_line job pictures y = map (λ x. pictured_colour job pictures x y) (ran
 
 abbrev pub pictured_row : JobData → List (Option (List ℕ)) → ℕ → List (List ℕ)
 pictured_row job pictures row = flat_map (pictured_line job pictures) (range_with_len (row * cell_height job) (cell_height job))
+
+-- The colour is that of a row of cells at a pixel, whatever pictures they have.
+abbrev pub IsPictured : JobData → List (Option Boxes) → (x y : ℕ) → List ℕ → Type 0
+IsPictured job cells x y colour = (pictures : List (Option (List ℕ))) → AreCells job pictures cells → colour ≡ pictured_colour job pictures x y
 
 -- These colours, with codes to 1023, were drawn behind the bytes; and the greatest code before and after.
 pub record IsDrawn (tone : List ℕ) (colours : List (List ℕ)) (old new : List ℕ) (before after : ℕ) : Type 0 where

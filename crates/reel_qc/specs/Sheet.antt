@@ -3,6 +3,7 @@
 --     sheet_colour job view files x y      the mean colour at column x and line y, before the tone
 --     sheet_file tone job view files      the file: its header (SMPTE 268M), then its words
 --     sheet_peak tone job view files      the greatest code of the sheet
+--     HasWrittenSheet tone job view old new      the file is written, of what the folder held before
 -- Colours are lists of codes by channel: red, green, blue. A cell has one pixel for each box of 16 by 16 of its frame.
 use Rattle.std.specs.Prelude.{ℕ, ◌+◌, ◌-◌, ◌*◌, ◌/◌, ◌%◌, ◌&&◌, ◌==◌, max, false, nat_lt, if◌then◌else◌, List, [], ◌∷◌, ◌++◌, length, map, take, slice_index, slice_index_or, slice_get, Option, Some, None}
 use Rattle.std.specs.List.{filter, flat_map, fold, range_with_len, sum_by}
@@ -15,8 +16,10 @@ use Rattle.dpx_pack.specs.Pixels.{colour_word}
 use Rattle.record_timeline.specs.Accepted.{first_frame}
 use Rattle.conform_job.specs.Job.{JobData, file_of}
 use Rattle.frame_render.specs.Frame.{black_of, pixel_count}
-use Rattle.reel_disk.specs.Disk.{Files}
+use Rattle.reel_disk.specs.Disk.{Files, History, view_of}
 use Rattle.resume_ledger.specs.Look.{ViewState}
+use Rattle.resume_ledger.specs.Steps.{IsFirmly}
+use Rattle.cf_base.specs.declared.file.FileId.TheVariants as file
 use Rattle.reel_qc.specs.Counts.{blue_of, green_of, red_of}
 use Rattle.reel_qc.specs.Words.{frame_words}
 
@@ -128,3 +131,7 @@ sheet_file tone job view files = header_of (sheet_head job) ++ flat_map (toned_b
 
 abbrev pub sheet_peak : List ℕ → JobData → ViewState → Files → ℕ
 sheet_peak tone job view files = fold max 0 (flat_map (toned tone) (sheet_colours job view files))
+
+-- The sheet is on the disk, and a crash keeps it so.
+abbrev pub HasWrittenSheet : List ℕ → JobData → ViewState → History → History → Type 0
+HasWrittenSheet tone job view old new = IsFirmly old new file.Sheet (Some (sheet_file tone job view (view_of old)))

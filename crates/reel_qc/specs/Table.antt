@@ -10,7 +10,8 @@ use Rattle.std.specs.declared.alloc.Global.{Global}
 use Rattle.reel_disk.specs.Disk.{Files, History, view_of}
 use Rattle.scan_source.specs.World.{World, file_at}
 use Rattle.frame_render.specs.Frame.{frame_file}
-use Rattle.resume_ledger.specs.Look.{ViewState}
+use Rattle.resume_ledger.specs.Look.{ViewState, IsViewOf}
+use Rattle.reel_writer.specs.Reel.{frames_of, IsSoundReel}
 use Rattle.reel_qc.specs.Counts.{count_of}
 use Rattle.reel_qc.specs.Words.{frame_words}
 use Rattle.reel_qc.specs.declared.probe.ProbeKind.{ProbeKind}
@@ -56,6 +57,11 @@ defined_row job world i = record { frame = i; words = frame_words job (Some (fra
 
 abbrev pub defined_table : List ProbeKind → JobData → World → ViewState → List ℕ
 defined_table kinds job world view = table_of kinds (map (defined_row job world) (acked_frames view))
+
+-- Where the folder is sound, and the view is what it acknowledges, the text is the table over these.
+abbrev pub IsDefinedWhereSound : List ProbeKind → JobData → ViewState → Files → List ℕ → Type 0
+IsDefinedWhereSound kinds job view files text = (world : World) → IsViewOf job.parts.digest (frames_of job) files view
+    → IsSoundReel job world files → text ≡ defined_table kinds job world view
 
 pub record IsTable (kinds : List ProbeKind) (view : ViewState) (text : List ℕ) : Type 0 where
   pub rows : List Row

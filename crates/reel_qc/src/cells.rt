@@ -6,8 +6,8 @@ ghost use Rattle.record_timeline.specs.Accepted.{first_frame, frame_count};
 ghost use Rattle.cf_base.specs.Count.{HasCause};
 ghost use Rattle.reel_disk.specs.Disk.{view_of, IsStill};
 ghost use Rattle.reel_writer.specs.Reel.{frames_of};
-ghost use Rattle.reel_qc.specs.Boxes.{HasPicture, HasPictures, IsCell};
-ghost use Rattle.reel_qc.specs.Sheet.{cell_frames, cell_picture, first_frames, frames_in, most_cells, picture_at, place_picture, whole_picture};
+ghost use Rattle.reel_qc.specs.Boxes.{HasPicture, IsCell, HasRow};
+ghost use Rattle.reel_qc.specs.Sheet.{cell_frames, cell_picture, first_frames, frames_in, most_cells, place_picture, whole_picture};
 
 use crate::boxes::{Boxes, boxes_of};
 use crate::sheet::SheetFault;
@@ -83,8 +83,7 @@ pub(crate) fn load_row<D: Disk>(
     requires row { row ≤ 4096 }
     requires piece { length buffers.old.piece.items ≡ 65536 }
     ensures cells { IfOk result (λ cells. length cells.items ≡ 8) }
-    ensures pictures { IfOk result (λ cells. HasPictures job.now (D.tells ≡ true)
-        (λ c. picture_at job.now view.now (view_of (D.history disk.old)) (row * 8 + c)) cells.items) }
+    ensures pictures { IfOk result (λ cells. HasRow job.now view.now D.tells (D.history disk.old) row cells.items) }
     ensures piece { length buffers.new.piece.items ≡ 65536 }
     ensures still { D.tells ≡ true → IsStill (D.history disk.old) (D.history disk.new) }
     ensures same { D.loans disk.new ≡ D.loans disk.old }

@@ -1,9 +1,9 @@
 //! The pixels of the sheet, drawn line by line from the top.
-ghost use Rattle.std.specs.Prelude.{◌≡◌, ◌++◌, ◌+◌, ◌*◌, ◌/◌, ◌%◌, ◌<◌, ◌≤◌, ℕ, List, Option, None, length, max, slice_index, slice_index_or, OnOk};
+ghost use Rattle.std.specs.Prelude.{◌≡◌, ◌++◌, ◌+◌, ◌*◌, ◌/◌, ◌%◌, ◌<◌, ◌≤◌, ℕ, List, Option, length, max, slice_index, OnOk};
 ghost use Rattle.std.specs.List.{fold};
 ghost use Rattle.cf_base.specs.Rgb.{codes_of};
-ghost use Rattle.reel_qc.specs.Boxes.{AreCells, DrawsCells, at_pixel, pictured_line, pictured_row};
-ghost use Rattle.reel_qc.specs.Sheet.{box_colour, cell_height, cell_width, sheet_width, toned, toned_bytes};
+ghost use Rattle.reel_qc.specs.Boxes.{AreCells, DrawsCells, at_pixel, pictured_line, pictured_row, IsPictured};
+ghost use Rattle.reel_qc.specs.Sheet.{sheet_width, toned, toned_bytes};
 
 use crate::boxes::{Boxes, boxes_of, cell_colour};
 use crate::tone::Tone;
@@ -87,9 +87,7 @@ fn pixel_colour(job: &Job, cells: &[Option<Boxes>], x: u32, y: u32) -> Rgb
     requires column { x < sheet_width job.now }
     requires cells { length cells.now ≡ 8 }
     requires pictures { (pictures : List (Option (List ℕ))) × AreCells job.now pictures cells.now }
-    ensures { (pictures : List (Option (List ℕ))) → AreCells job.now pictures cells.now
-        → codes_of result
-        ≡ box_colour job.now (slice_index_or pictures (x / cell_width job.now) None) (x % cell_width job.now) (y % cell_height job.now) }
+    ensures { IsPictured job.now cells.now x y (codes_of result) }
 {
     job.recall();
     let columns = boxes_of(job.width());

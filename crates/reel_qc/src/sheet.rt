@@ -1,15 +1,14 @@
 //! The contact sheet, as a file of the reel folder.
-ghost use Rattle.std.specs.Prelude.{◌≡◌, ◌≢◌, ◌+◌, ◌*◌, ◌/◌, ◌<◌, ◌≤◌, All, ℕ, Some, true, length, OnOk, IfOk, IsErrOf, Err};
+ghost use Rattle.std.specs.Prelude.{◌≡◌, ◌≢◌, ◌+◌, ◌*◌, ◌/◌, ◌<◌, ◌≤◌, All, ℕ, true, length, OnOk, IfOk, IsErrOf, Err};
 ghost use Rattle.cf_base.specs.Count.{HasCause};
 ghost use Rattle.cf_base.specs.declared.file.FileId.TheVariants.{Sheet};
 ghost use Rattle.dpx_header.specs.Writing.{IsOutHead, header_of};
-ghost use Rattle.reel_disk.specs.Disk.{moment_of, view_of, IsStill};
-ghost use Rattle.reel_disk.specs.Runs.{Extends, LeavesOnly, Spares, Surely};
+ghost use Rattle.reel_disk.specs.Disk.{view_of, IsStill};
+ghost use Rattle.reel_disk.specs.Runs.{Extends, Spares, StaysSo};
 ghost use Rattle.reel_writer.specs.Reel.{frames_of, HasAcked, IsSoundReel};
-ghost use Rattle.resume_ledger.specs.Steps.{IsFirmly};
 ghost use Rattle.scan_source.specs.World.{World};
 ghost use Rattle.reel_qc.specs.Boxes.{DrawsRow, DrawsSheet};
-ghost use Rattle.reel_qc.specs.Sheet.{cell_frames, cell_height, sheet_file, sheet_head, sheet_peak, sheet_rows};
+ghost use Rattle.reel_qc.specs.Sheet.{cell_frames, cell_height, sheet_file, sheet_head, sheet_peak, sheet_rows, HasWrittenSheet};
 
 use crate::boxes::boxes_of;
 use crate::cells::{cell_frames, load_row};
@@ -58,8 +57,8 @@ pub fn make_sheet<D: Disk>(
     requires size { length view.now.gates ≡ frames_of job.now }
 
     // The sheet is there, and a crash keeps it so.
-    ensures sheet { OnOk result (D.tells ≡ true → IsFirmly (D.history disk.old) (D.history disk.new) Sheet
-        (Some (sheet_file tone.now.table job.now view.now (view_of (D.history disk.old))))) }
+    ensures sheet { OnOk result (D.tells ≡ true
+        → HasWrittenSheet tone.now.table job.now view.now (D.history disk.old) (D.history disk.new)) }
     ensures cells { IfOk result (λ done. done.cells ≡ length (cell_frames job.now)) }
     ensures peak { IfOk result (λ done. D.tells ≡ true
         → done.peak ≡ sheet_peak tone.now.table job.now view.now (view_of (D.history disk.old))) }
@@ -68,38 +67,11 @@ pub fn make_sheet<D: Disk>(
     // At each moment all other files are as they were, what is sound and fit stays so, and so does what is acknowledged.
     ensures past { D.tells ≡ true → Extends (D.history disk.old) (D.history disk.new) }
     ensures spares { D.tells ≡ true → Spares (D.history disk.old) (D.history disk.new) (λ q. q ≡ Sheet) }
-    ensures sound { D.tells ≡ true → (world : World) → Surely (moment_of (D.history disk.old)) (IsSoundReel job.now world)
-        → LeavesOnly (D.history disk.old) (D.history disk.new) (IsSoundReel job.now world) }
-    ensures kept { D.tells ≡ true → (i : ℕ) → Surely (moment_of (D.history disk.old)) (HasAcked job.now i)
-        → LeavesOnly (D.history disk.old) (D.history disk.new) (HasAcked job.now i) }
+    ensures sound { D.tells ≡ true → (world : World)
+        → StaysSo (D.history disk.old) (D.history disk.new) (IsSoundReel job.now world) }
+    ensures kept { D.tells ≡ true → (i : ℕ) → StaysSo (D.history disk.old) (D.history disk.new) (HasAcked job.now i) }
 
     // Where memory was missing, nothing was written.
-    ensures still { result ≡ Err SheetFault.NoMemory → D.tells ≡ true → IsStill (D.history disk.old) (D.history disk.new) }
-    ensures same { D.loans disk.new ≡ D.loans disk.old }
-    ensures cause { HasCause (D.faults disk.old) (D.faults disk.new)
-        (IsErrOf result SheetFault.DiskFault) }
-    ensures steady { result ≢ Err SheetFault.DiskFault → D.faults disk.new ≡ D.faults disk.old }
-{
-    write_sheet(alloc, disk, job, view, tone)
-}
-
-/// The same: what stays sound and acknowledged follows from what is left as it was.
-fn write_sheet<D: Disk>(
-    alloc: Global,
-    disk: &mut D,
-    job: &Job,
-    view: &LedgerView,
-    tone: &Tone,
-) -> Result<SheetDone, SheetFault>
-    requires size { length view.now.gates ≡ frames_of job.now }
-    ensures sheet { OnOk result (D.tells ≡ true → IsFirmly (D.history disk.old) (D.history disk.new) Sheet
-        (Some (sheet_file tone.now.table job.now view.now (view_of (D.history disk.old))))) }
-    ensures cells { IfOk result (λ done. done.cells ≡ length (cell_frames job.now)) }
-    ensures peak { IfOk result (λ done. D.tells ≡ true
-        → done.peak ≡ sheet_peak tone.now.table job.now view.now (view_of (D.history disk.old))) }
-    ensures code { IfOk result (λ done. done.peak ≤ 1023) }
-    ensures past { D.tells ≡ true → Extends (D.history disk.old) (D.history disk.new) }
-    ensures spares { D.tells ≡ true → Spares (D.history disk.old) (D.history disk.new) (λ q. q ≡ Sheet) }
     ensures still { result ≡ Err SheetFault.NoMemory → D.tells ≡ true → IsStill (D.history disk.old) (D.history disk.new) }
     ensures same { D.loans disk.new ≡ D.loans disk.old }
     ensures cause { HasCause (D.faults disk.old) (D.faults disk.new)

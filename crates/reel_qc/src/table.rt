@@ -3,10 +3,8 @@ ghost use Rattle.std.specs.Prelude.{◌≡◌, ◌≢◌, ◌∷◌, [], ◌++�
 ghost use Rattle.cf_base.specs.Count.{HasCause};
 ghost use Rattle.printed_text.specs.Text.{spaced_line};
 ghost use Rattle.reel_disk.specs.Disk.{view_of, IsStill};
-ghost use Rattle.reel_writer.specs.Reel.{frames_of, IsSoundReel};
-ghost use Rattle.resume_ledger.specs.Look.{IsViewOf};
-ghost use Rattle.scan_source.specs.World.{World};
-ghost use Rattle.reel_qc.specs.Table.{AddsRow, AddsRows, IsTable, defined_table, kind_word, quality_table, row_line};
+ghost use Rattle.reel_writer.specs.Reel.{frames_of};
+ghost use Rattle.reel_qc.specs.Table.{AddsRow, AddsRows, IsTable, kind_word, quality_table, row_line, IsDefinedWhereSound};
 
 use crate::counter::Counter;
 use crate::probe::{Probe, ProbeKind};
@@ -45,10 +43,8 @@ pub fn quality_table<D: Disk, C: Counter>(
         → text.items ≡ quality_table (map (λ p. p.kind) probes.now) job.now view.now (view_of (D.history disk.old))) }
 
     // Where the folder is sound, and the view is what it acknowledges, these are the files of the definition.
-    ensures sound { IfOk result (λ text. D.tells ≡ true → (world : World)
-        → IsViewOf job.now.parts.digest (frames_of job.now) (view_of (D.history disk.old)) view.now
-        → IsSoundReel job.now world (view_of (D.history disk.old))
-        → text.items ≡ defined_table (map (λ p. p.kind) probes.now) job.now world view.now) }
+    ensures sound { IfOk result (λ text. D.tells ≡ true
+        → IsDefinedWhereSound (map (λ p. p.kind) probes.now) job.now view.now (view_of (D.history disk.old)) text.items) }
 
     // Which frames have a line is known over every disk.
     ensures known { IfOk result (λ text. IsTable (map (λ p. p.kind) probes.now) view.now text.items) }

@@ -4,11 +4,12 @@
 --     HasChecked      what a check of the reel's files finds
 use Rattle.std.specs.Prelude.{◌≡◌, ◌≢◌, ℕ, ◌<◌, List, length, map, cond, count_by, is_some, Some, Result, Ok, Err}
 use Rattle.std.specs.List.{range_with_len}
+use Rattle.scan_source.specs.World.{World}
 use Rattle.conform_job.specs.Job.{JobData, file_of}
 use Rattle.reel_disk.specs.Disk.{Files}
 use Rattle.resume_ledger.specs.Hash.{digest_of_file}
-use Rattle.resume_ledger.specs.Look.{ViewState, hash_at}
-use Rattle.reel_writer.specs.Reel.{frames_of}
+use Rattle.resume_ledger.specs.Look.{ViewState, IsViewOf, hash_at}
+use Rattle.reel_writer.specs.Reel.{frames_of, IsSoundReel}
 use Rattle.reel_writer.specs.declared.damage.CheckFault.{CheckFault}
 use Rattle.reel_writer.specs.declared.damage.CheckFault.TheVariants.{Damaged, DiskFault, NoMemory}
 
@@ -24,6 +25,12 @@ pub record IsDamaged (job : JobData) (view : ViewState) (files : Files) (i : ℕ
 abbrev pub AreIntact : JobData → ViewState → Files → ℕ → Type 0
 AreIntact job view files count = (k : ℕ) → k < count → (kept found : List ℕ)
     → IsDamaged job view files k kept found → ⊥
+
+-- Where the folder is sound, and the view is what it acknowledges, none is damaged.
+abbrev pub IsIntactWhereSound : JobData → ViewState → Files → Type 0
+IsIntactWhereSound job view files = (world : World)
+    → IsViewOf job.parts.digest (frames_of job) files view → IsSoundReel job world files
+    → AreIntact job view files (frames_of job)
 
 -- how many frames have a record
 abbrev pub record_count : ViewState → ℕ

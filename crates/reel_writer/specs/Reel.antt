@@ -3,7 +3,7 @@
 --     frames_of job      how many frames the reel has
 --     reel_of job files      for each frame its file and its bytes
 --     IsReelRun job told old new      what each call on the reel keeps, and so does each run of them
-use Rattle.std.specs.Prelude.{◌≡◌, ◌≢◌, ◌⊎◌, ℕ, ◌<◌, List, Option, Some, IfSome}
+use Rattle.std.specs.Prelude.{◌≡◌, ◌≢◌, ◌⊎◌, ℕ, ◌<◌, List, Option, Some, IfSome, Result}
 use Rattle.cf_base.specs.declared.file.FileId.{FileId}
 use Rattle.cf_base.specs.declared.file.FileId.TheVariants.{Body2}
 use Rattle.scan_source.specs.World.{World, file_at}
@@ -11,9 +11,11 @@ use Rattle.record_timeline.specs.Accepted.{frame_count}
 use Rattle.conform_job.specs.Job.{JobData, file_of}
 use Rattle.conform_job.specs.Refusals as sources
 use Rattle.frame_render.specs.Frame.{frame_file, frame_size}
-use Rattle.reel_disk.specs.Disk.{Files, History, moment_of, view_of}
-use Rattle.reel_disk.specs.Runs.{Extends, LeavesOnly, Surely, NeverForgets, Spares}
-use Rattle.resume_ledger.specs.Ledger.{Acks}
+use Rattle.reel_disk.specs.Disk.{Files, History, view_of}
+use Rattle.reel_disk.specs.Runs.{Extends, NeverForgets, Spares, StaysSo}
+use Rattle.resume_ledger.specs.Attach.{HasAttached}
+use Rattle.resume_ledger.specs.Ledger.{Acks, LedgerState}
+use Rattle.resume_ledger.specs.declared.attach.OpenFault.{OpenFault}
 use Rattle.resume_ledger.specs.Sound.{Reel, IsReel, IsSoundAndFit, StaysSound, KeepsAcks, AddsAtMost, HasItsFiles}
 
 abbrev pub frames_of : JobData → ℕ
@@ -40,6 +42,11 @@ HasStored file bytes files = files file ≡ Some bytes
 abbrev pub HasFrameFiles : JobData → Files → Type 0
 HasFrameFiles job = HasItsFiles job.parts.digest (frames_of job) (file_of job) (frame_size job)
 
+-- The answer of an opening of the folder for the job, whose frames' files have that length.
+abbrev pub HasBegun : JobData → ℕ → History → History → Result LedgerState OpenFault → Type 0
+HasBegun job size old new result =
+    HasAttached job.parts.digest (frames_of job) (file_of job) size old new result
+
 -- No acknowledgement is lost.
 abbrev pub KeepsReel : JobData → History → History → Type 0
 KeepsReel job old new = (k : ℕ) → NeverForgets old new (HasAcked job k)
@@ -50,8 +57,7 @@ KeepsReel job old new = (k : ℕ) → NeverForgets old new (HasAcked job k)
 pub record IsReelRun (job : JobData) (told : Option World) (old new : History) : Type 0 where
   pub extends : Extends old new
   pub keeps : HasFrameFiles job (view_of old) → KeepsReel job old new
-  pub sound : IfSome told (λ world. Surely (moment_of old) (IsSoundReel job world)
-      → LeavesOnly old new (IsSoundReel job world))
+  pub sound : IfSome told (λ world. StaysSo old new (IsSoundReel job world))
 
 -- The rest is said of the steps of a finish.
 

@@ -1,11 +1,9 @@
 //! A check of a reel's files against the ledger's records.
 ghost use Rattle.std.specs.Prelude.{◌≡◌, ◌≢◌, ◌+◌, ◌<◌, true, length, IsErrOf, Err};
 ghost use Rattle.cf_base.specs.Count.{HasCause};
-ghost use Rattle.scan_source.specs.World.{World};
 ghost use Rattle.reel_disk.specs.Disk.{view_of, IsStill};
-ghost use Rattle.resume_ledger.specs.Look.{IsViewOf};
-ghost use Rattle.reel_writer.specs.Reel.{frames_of, IsSoundReel};
-ghost use Rattle.reel_writer.specs.Damage.{AreIntact, HasChecked, IsCheckFor, HasCheckedOne, IsCheckOneFor};
+ghost use Rattle.reel_writer.specs.Reel.{frames_of};
+ghost use Rattle.reel_writer.specs.Damage.{HasChecked, IsCheckFor, HasCheckedOne, IsCheckOneFor, IsIntactWhereSound};
 
 use conform_job::Job;
 use reel_disk::{Disk, DiskFault};
@@ -45,10 +43,8 @@ pub fn check<D: Disk>(
         → HasChecked job.now view.now (view_of (D.history disk.old)) result }
 
     // Where the folder is sound, and the view is what it acknowledges, no frame is damaged.
-    ensures intact { D.tells ≡ true → (world : World)
-        → IsViewOf job.now.parts.digest (frames_of job.now) (view_of (D.history disk.old)) view.now
-        → IsSoundReel job.now world (view_of (D.history disk.old))
-        → AreIntact job.now view.now (view_of (D.history disk.old)) (frames_of job.now) }
+    ensures intact { D.tells ≡ true
+        → IsIntactWhereSound job.now view.now (view_of (D.history disk.old)) }
 
     // What the disk holds stays as it is, at every moment and whatever the answer is.
     ensures still { D.tells ≡ true → IsStill (D.history disk.old) (D.history disk.new) }

@@ -8,8 +8,8 @@ ghost use Rattle.reel_disk.specs.Disk.{view_of};
 ghost use Rattle.reel_disk.specs.Runs.{Narrows, Spares};
 ghost use Rattle.resume_ledger.specs.Ledger.{IsInForce, IsLedgerFile, IsWrittenLedgerFile};
 ghost use Rattle.resume_ledger.specs.Sound.{file_at, IsOpeningRun, AddsNone, WritesOnly};
-ghost use Rattle.resume_ledger.specs.Attach.{HasAttached, IsAnswerTo};
-ghost use Rattle.reel_writer.specs.Reel.{frames_of};
+ghost use Rattle.resume_ledger.specs.Attach.{IsAnswerTo};
+ghost use Rattle.reel_writer.specs.Reel.{frames_of, HasBegun};
 
 use cf_base::FileId;
 use conform_job::Job;
@@ -40,8 +40,7 @@ pub(crate) fn attach_for<D: Disk>(
     size: u64,
 ) -> Result<Ledger, OpenFault>
     ensures answer { D.tells ≡ true
-        → HasAttached job.now.parts.digest (frames_of job.now) (file_of job.now) size
-        (D.history disk.old) (D.history disk.new) result }
+        → HasBegun job.now size (D.history disk.old) (D.history disk.new) result }
     ensures run { D.tells ≡ true
         → IsOpeningRun job.now.parts.digest (frames_of job.now) (file_of job.now) size
         (D.history disk.old) (D.history disk.new) }

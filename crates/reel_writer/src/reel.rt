@@ -8,8 +8,8 @@ ghost use Rattle.frame_render.specs.Frame.{frame_size};
 ghost use Rattle.scan_source.specs.World.{World};
 ghost use Rattle.resume_ledger.specs.Ledger.{IsInForce, IsLedgerFile, IsWrittenLedgerFile};
 ghost use Rattle.resume_ledger.specs.Sound.{AddsNone, AddsAtMost, WritesOnly};
-ghost use Rattle.resume_ledger.specs.Attach.{HasAttached, IsAnswerTo};
-ghost use Rattle.reel_writer.specs.Reel.{frames_of, HasAcked, HasFrameFiles, HasStored, IsSoundReel, IsReelRun, KeepsReel, IsWrittenFile};
+ghost use Rattle.resume_ledger.specs.Attach.{IsAnswerTo};
+ghost use Rattle.reel_writer.specs.Reel.{frames_of, HasAcked, HasFrameFiles, HasStored, IsSoundReel, IsReelRun, KeepsReel, IsWrittenFile, HasBegun};
 ghost use Rattle.reel_writer.specs.View.{ReelView, IsReelOf, IsOpening, after_finish, after_fault, ledger_in, disk_in};
 
 use crate::files::{attach_for, frame_len};
@@ -83,8 +83,8 @@ impl<D: Disk, N: Work> Reel<D, N> {
 
         // By the view at the start: which answer comes, and what the disk holds then.
         ensures answer { D.tells ≡ true
-            → HasAttached N.job.parts.digest (frames_of N.job) (file_of N.job) (frame_size N.job)
-            (D.history disk) (D.history (disk_in result)) (ledger_in result) }
+            → HasBegun N.job (frame_size N.job) (D.history disk) (D.history (disk_in result))
+            (ledger_in result) }
 
         // A crash at any moment of the call leaves a folder whose acknowledged frames are the
         // reel's. No acknowledgement is lost, where each frame that version 1 acknowledges has a

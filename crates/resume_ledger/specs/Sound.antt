@@ -5,7 +5,7 @@ use Rattle.cf_base.specs.declared.file.FileId.TheVariants.{Frame, Seal}
 use Rattle.sha2.specs.Sha256.{sha256}
 use Rattle.reel_disk.specs.declared.disk.Place.{Place}
 use Rattle.reel_disk.specs.Disk.{Files, Moment, IsImage, IsFirm, IsLoose, file_of, History, moment_of, view_of, loose_of}
-use Rattle.reel_disk.specs.Runs.{Extends, LeavesOnly, Narrows, Surely, NeverForgets}
+use Rattle.reel_disk.specs.Runs.{Extends, LeavesOnly, Narrows, Surely, NeverForgets, StaysSo}
 use Rattle.resume_ledger.specs.declared.layout.Version.TheVariants.{One, Two}
 use Rattle.resume_ledger.specs.Ledger.{IsInForce, LedgerState, Acks, IsFit, HasRecord}
 
@@ -41,8 +41,7 @@ pub record IsStored (moment : Moment) (reel : Reel) (i : ℕ) : Type 0 where
 
 -- Where whatever a crash leaves at the start is sound and fit, it is so at each moment.
 abbrev pub StaysSound : List ℕ → ℕ → Reel → History → History → Type 0
-StaysSound digest count reel old new = Surely (moment_of old) (IsSoundAndFit digest count reel)
-    → LeavesOnly old new (IsSoundAndFit digest count reel)
+StaysSound digest count reel old new = StaysSo old new (IsSoundAndFit digest count reel)
 
 -- No acknowledgement is lost.
 abbrev pub KeepsAcks : List ℕ → ℕ → History → History → Type 0
@@ -71,8 +70,15 @@ AddsNothing digest count old new = (k : ℕ) → LeavesOnly old new (λ files. A
 abbrev pub AddsAtMost : ℕ → List ℕ → ℕ → History → History → Type 0
 AddsAtMost i digest count old new = (k : ℕ) → k ≢ i → LeavesOnly old new (λ files. Acks digest count k files ↔ Acks digest count k (view_of old))
 
--- The same of a ledger's job: no acknowledgement is lost; none is made; none but that of frame i is made; and a crash now leaves
--- frame i acknowledged.
+-- The same of a ledger's job: it is a run, whatever the reel is, or of each reel that has frame i stored; no acknowledgement is
+-- lost; none is made; none but that of frame i is made; and a crash now leaves frame i acknowledged.
+abbrev pub RunsAnyReel : LedgerState → History → History → Type 0
+RunsAnyReel ledger old new = (reel : Reel) → IsReel (length ledger.gates) reel → IsRun ledger.digest (length ledger.gates) reel old new
+
+abbrev pub RunsReelsWith : ℕ → LedgerState → History → History → Type 0
+RunsReelsWith i ledger old new = (reel : Reel) → IsReel (length ledger.gates) reel → IsStored (moment_of old) reel i
+    → IsRun ledger.digest (length ledger.gates) reel old new
+
 abbrev pub LosesNone : LedgerState → History → History → Type 0
 LosesNone ledger old new = KeepsAcks ledger.digest (length ledger.gates) old new
 

@@ -1,13 +1,12 @@
 //! The ledger of a job: one gate for each frame.
 ghost use Rattle.std.specs.Prelude.{◌≡◌, ◌<◌, ◌≤◌, true, false, length, set, slice_index_or, OnOk, OnErr, IsErr, count_by};
 ghost use Rattle.cf_base.specs.Count.{HasCause};
-ghost use Rattle.cf_base.specs.declared.file.FileId.{FileId as Id};
 ghost use Rattle.cf_base.specs.declared.file.FileId.TheVariants.{Body2};
 ghost use Rattle.reel_disk.specs.Disk.{moment_of, view_of};
 ghost use Rattle.reel_disk.specs.Runs.{Extends, Spares, StaysFirm};
 ghost use Rattle.resume_ledger.specs.declared.layout.Version.TheVariants.{Two};
 ghost use Rattle.resume_ledger.specs.Ledger.{Agrees, IsLedger, HasRecord};
-ghost use Rattle.resume_ledger.specs.Sound.{Reel, IsReel, IsStored, IsRun, LosesNone, OpensNone, OpensAtMost, SurelyAcks};
+ghost use Rattle.resume_ledger.specs.Sound.{RunsAnyReel, RunsReelsWith, LosesNone, OpensNone, OpensAtMost, SurelyAcks};
 ghost use Rattle.resume_ledger.specs.Steps.{HasWrittenGate, HasWrittenRecord};
 
 use crate::body::OPEN;
@@ -88,8 +87,7 @@ impl Ledger {
 
         // A crash at any moment of the call leaves a folder whose acknowledged frames are the reel's, with their records, and
         // no acknowledgement is lost, whatever the reel is.
-        ensures run { D.tells ≡ true → (reel : Reel) → IsReel (length self.old.gates) reel
-            → IsRun self.old.digest (length self.old.gates) reel (D.history disk.old) (D.history disk.new) }
+        ensures run { D.tells ≡ true → RunsAnyReel self.old (D.history disk.old) (D.history disk.new) }
         ensures none_lost { D.tells ≡ true → LosesNone self.old (D.history disk.old) (D.history disk.new) }
 
         // No frame is acknowledged, and no file but the second body is written, also after a fault.
@@ -129,9 +127,7 @@ impl Ledger {
         ensures past { D.tells ≡ true → Extends (D.history disk.old) (D.history disk.new) }
 
         // A crash at any moment of the call leaves a folder whose acknowledged frames are the reel's, with their records.
-        ensures run { D.tells ≡ true → (reel : Reel) → IsReel (length self.old.gates) reel
-            → IsStored (moment_of (D.history disk.old)) reel i
-            → IsRun self.old.digest (length self.old.gates) reel (D.history disk.old) (D.history disk.new) }
+        ensures run { D.tells ≡ true → RunsReelsWith i self.old (D.history disk.old) (D.history disk.new) }
 
         // No acknowledgement is lost, whatever the reel is.
         ensures none_lost { D.tells ≡ true → LosesNone self.old (D.history disk.old) (D.history disk.new) }

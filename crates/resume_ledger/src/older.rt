@@ -1,13 +1,12 @@
 //! Opening a folder that is not sealed by version 2: an unsealed one, or one of version 1, which is taken over.
-ghost use Rattle.std.specs.Prelude.{◌≡◌, ◌≢◌, ◌+◌, ◌*◌, ◌<◌, ◌≤◌, ℕ, List, true, length, slice_index, OnOk, IsErr, IsErrOf, Err};
+ghost use Rattle.std.specs.Prelude.{◌≡◌, ◌≢◌, ◌+◌, ◌*◌, ◌<◌, ◌≤◌, ℕ, true, length, slice_index, OnOk, IsErr, IsErrOf, Err};
 ghost use Rattle.cf_base.specs.Count.{HasCause};
-ghost use Rattle.cf_base.specs.declared.file.FileId.{FileId as Id};
 ghost use Rattle.reel_disk.specs.Disk.{view_of, moment_of, loose_of, IsFirm, IsStill};
 ghost use Rattle.resume_ledger.specs.Body.{closed_body};
 ghost use Rattle.resume_ledger.specs.Ledger.{IsInForce};
 ghost use Rattle.resume_ledger.specs.Sound.{IsFrameFile, file_at};
 ghost use Rattle.resume_ledger.specs.Attach.{HasAttachedTo, IsAnswerTo};
-ghost use Rattle.resume_ledger.specs.Steps.{IsReading, IsOlder, IsFirstBody, HasAcked, IsAckedFor, HasFirstBodyOf, IsFirstFor, IsRecorded, OthersKept, AreNoted, IsOpeningPart, IsOpeningPartOf, IsBegun};
+ghost use Rattle.resume_ledger.specs.Steps.{IsReading, HasAcked, IsAckedFor, HasFirstBodyOf, IsFirstFor, IsRecorded, OthersKept, AreNoted, IsOpeningPartOf, TakesOver, IsBegun};
 
 use crate::body::{closed, gates, judge, set_record};
 use crate::hash::hash_of_file;
@@ -208,11 +207,7 @@ fn record_all<D: Disk>(
 
 /// Puts version 2 in force: its body is on the disk before there is its seal.
 fn begin_second<D: Disk>(disk: &mut D, body: &[u8]) -> Result<(), DiskFault>
-    ensures part { D.tells ≡ true → (digest : List ℕ) (count : ℕ) (name : ℕ → Id) (size : ℕ)
-        → ((i : ℕ) → i < count → IsFrameFile (name i))
-        → IsOlder digest count (moment_of (D.history disk.old))
-        → IsFirstBody digest count name size (view_of (D.history disk.old)) body.now
-        → IsOpeningPart digest count name size (D.history disk.old) (D.history disk.new) }
+    ensures part { D.tells ≡ true → TakesOver body.now (D.history disk.old) (D.history disk.new) }
     ensures begun { OnOk result (D.tells ≡ true → IsBegun body.now (moment_of (D.history disk.new))) }
     ensures same { D.loans disk.new ≡ D.loans disk.old }
     ensures cause { HasCause (D.faults disk.old) (D.faults disk.new) (IsErr result) }

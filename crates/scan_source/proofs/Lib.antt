@@ -1,4 +1,5 @@
 pub mod Files
 pub mod Heads
+pub mod Leaving
 mod Lookup
 mod Rows

@@ -1,4 +1,5 @@
 pub mod Answers
+pub mod Leaves
 pub mod Memory
 pub mod Plan
 pub mod Planned

@@ -4,8 +4,8 @@ ghost use Rattle.std.specs.Prelude.{◌≡◌, ◌≢◌, ◌<◌, IfErr, IfOk, 
 ghost use Rattle.render_board.specs.declared.board.Turn.TheVariants as turns;
 ghost use Rattle.render_board.specs.declared.step.Why.TheVariants as whys;
 ghost use Rattle.reel_writer.specs.Reel.{frames_of};
-ghost use Rattle.shared_station.specs.Leaving.{HasGone, HasLeft, HasTaken, IsUntaken};
-ghost use Rattle.shared_station.specs.StationSteps.{MayStop, after_failed, after_finished, after_stopped};
+ghost use Rattle.shared_station.specs.Leaving.{HasGone, HasLeft, HasTaken, IsUntaken, HasGoneHolding};
+ghost use Rattle.shared_station.specs.StationSteps.{MayStop, after_finished, after_stopped};
 
 use crate::crewed::Crewed;
 use crate::leaving::{Away, Held, Leave, Reason};
@@ -61,8 +61,7 @@ impl<D: Disk, N: Work + Start, W: Crewed, A: Ledger, B: Ledger, C: Ledger, E: Le
         requires index { frame.now.index ≡ held }
         ensures finished { OnOk result (self.new ≡ after_finished self.old worker held self.new.reel.disk) }
         ensures unmarked { OnOk result (marks.new ≡ marks.old) }
-        ensures gone { IfErr result (λ leave. HasGone (λ turn. turn ≡ turns.Holds held) self.old worker
-            (after_failed self.old worker self.new.reel.disk) leave self.new) }
+        ensures gone { IfErr result (λ leave. HasGoneHolding held self.old worker leave self.new) }
         ensures left { IfErr result (HasLeft (λ why. why ≡ whys.Disk) marks.old marks.new) }
     {
         let Held { frame: taken } = held;

@@ -21,7 +21,7 @@ use Rattle.reel_writer.specs.Reel.{frames_of, HasAcked, IsReelRun, IsSoundReel}
 use Rattle.reel_writer.specs.View.{ReelView, IsReelOf}
 use Rattle.single_run.specs.Asks.{closed_frames}
 use Rattle.single_run.specs.Ends.{refused_by}
-use Rattle.single_run.specs.Run.{AreAllAcked, HasRefused, HasWhole, IsWhole, WasRefused}
+use Rattle.single_run.specs.Run.{AreAllAcked, IsWhyUnopened, HasWhole, IsWhole, WasUnopened}
 use Rattle.conform_job.specs.Answers.{count_after}
 use Rattle.single_run.specs.Ran.{WereFinished}
 use Rattle.single_run.specs.declared.run_end.Report.{Report}
@@ -129,7 +129,7 @@ whole_reel job told old new run acked = record { shown = by told run.sound }
 
 -- why a folder was not opened
 refused : (job : JobData) (tells : Bool) (old new : History) (fault : OpenFault) → IsRefusalFor job.parts.digest fault → (tells ≡ true → IsRefused job.parts.digest (frames_of job) old new fault) → (tells ≡ true → AddsNone job.parts.digest (frames_of job) old new)
-    → HasRefused job tells old new (refused_by fault)
+    → IsWhyUnopened job tells old new (refused_by fault)
 refused job tells old new (open_fault.OtherJob kept wanted) known is adds = (known.0, known.1, is)
 refused job tells old new (open_fault.BadLedger len) known is adds = is
 refused job tells old new open_fault.DiskFault known is adds = adds
@@ -137,9 +137,9 @@ refused job tells old new open_fault.NoMemory known is adds = is
 
 pub was_refused : (job : JobData) (tells : Bool) (old new : History) (fault : OpenFault) (end : RunEnd) (report : Report) (log : List ShareStep) → end ≡ refused_by fault
     → IsRefusalFor job.parts.digest fault → (tells ≡ true → IsRefused job.parts.digest (frames_of job) old new fault) → (tells ≡ true → AddsNone job.parts.digest (frames_of job) old new)
-    → (report.kept ≡ 0) × (report.rendered ≡ 0) → (report.loads ≡ 0) × (report.misses ≡ 0) → log ≡ [] → WasRefused job tells old new end report log
+    → (report.kept ≡ 0) × (report.rendered ≡ 0) → (report.loads ≡ 0) × (report.misses ≡ 0) → log ≡ [] → WasUnopened job tells old new end report log
 was_refused job tells old new fault end report log ends known is adds none loads unasked = record {
-  why = subst (HasRefused job tells old new) (sym ends) (refused job tells old new fault known is adds);
+  why = subst (IsWhyUnopened job tells old new) (sym ends) (refused job tells old new fault known is adds);
   kept = none.0;
   rendered = none.1;
   loads = loads;

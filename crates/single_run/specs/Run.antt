@@ -1,6 +1,7 @@
 -- What a run on one thread promises. All of it is this project's own rule.
 --     WasOpened      a run whose folder was opened: what it finished, asked for and left acknowledged
---     WasRefused      a run whose folder was not
+--     WasUnopened      a run whose folder was not
+--     WasRun      one of both
 --     IsWhole      the folder has the whole reel
 use Rattle.std.specs.Prelude.{◌≡◌, ◌≢◌, ◌⊎◌, ◌↔◌, ℕ, ◌+◌, ◌<◌, Bool, true, false, List, [], length, take, count_by, Contains, slice_index_or, Option, Some, IfSome}
 use Rattle.scan_source.specs.World.{World, file_at}
@@ -22,6 +23,34 @@ use Rattle.single_run.specs.declared.run_end.Report.{Report}
 use Rattle.single_run.specs.declared.run_end.RunEnd.{RunEnd}
 use Rattle.single_run.specs.declared.run_end.RunEnd.TheVariants.{Done, OtherJob, BadLedger, Changed, SourceFault, DiskFault, NoMemory}
 
+-- A gate is open just where it was before, or its frame is one of these.
+abbrev pub AreOpened : (before : List Bool) → (finished : List ℕ) → (after : List Bool) → Type 0
+AreOpened before finished after = (k : ℕ) → slice_index_or after k false ≡ true
+    ↔ ((slice_index_or before k false ≡ true) ⊎ Contains finished k)
+
+-- The folder acknowledges frame k just where its gate was open, or it was finished.
+abbrev pub AcksFinished : JobData → (gates : List Bool) → (finished : List ℕ) → History → ℕ → Type 0
+AcksFinished job gates finished new k = HasAcked job k (view_of new)
+    ↔ ((slice_index_or gates k false ≡ true) ⊎ Contains finished k)
+
+-- So it is of each frame but the next one, whose finish failed.
+abbrev pub AcksButNext : JobData → (gates : List Bool) → (finished : List ℕ) → History → Type 0
+AcksButNext job gates finished new = (k : ℕ)
+    → (IsNext gates (frames_of job) (length finished) k → ⊥) → AcksFinished job gates finished new k
+
+-- of all frames but i the folder acknowledges just those whose gate is open
+abbrev pub AcksOpenBut : ℕ → JobData → (gates : List Bool) → History → Type 0
+AcksOpenBut i job gates new = (k : ℕ) → k ≢ i
+    → HasAcked job k (view_of new) ↔ (slice_index_or gates k false ≡ true)
+
+-- When a run ends, the folder acknowledges just the frames whose gate was open and those that it
+-- finished, so many of the others in their order. Where the disk failed, that is so of all frames but
+-- the next one, whose finish failed.
+abbrev pub AcksAtExit : JobData → (gates : List Bool) → RunEnd → (rendered : ℕ) → History → Type 0
+AcksAtExit job gates end rendered new = (k : ℕ)
+    → (end ≡ DiskFault → IsNext gates (frames_of job) rendered k → ⊥)
+    → AcksFinished job gates (take rendered (closed_frames gates (frames_of job))) new k
+
 -- The folder was unsealed or this job's. `gates` are the frames that the opening kept; at Done these and
 -- the rendered ones are the whole reel. The folder
 -- acknowledges now just these and those that the run finished. Where the disk failed, that is so of
@@ -38,34 +67,35 @@ pub record WasOpened (job : JobData) (told : Option World) (capacity : ℕ) (tel
   pub rest : end ≡ Done → report.kept + report.rendered ≡ frames_of job
   pub finished : WereFinished job gates end report.rendered log
   pub shared : WereShared capacity log report
-  pub exit : tells ≡ true → (k : ℕ)
-      → (end ≡ DiskFault → IsNext gates (frames_of job) report.rendered k → ⊥)
-      → HasAcked job k (view_of new)
-      ↔ ((slice_index_or gates k false ≡ true)
-      ⊎ Contains (take report.rendered (closed_frames gates (frames_of job))) k)
+  pub exit : tells ≡ true → AcksAtExit job gates end report.rendered new
 
 -- Why the folder was not opened: 20.1 and 20.2 just where they are so, with nothing written, as
 -- where memory ran out. Where the disk failed, no acknowledgement was made.
-abbrev pub HasRefused : JobData → Bool → History → History → RunEnd → Type 0
-HasRefused job tells old new Done = ⊥
-HasRefused job tells old new (OtherJob kept wanted) = (kept ≢ wanted) × (wanted ≡ job.parts.digest)
+abbrev pub IsWhyUnopened : JobData → Bool → History → History → RunEnd → Type 0
+IsWhyUnopened job tells old new Done = ⊥
+IsWhyUnopened job tells old new (OtherJob kept wanted) = (kept ≢ wanted) × (wanted ≡ job.parts.digest)
     × (tells ≡ true → IsOtherJob job.parts.digest kept wanted old new)
-HasRefused job tells old new (BadLedger len) = tells ≡ true
+IsWhyUnopened job tells old new (BadLedger len) = tells ≡ true
     → IsBadLedger job.parts.digest (frames_of job) len old new
-HasRefused job tells old new (Changed key was now) = ⊥
-HasRefused job tells old new SourceFault = ⊥
-HasRefused job tells old new DiskFault = tells ≡ true
+IsWhyUnopened job tells old new (Changed key was now) = ⊥
+IsWhyUnopened job tells old new SourceFault = ⊥
+IsWhyUnopened job tells old new DiskFault = tells ≡ true
     → AddsNone job.parts.digest (frames_of job) old new
-HasRefused job tells old new NoMemory = tells ≡ true → IsUnwritten old new
+IsWhyUnopened job tells old new NoMemory = tells ≡ true → IsUnwritten old new
 
 -- The folder was not opened, and no source file was asked for.
-pub record WasRefused (job : JobData) (tells : Bool) (old new : History) (end : RunEnd)
+pub record WasUnopened (job : JobData) (tells : Bool) (old new : History) (end : RunEnd)
     (report : Report) (log : List ShareStep) : Type 0 where
-  pub why : HasRefused job tells old new end
+  pub why : IsWhyUnopened job tells old new end
   pub kept : report.kept ≡ 0
   pub rendered : report.rendered ≡ 0
   pub loads : (report.loads ≡ 0) × (report.misses ≡ 0)
   pub unasked : log ≡ []
+
+-- a run whose folder was opened, or was not
+abbrev pub WasRun : JobData → Option World → ℕ → Bool → History → History → RunEnd → Report → List ShareStep → Type 0
+WasRun job told capacity tells old new end report log =
+    WasOpened job told capacity tells old new end report log ⊎ WasUnopened job tells old new end report log
 
 -- each frame's file is the job's
 abbrev pub IsWhole : JobData → World → Moment → Type 0

@@ -1,5 +1,5 @@
 //! A run on one thread.
-ghost use Rattle.std.specs.Prelude.{◌≡◌, ◌≢◌, ◌⊎◌, ◌↔◌, ℕ, ◌<◌, ◌≤◌, [], true, false, length, take, Contains, slice_index_or};
+ghost use Rattle.std.specs.Prelude.{◌≡◌, ◌≢◌, ◌<◌, ◌≤◌, [], true, false, length, take};
 ghost use Rattle.cf_base.specs.Count.{HasCause, HasRisen};
 ghost use Rattle.conform_job.specs.Answers.{AreInfosOf};
 ghost use Rattle.conform_job.specs.Names.{Tells};
@@ -8,13 +8,13 @@ ghost use Rattle.reel_disk.specs.Disk.{Files, moment_of, view_of};
 ghost use Rattle.reel_disk.specs.Runs.{Spares};
 ghost use Rattle.resume_ledger.specs.Sound.{WritesOnly};
 ghost use Rattle.reel_writer.specs.Changes.{IsOwnFile, IsRunFile, MayWrite};
-ghost use Rattle.reel_writer.specs.Reel.{frames_of, HasAcked, HasFrameFiles, IsReelRun, IsSoundReel};
+ghost use Rattle.reel_writer.specs.Reel.{frames_of, HasFrameFiles, IsReelRun, IsSoundReel};
 ghost use Rattle.scan_source.specs.World.{World};
 ghost use Rattle.reel_writer.specs.View.{IsReelOf};
-ghost use Rattle.single_run.specs.Asks.{IsNext, closed_frames};
+ghost use Rattle.single_run.specs.Asks.{closed_frames};
 ghost use Rattle.single_run.specs.Ends.{IsChange, IsEnd, refused_by};
 ghost use Rattle.single_run.specs.Ran.{WereFinished};
-ghost use Rattle.single_run.specs.Run.{AreAllAcked, HasWhole, WasOpened, WasRefused};
+ghost use Rattle.single_run.specs.Run.{AcksAtExit, AcksButNext, AreAllAcked, AreOpened, HasWhole, WasRun};
 ghost use Rattle.single_run.specs.Scanned.{IsScanned};
 ghost use Rattle.single_run.specs.Sharing.{IsDetermined, WereShared};
 
@@ -80,15 +80,11 @@ fn run_shared<N: Work, L: Ledger, S: Scans, D: Disk>(
     ensures misses { loads.new ≡ misses_of result.1 }
     ensures acks { reel.new.acks
         ≡ take (length reel.new.acks) (closed_frames reel.old.ledger.gates (frames_of N.job)) }
-    ensures gates { (k : ℕ)
-        → slice_index_or reel.new.ledger.gates k false ≡ true
-        ↔ ((slice_index_or reel.old.ledger.gates k false ≡ true) ⊎ Contains reel.new.acks k) }
+    ensures gates { AreOpened reel.old.ledger.gates reel.new.acks reel.new.ledger.gates }
     ensures kept { reel.new.kept ≡ reel.old.kept }
     ensures stays_open { result.0 ≢ RunEnd.DiskFault → reel.new.ledger.closed ≡ false }
-    ensures failed { D.tells ≡ true → result.0 ≡ RunEnd.DiskFault → (k : ℕ)
-        → (IsNext reel.old.ledger.gates (frames_of N.job) (length reel.new.acks) k → ⊥)
-        → HasAcked N.job k (view_of (D.history reel.new.disk))
-        ↔ ((slice_index_or reel.old.ledger.gates k false ≡ true) ⊎ Contains reel.new.acks k) }
+    ensures failed { D.tells ≡ true → result.0 ≡ RunEnd.DiskFault
+        → AcksButNext N.job reel.old.ledger.gates reel.new.acks (D.history reel.new.disk) }
     ensures run { D.tells ≡ true
         → IsReelRun N.job N.files (D.history reel.old.disk) (D.history reel.new.disk) }
     ensures spares { D.tells ≡ true
@@ -137,12 +133,8 @@ fn run_opened<N: Work, L: Ledger, S: Scans, D: Disk>(
     ensures kept { result.1.kept ≡ reel.kept }
     ensures frames { result.1.frames ≡ frames_of N.job }
     ensures misses { result.1.misses ≡ result.1.loads }
-    ensures exit { D.tells ≡ true → (k : ℕ)
-        → (result.0 ≡ RunEnd.DiskFault
-        → IsNext reel.ledger.gates (frames_of N.job) result.1.rendered k → ⊥)
-        → HasAcked N.job k (view_of (D.history result.3))
-        ↔ ((slice_index_or reel.ledger.gates k false ≡ true)
-        ⊎ Contains (take result.1.rendered (closed_frames reel.ledger.gates (frames_of N.job))) k) }
+    ensures exit { D.tells ≡ true
+        → AcksAtExit N.job reel.ledger.gates result.0 result.1.rendered (D.history result.3) }
     ensures acked { result.0 ≡ RunEnd.Done → D.tells ≡ true
         → AreAllAcked N.job (moment_of (D.history result.3)) }
     ensures run { D.tells ≡ true
@@ -198,9 +190,7 @@ fn run_owned<N: Work, L: Ledger, S: Scans, D: Disk>(
     requires blank { IsBlankOf L.name L.parts blank.name blank.parts }
     requires unasked { log.old ≡ [] }
 
-    ensures ran { WasOpened N.job N.files share_cap D.tells (D.history disk)
-        (D.history result.2) result.0 result.1 log.new
-        ⊎ WasRefused N.job D.tells (D.history disk) (D.history result.2)
+    ensures ran { WasRun N.job N.files share_cap D.tells (D.history disk) (D.history result.2)
         result.0 result.1 log.new }
     ensures frames { result.1.frames ≡ frames_of N.job }
     ensures misses { result.1.misses ≡ result.1.loads }
@@ -273,9 +263,7 @@ pub fn run_alone<N: Work, S: Scans, D: Disk>(
 
     // Which frames the opening kept, what the folder acknowledges now, what was finished, and which
     // source frames were asked for and loaded; or why the folder wasn't opened.
-    ensures ran { WasOpened N.job N.files share_cap D.tells (D.history disk.old)
-        (D.history disk.new) result.0 result.1 result.2
-        ⊎ WasRefused N.job D.tells (D.history disk.old) (D.history disk.new)
+    ensures ran { WasRun N.job N.files share_cap D.tells (D.history disk.old) (D.history disk.new)
         result.0 result.1 result.2 }
     ensures frames { result.1.frames ≡ frames_of N.job }
     ensures misses { result.1.misses ≡ result.1.loads }

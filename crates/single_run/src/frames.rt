@@ -1,17 +1,17 @@
 //! The frames of a run, in order.
-ghost use Rattle.std.specs.Prelude.{◌≡◌, ◌≢◌, ◌⊎◌, ◌↔◌, ℕ, ◌+◌, ◌-◌, ◌<◌, ◌≤◌, ◌^◌, [], true, false, Ok, Err, length, take, Contains, slice_index_or, IfOk, IfErr, OnOk, OnErr};
+ghost use Rattle.std.specs.Prelude.{◌≡◌, ◌≢◌, ◌+◌, ◌-◌, ◌<◌, ◌≤◌, ◌^◌, [], true, false, Ok, Err, length, take, slice_index_or, IfOk, IfErr, OnOk, OnErr};
 ghost use Rattle.cf_base.specs.Count.{HasCause};
 ghost use Rattle.conform_job.specs.Answers.{AreInfosOf};
 ghost use Rattle.conform_job.specs.Job.{need_at};
 ghost use Rattle.conform_job.specs.Names.{Tells};
 ghost use Rattle.frame_render.specs.Frame.{frame_size};
-ghost use Rattle.reel_disk.specs.Disk.{view_of};
 ghost use Rattle.reel_disk.specs.Runs.{Spares};
 ghost use Rattle.reel_writer.specs.Changes.{IsRunFile};
-ghost use Rattle.reel_writer.specs.Reel.{frames_of, HasAcked, IsReelRun, KeepsReel};
-ghost use Rattle.single_run.specs.Asks.{IsNext, asks_of_frames, closed_frames, frame_if_closed, keys_of_need};
+ghost use Rattle.reel_writer.specs.Reel.{frames_of, IsReelRun, KeepsReel};
+ghost use Rattle.single_run.specs.Asks.{asks_of_frames, closed_frames, frame_if_closed, keys_of_need};
 ghost use Rattle.single_run.specs.Ends.{IsChange, IsEnd, IsStop, IsUnrendered};
 ghost use Rattle.single_run.specs.Ran.{IsPast, IsUnfinished, WereFinished};
+ghost use Rattle.single_run.specs.Run.{AcksButNext, AcksOpenBut, AreOpened};
 ghost use Rattle.single_run.specs.Scanned.{HasLoaded, IsScanned};
 ghost use Rattle.single_run.specs.Sharing.{HasAsked, HasTried};
 
@@ -103,9 +103,8 @@ fn run_frame<N: Work, L: Ledger, S: Scans, D: Disk>(
     ensures unfinished { OnErr result (IsUnfinished reel.old reel.new) }
     ensures stays_open { IfErr result (λ end. end ≢ RunEnd.DiskFault
         → reel.new.ledger.closed ≡ false) }
-    ensures failed { D.tells ≡ true → result ≡ Err RunEnd.DiskFault → (k : ℕ) → k ≢ i
-        → HasAcked N.job k (view_of (D.history reel.new.disk))
-        ↔ (slice_index_or reel.old.ledger.gates k false ≡ true) }
+    ensures failed { D.tells ≡ true → result ≡ Err RunEnd.DiskFault
+        → AcksOpenBut i N.job reel.old.ledger.gates (D.history reel.new.disk) }
     ensures run { D.tells ≡ true
         → IsReelRun N.job N.files (D.history reel.old.disk) (D.history reel.new.disk) }
     ensures none_lost { D.tells ≡ true
@@ -168,15 +167,11 @@ pub(crate) fn run_frames<N: Work, L: Ledger, S: Scans, D: Disk>(
         (length reel.new.acks) share.new.steps }
     ensures acks { reel.new.acks
         ≡ take (length reel.new.acks) (closed_frames reel.old.ledger.gates (frames_of N.job)) }
-    ensures gates { (k : ℕ)
-        → slice_index_or reel.new.ledger.gates k false ≡ true
-        ↔ ((slice_index_or reel.old.ledger.gates k false ≡ true) ⊎ Contains reel.new.acks k) }
+    ensures gates { AreOpened reel.old.ledger.gates reel.new.acks reel.new.ledger.gates }
     ensures kept { reel.new.kept ≡ reel.old.kept }
     ensures stays_open { result ≢ RunEnd.DiskFault → reel.new.ledger.closed ≡ false }
-    ensures failed { D.tells ≡ true → result ≡ RunEnd.DiskFault → (k : ℕ)
-        → (IsNext reel.old.ledger.gates (frames_of N.job) (length reel.new.acks) k → ⊥)
-        → HasAcked N.job k (view_of (D.history reel.new.disk))
-        ↔ ((slice_index_or reel.old.ledger.gates k false ≡ true) ⊎ Contains reel.new.acks k) }
+    ensures failed { D.tells ≡ true → result ≡ RunEnd.DiskFault
+        → AcksButNext N.job reel.old.ledger.gates reel.new.acks (D.history reel.new.disk) }
     ensures run { D.tells ≡ true
         → IsReelRun N.job N.files (D.history reel.old.disk) (D.history reel.new.disk) }
     ensures spares { D.tells ≡ true

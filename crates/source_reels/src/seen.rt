@@ -1,10 +1,10 @@
 //! What the head of a source frame's file says.
-ghost use Rattle.std.specs.Prelude.{◌≡◌, ◌≢◌, ◌≤◌, IfSome};
-ghost use Rattle.cf_base.specs.Count.{HasRisen};
+ghost use Rattle.std.specs.Prelude.{◌≡◌, ◌≢◌, IfSome};
 ghost use Rattle.scan_source.specs.Plan.{one_more};
 ghost use Rattle.scan_source.specs.Planned.{FollowsIfTold};
 ghost use Rattle.scan_source.specs.World.{file_at};
 ghost use Rattle.source_reels.specs.Seen.{IsSeen, IsSeenFrame, IsSeenIn};
+ghost use Rattle.scan_source.specs.Leaves.{LeavesScan};
 
 use cf_base::PathText;
 use dpx_header::{DpxFault, FrameInfo, read_header};
@@ -28,15 +28,11 @@ pub fn inspect<S: Scans>(scans: &mut S, path: &PathText) -> Seen
     ensures told { IfSome (S.world scans.old) (λ files. IsSeen result (file_at files path.now)) }
     ensures frame { IsSeenFrame result }
 
-    ensures failed { result ≡ Seen.Fault → HasRisen (S.faults scans.old) (S.faults scans.new) }
-    ensures steady { result ≢ Seen.Fault → S.faults scans.new ≡ S.faults scans.old }
-    ensures later { S.faults scans.old ≤ S.faults scans.new }
+    ensures scan { LeavesScan S.world S.faults S.same (result ≡ Seen.Fault) scans.old scans.new }
     ensures plan { FollowsIfTold (S.plan scans.old) (S.plan scans.new) (result ≡ Seen.Fault) }
 
     ensures heads { S.heads scans.new ≡ one_more (S.heads scans.old) }
     ensures loads { S.loads scans.new ≡ S.loads scans.old }
-    ensures world { S.world scans.new ≡ S.world scans.old }
-    ensures same { S.same scans.old scans.new }
 {
     let mut head = [0; 2048];
     match scans.head(path, &mut head) {

@@ -27,7 +27,7 @@ use Rattle.reel_writer.specs.Reel.{frames_of, IsReelRun}
 use Rattle.single_run.specs.declared.run_end.Report.{Report}
 use Rattle.single_run.specs.declared.run_end.RunEnd.{RunEnd}
 use Rattle.single_run.specs.declared.run_end.RunEnd.TheVariants.{Done, NoMemory}
-use Rattle.station.specs.Crews.{AreShared, IsCrewRun, WasCrewed, WasUnmade, end_by}
+use Rattle.station.specs.Crews.{AreShared, IsClosedStation, TookSteps, WasUnmade, end_by}
 use Rattle.single_run.specs.Ends.{IsEnd}
 use Rattle.single_run.specs.Run.{AreAllAcked}
 use Rattle.shared_station.specs.Station.{IsStation, StationView, HasChanges, IsCrewFile, MayCrewWrite, ShowsDone}
@@ -64,7 +64,7 @@ with_steps None P Q some made each = absurd (false≢true some)
 with_steps (Some a) P Q some made each = each a made
 
 module _ {D : Type 0} (job : JobData) (told : Option World) (workers : ℕ) (start : Option Moment) (tells : Bool) (history : D → History) (faults : D → ℕ) (disk other : D) (steps : List Step) (end : RunEnd) (report : Report)
-    (start_is : start ≡ start_of tells (history disk)) (at_zero : tells ≡ true → (history disk).now ≡ 0) (made : IsCrewRun job told workers start tells history faults steps end report other) where
+    (start_is : start ≡ start_of tells (history disk)) (at_zero : tells ≡ true → (history disk).now ≡ 0) (made : IsClosedStation job told workers start tells history faults steps end report other) where
   abbrev v : StationView D
   v = made.station
 
@@ -136,11 +136,11 @@ module _ {D : Type 0} (job : JobData) (told : Option World) (workers : ℕ) (sta
       by true some = absurd (omega (arith, none, some refl))
       by false some = refl
 
-  pub crewed : (tells ≡ true → IsFit job.parts.digest (frames_of job) (view_of (history disk))) → (log : List ShareStep) → AreShared log report → WasCrewed job told workers tells (history disk) (history other) steps end report log
+  pub crewed : (tells ≡ true → IsFit job.parts.digest (frames_of job) (view_of (history disk))) → (log : List ShareStep) → AreShared log report → TookSteps job told workers tells (history disk) (history other) steps end report log
   crewed fit log shared =
-      subst (λ (l : List Step). WasCrewed job told workers tells (history disk) (history other) l end report log) made.steps_are
-      (subst (λ (d : D). WasCrewed job told workers tells (history disk) (history d) v.log.steps end report log) made.disk_is
-      (subst (λ (n : ℕ). WasCrewed job told n tells (history disk) (history v.reel.disk) v.log.steps end report log) made.named (record {
+      subst (λ (l : List Step). TookSteps job told workers tells (history disk) (history other) l end report log) made.steps_are
+      (subst (λ (d : D). TookSteps job told workers tells (history disk) (history d) v.log.steps end report log) made.disk_is
+      (subst (λ (n : ℕ). TookSteps job told n tells (history disk) (history v.reel.disk) v.log.steps end report log) made.named (record {
         gates = v.log.start;
         size = made.is.size;
         opening = opening;

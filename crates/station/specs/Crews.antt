@@ -1,10 +1,10 @@
 -- What a crew leaves. All of it is this project's own rule.
---     WasCrewed      a run whose folder was opened and whose board was made: its steps, which frames its opening kept, and what
+--     TookSteps      a run whose folder was opened and whose board was made: its steps, which frames its opening kept, and what
 --                    the folder acknowledges
 --     WasUnmade      a run whose board or share could not be made
 --     AreShared      the log of the source frames that the workers shared
 --     AreWorked      what the workers did with their scans
-use Rattle.std.specs.Prelude.{◌≡◌, ◌↔◌, ◌⊎◌, ℕ, ◌+◌, ◌<◌, ◌≤◌, Bool, true, false, List, [], length, sum_by, count_by, slice_index_or, Option, Some, None, MatchOption}
+use Rattle.std.specs.Prelude.{◌≡◌, ◌↔◌, ◌⊎◌, ℕ, ◌+◌, ◌<◌, ◌≤◌, Bool, true, false, List, [], length, sum_by, count_by, slice_index_or, Option, Some, None, IfSome, MatchOption}
 use Rattle.scan_source.specs.World.{World}
 use Rattle.conform_job.specs.Job.{JobData}
 use Rattle.frame_share.specs.declared.step.ShareStep.{ShareStep}
@@ -22,7 +22,7 @@ use Rattle.single_run.specs.declared.run_end.Report.{Report}
 use Rattle.single_run.specs.declared.run_end.RunEnd.{RunEnd}
 use Rattle.single_run.specs.declared.run_end.RunEnd.TheVariants.{Done, Changed as IsNow, SourceFault, DiskFault, NoMemory}
 use Rattle.single_run.specs.Ends.{IsEnd}
-use Rattle.single_run.specs.Run.{WasRefused}
+use Rattle.single_run.specs.Run.{WasUnopened}
 use Rattle.single_run.specs.Scanned.{IsScanned}
 use Rattle.shared_station.specs.Station.{StationView, IsStation, ShowsDone}
 use Rattle.station.specs.declared.crew.Crew.{Crew}
@@ -51,7 +51,7 @@ pub record AreShared (log : List ShareStep) (report : Report) : Type 0 where
 -- The folder was unsealed or this job's, and the board of so many workers has these steps. `gates` are the frames that the
 -- opening kept. The run is Done just where no worker stopped, and then every frame is done, and those that were kept and those
 -- that were rendered are the whole reel; else it ends as the first stop says.
-pub record WasCrewed (job : JobData) (told : Option World) (workers : ℕ) (tells : Bool) (old new : History) (steps : List Step) (end : RunEnd) (report : Report) (log : List ShareStep) : Type 0 where
+pub record TookSteps (job : JobData) (told : Option World) (workers : ℕ) (tells : Bool) (old new : History) (steps : List Step) (end : RunEnd) (report : Report) (log : List ShareStep) : Type 0 where
   pub gates : List Bool
   pub size : length gates ≡ frames_of job
   pub opening : tells ≡ true → (k : ℕ) → (slice_index_or gates k false ≡ true) ↔ HasKept job k (view_of old)
@@ -81,9 +81,9 @@ pub record WasUnmade (job : JobData) (tells : Bool) (old new : History) (end : R
   pub unasked : log ≡ []
 
 -- Why there are no steps: the folder was not opened, or the board could not be made.
-abbrev pub IsUnstepped : JobData → Bool → History → History → RunEnd → Report → List ShareStep → Type 0
-IsUnstepped job tells old new end report log =
-    WasRefused job tells old new end report log ⊎ WasUnmade job tells old new end report log
+abbrev pub TookNoSteps : JobData → Bool → History → History → RunEnd → Report → List ShareStep → Type 0
+TookNoSteps job tells old new end report log =
+    WasUnopened job tells old new end report log ⊎ WasUnmade job tells old new end report log
 
 -- the disk failed: a worker stopped for it, or the folder could not be opened
 abbrev pub HasDiskFailed : Option (List Step) → RunEnd → Type 0
@@ -104,10 +104,10 @@ pub record AreWorked {S : Type 0} (world : S → Option World) (faults loads : S
 
 module _ {S D : Type 0} where
   -- the steps that a crew took and what came of them, or why there are none
-  abbrev pub HasRun : JobData → (told : Option World) → (workers : ℕ) → (tells : Bool) → (old new : History) → Crew S D → Type 0
-  HasRun job told workers tells old new crew =
-      MatchOption crew.history (IsUnstepped job tells old new crew.end crew.report crew.log)
-      (λ steps. WasCrewed job told workers tells old new steps crew.end crew.report crew.log)
+  abbrev pub WasRunByCrew : JobData → (told : Option World) → (workers : ℕ) → (tells : Bool) → (old new : History) → Crew S D → Type 0
+  WasRunByCrew job told workers tells old new crew =
+      MatchOption crew.history (TookNoSteps job tells old new crew.end crew.report crew.log)
+      (λ steps. TookSteps job told workers tells old new steps crew.end crew.report crew.log)
 
   -- what was done with the scans of a crew, which are handed back: a load of one failed, where the run ended by a source file
   abbrev pub HasScansBack : (world : S → Option World) → (faults loads : S → ℕ) → (same : S → S → Type 0) → (workers : ℕ) → (old : List S) → Crew S D → Type 0
@@ -117,7 +117,7 @@ module _ {S D : Type 0} where
 -- The rest is said of parts of a crew's run.
 
 -- what the station keeps holds to the end
-pub record IsCrewRun {D : Type 0} (job : JobData) (told : Option World) (workers : ℕ) (start : Option Moment) (tells : Bool) (history : D → History) (faults : D → ℕ) (steps : List Step) (end : RunEnd) (report : Report) (disk : D) : Type 0 where
+pub record IsClosedStation {D : Type 0} (job : JobData) (told : Option World) (workers : ℕ) (start : Option Moment) (tells : Bool) (history : D → History) (faults : D → ℕ) (steps : List Step) (end : RunEnd) (report : Report) (disk : D) : Type 0 where
   pub station : StationView D
   pub is : IsStation job told start tells history faults station
   pub named : station.log.workers ≡ workers
@@ -127,3 +127,8 @@ pub record IsCrewRun {D : Type 0} (job : JobData) (told : Option World) (workers
   pub whole : has_stop steps ≡ false → (i : ℕ) → i < frames_of job → is_done station.log i ≡ true
   pub kept : report.kept ≡ station.reel.kept
   pub rendered : report.rendered ≡ length (finished_of steps)
+
+-- the same of a crew that took steps
+abbrev pub HasClosedStation : {S D : Type 0} → JobData → (told : Option World) → (workers : ℕ) → (start : Option Moment) → (tells : Bool) → (history : D → History) → (faults : D → ℕ) → Crew S D → Type 0
+HasClosedStation job told workers start tells history faults crew =
+    IfSome crew.history (λ steps. IsClosedStation job told workers start tells history faults steps crew.end crew.report crew.disk)

@@ -13,7 +13,7 @@ ghost use Rattle.resume_ledger.specs.Sound.{WritesOnly};
 ghost use Rattle.scan_source.specs.World.{World};
 ghost use Rattle.frame_share.specs.Share.{IsBlankOf as IsCounterOf};
 ghost use Rattle.frame_share.specs.Units.{whole};
-ghost use Rattle.station.specs.Crews.{AreShared, HasDiskFailed, HasRun, HasScansBack, IsCrewRun, end_by};
+ghost use Rattle.station.specs.Crews.{AreShared, HasClosedStation, HasDiskFailed, HasScansBack, IsClosedStation, WasRunByCrew, end_by};
 ghost use Rattle.station.specs.Left.{HasFinished};
 ghost use Rattle.single_run.specs.Ends.{IsChange};
 ghost use Rattle.shared_station.specs.Marks.{IsBlankOf};
@@ -212,7 +212,7 @@ fn closing<
     ensures end { result.end ≡ end_by (first_why station.log.steps) }
     ensures steps { result.history ≡ Some station.log.steps }
     ensures log { result.log ≡ log }
-    ensures made { IsCrewRun N.job N.files W.workers N.start D.tells D.history D.faults station.log.steps
+    ensures made { IsClosedStation N.job N.files W.workers N.start D.tells D.history D.faults station.log.steps
         result.end result.report result.disk }
     ensures acked { result.end ≡ RunEnd.Done → D.tells ≡ true → AreAllAcked N.job (moment_of (D.history result.disk)) }
     ensures lent { D.loans result.disk ≡ N.loans }
@@ -284,8 +284,7 @@ fn run_opened<
     ensures some { is_some result.history ≡ true }
     ensures acked { result.end ≡ RunEnd.Done → D.tells ≡ true → AreAllAcked N.job (moment_of (D.history result.disk)) }
     ensures changed { IsChange result.end → 1 ≤ result.report.loads }
-    ensures made { IfSome result.history (λ steps. IsCrewRun N.job N.files W.workers N.start D.tells D.history D.faults steps
-        result.end result.report result.disk) }
+    ensures made { HasClosedStation N.job N.files W.workers N.start D.tells D.history D.faults result }
     ensures lent { D.loans result.disk ≡ N.loans }
     ensures scans { HasScansBack S.world S.faults S.loads S.same threads scans.items result }
 {
@@ -349,7 +348,7 @@ fn crew_under<
 
     // Which frames the opening kept, what the folder acknowledges now, and the steps by which it came; or why there are none.
     // There are as many workers as were asked for, at most one a scan.
-    ensures ran { HasRun N.job N.files (min workers (vec_len scans)) D.tells (D.history disk) (D.history result.disk) result }
+    ensures ran { WasRunByCrew N.job N.files (min workers (vec_len scans)) D.tells (D.history disk) (D.history result.disk) result }
 
     // At Done every image acknowledges every frame, and the folder has the whole reel: that of a run on one thread.
     ensures acked { result.end ≡ RunEnd.Done → D.tells ≡ true → AreAllAcked N.job (moment_of (D.history result.disk)) }
@@ -442,7 +441,7 @@ pub fn run_crew<
 
     // Which frames the opening kept, what the folder acknowledges now, and the steps by which it came; or why there are none.
     // There are as many workers as were asked for, at most one a scan.
-    ensures ran { HasRun N.job N.files (min workers (vec_len scans)) D.tells (D.history disk) (D.history result.disk) result }
+    ensures ran { WasRunByCrew N.job N.files (min workers (vec_len scans)) D.tells (D.history disk) (D.history result.disk) result }
 
     // At Done every image acknowledges every frame, and the folder has the whole reel: that of a run on one thread.
     ensures acked { result.end ≡ RunEnd.Done → D.tells ≡ true → AreAllAcked N.job (moment_of (D.history result.disk)) }

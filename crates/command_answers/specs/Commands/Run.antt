@@ -13,7 +13,7 @@ run_meaning path share = record {
   LooksAtHeads = AreJobHeads path;
   calls = record { on_reel = true; on_old = false; loads_frames = true; checks_frames = false };
   UsesDisk = λ house before after folders folders_after reached output.
-      IsRunReply before.world path share folders.reel folders_after.reel before.loads after.loads reached output;
+      IsRunReply path share before.world before.loads after.loads folders.reel folders_after.reel reached output;
   HasFailedDisk = HasReelFailed;
   IsAccepted = λ world folders. HasFitFolder world path folders.reel;
   IsComplete = IsThrough;

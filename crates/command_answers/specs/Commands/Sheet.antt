@@ -13,7 +13,7 @@ sheet_meaning path = record {
   LooksAtHeads = AreJobHeads path;
   calls = record { on_reel = true; on_old = false; loads_frames = false; checks_frames = false };
   UsesDisk = λ house before after folders folders_after reached output.
-      IsSheetReply house.tone before.world path folders.reel folders_after.reel before.loads after.loads reached output;
+      IsSheetReply house.tone path before.world before.loads after.loads folders.reel folders_after.reel reached output;
   HasFailedDisk = HasReelFailed;
   IsAccepted = λ world folders. HasFitFolder world path folders.reel;
   IsComplete = IsThrough;

@@ -13,7 +13,7 @@ returns-in-Ok-converted-clause-reply g c =
     reply_of _ _ _ _ _ tt
     (by_front _ _ _ 84914180 c.in-Ok.front load.told load.fills (λ bytes len_is into_is.
     frame_done bytes c.deref.result.now _ c.in-Ok.front.len c.in-Ok-converted.ensures.form len_is (c.deref.ensures.value ∙ into_is)))
-    (λ not_done. absurd (not_done refl)) (λ same. absurd (cc)) (λ _. load.scan.counts.steady (λ same. cc)) load.scan.counts.later load.loads load.heads load.scan.told
+    (λ not_done. absurd (not_done refl)) (λ same. absurd (cc)) (λ _. load.scan.counts.steady (λ same. cc)) load.scan.counts.cause.later load.loads load.heads load.scan.told
 
 pub returns-in-Err-Fault-clause-reply : goal.returns-in-Err-Fault-clause-reply
 returns-in-Err-Fault-clause-reply g c =
@@ -22,15 +22,15 @@ returns-in-Err-Fault-clause-reply g c =
     reply_of _ _ _ _ _ tt
     (by_front _ _ _ 84914180 c.in-Ok.front load.told load.fills (λ bytes len_is into_is.
     frame_fault bytes c.deref.result.now _ c.in-Ok.front.len _ fault len_is (c.deref.ensures.value ∙ into_is)))
-    (λ _. refl) (λ same. absurd (cc)) (λ _. load.scan.counts.steady (λ same. cc)) load.scan.counts.later load.loads load.heads load.scan.told
+    (λ _. refl) (λ same. absurd (cc)) (λ _. load.scan.counts.steady (λ same. cc)) load.scan.counts.cause.later load.loads load.heads load.scan.told
 
 pub returns-clause-reply : goal.returns-clause-reply
 returns-clause-reply g c =
     let load = c.in-Ok.ensures in
-    reply_of _ _ _ _ _ tt (frame_memory _ c.args.path.now _) (λ _. refl) (λ same. absurd (cc)) (λ _. load.scan.counts.steady (λ same. cc)) load.scan.counts.later load.loads load.heads load.scan.told
+    reply_of _ _ _ _ _ tt (frame_memory _ c.args.path.now _) (λ _. refl) (λ same. absurd (cc)) (λ _. load.scan.counts.steady (λ same. cc)) load.scan.counts.cause.later load.loads load.heads load.scan.told
 
 pub returns-in-Err-clause-reply : goal.returns-in-Err-clause-reply
 returns-in-Err-clause-reply g c =
     let load = c.in-Err.ensures in
     reply_of _ _ _ _ _ (replied_load (commands.Frame c.args.path.now) _ _ load.kind) (frame_missing _ c.args.path.now _ _ load.told load.kind)
-    (λ _. refl) (λ same. load.scan.counts.failed (error_of _ _ same)) (λ other. load.scan.counts.steady (λ same. other (outcome_of _ _ same))) load.scan.counts.later load.loads load.heads load.scan.told
+    (λ _. refl) (λ same. load.scan.counts.cause.failed (error_of _ _ same)) (λ other. load.scan.counts.steady (λ same. other (outcome_of _ _ same))) load.scan.counts.cause.later load.loads load.heads load.scan.told

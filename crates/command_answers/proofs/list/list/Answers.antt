@@ -12,7 +12,7 @@ returns-in-Ok-table_of-clause-reply g c =
     reply_of _ _ _ _ _ tt
     (by_front _ _ _ 4194305 c.in-Ok.front load.told load.fills (λ bytes len_is into_is.
     list_done c.args.rate bytes c.deref.result.now _ c.in-Ok-table_of.ensures.form (c.deref.ensures.value ∙ into_is)))
-    (λ not_done. absurd (not_done refl)) (λ same. absurd (cc)) (λ _. load.scan.counts.steady (λ same. cc)) load.scan.counts.later load.loads load.heads load.scan.told
+    (λ not_done. absurd (not_done refl)) (λ same. absurd (cc)) (λ _. load.scan.counts.steady (λ same. cc)) load.scan.counts.cause.later load.loads load.heads load.scan.told
 
 pub returns-in-Err-Fault-clause-reply : goal.returns-in-Err-Fault-clause-reply
 returns-in-Err-Fault-clause-reply g c =
@@ -21,15 +21,15 @@ returns-in-Err-Fault-clause-reply g c =
     reply_of _ _ _ _ _ tt
     (by_front _ _ _ 4194305 c.in-Ok.front load.told load.fills (λ bytes len_is into_is.
     list_refused c.args.rate bytes c.deref.result.now _ _ fault (c.deref.ensures.value ∙ into_is)))
-    (λ _. refl) (λ same. absurd (cc)) (λ _. load.scan.counts.steady (λ same. cc)) load.scan.counts.later load.loads load.heads load.scan.told
+    (λ _. refl) (λ same. absurd (cc)) (λ _. load.scan.counts.steady (λ same. cc)) load.scan.counts.cause.later load.loads load.heads load.scan.told
 
 pub returns-clause-reply : goal.returns-clause-reply
 returns-clause-reply g c =
     let load = c.in-Ok.ensures in
-    reply_of _ _ _ _ _ tt (list_memory c.args.rate _ c.args.path.now _) (λ _. refl) (λ same. absurd (cc)) (λ _. load.scan.counts.steady (λ same. cc)) load.scan.counts.later load.loads load.heads load.scan.told
+    reply_of _ _ _ _ _ tt (list_memory c.args.rate _ c.args.path.now _) (λ _. refl) (λ same. absurd (cc)) (λ _. load.scan.counts.steady (λ same. cc)) load.scan.counts.cause.later load.loads load.heads load.scan.told
 
 pub returns-in-Err-clause-reply : goal.returns-in-Err-clause-reply
 returns-in-Err-clause-reply g c =
     let load = c.in-Err.ensures in
     reply_of _ _ _ _ _ (replied_load (commands.List c.args.path.now c.args.rate) _ _ load.kind) (list_missing c.args.rate _ c.args.path.now _ _ load.told load.kind)
-    (λ _. refl) (λ same. load.scan.counts.failed (error_of _ _ same)) (λ other. load.scan.counts.steady (λ same. other (outcome_of _ _ same))) load.scan.counts.later load.loads load.heads load.scan.told
+    (λ _. refl) (λ same. load.scan.counts.cause.failed (error_of _ _ same)) (λ other. load.scan.counts.steady (λ same. other (outcome_of _ _ same))) load.scan.counts.cause.later load.loads load.heads load.scan.told

@@ -1,4 +1,5 @@
 use Rattle.std.proofs.Common.{◌≡◌, ◌-◌, length, ◌≤◌, [], IfSome}
+use Rattle.scan_source.specs.Leaves.{LeavesScan}
 use Rattle.scan_source.specs.World.{file_at}
 use Rattle.record_timeline.specs.Accepted.{frame_count}
 use Rattle.conform_job.specs.Asks.{asks_of, asks_from}
@@ -10,9 +11,7 @@ use Rattle.conform_job.proofs.frames.infos_of.Given as goal
 abbrev pub invariant-loop-i : goal.invariant-loop-i
 invariant-loop-i g l = record {
   within : l.i ≤ frame_count l.parts.timeline.events;
-  world : g.S.Scans.world l.scans ≡ g.S.Scans.world l.fn.scans;
-  steady : g.S.Scans.faults l.scans ≡ g.S.Scans.faults l.fn.scans;
-  same : g.S.Scans.same l.fn.scans l.scans;
+  scan : LeavesScan g.S.Scans.world g.S.Scans.faults g.S.Scans.same ⊥ l.fn.scans l.scans;
   heads : HeadsGrow (g.S.Scans.heads l.fn.scans) (g.S.Scans.heads l.scans) 0 (length l.infos);
   loads : g.S.Scans.loads l.scans ≡ g.S.Scans.loads l.fn.scans;
   rest : IfSome (g.S.Scans.world l.fn.scans) (λ world. asks_refusal l.parts (file_at world) (asks_of l.parts.timeline) ≡ asks_refusal l.parts (file_at world) (asks_from l.parts.timeline l.i (frame_count l.parts.timeline.events - l.i)));

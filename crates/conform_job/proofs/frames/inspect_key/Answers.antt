@@ -1,10 +1,11 @@
 use Rattle.std.proofs.Common.{◌≡◌, Some, sym, ◌∙◌}
 use Rattle.scan_source.specs.World.{World, file_at}
+use Rattle.scan_source.proofs.Leaving.{leaves_as}
 use Rattle.source_reels.specs.Seen.{IsSeen}
 use Rattle.source_reels.proofs.Heads.{told_more}
 use Rattle.source_reels.specs.Reels.{path_of_key}
 use Rattle.conform_job.specs.Refusals.{file_of_key}
-use Rattle.conform_job.proofs.Judging.{judged_told, judged_failed, judged_info}
+use Rattle.conform_job.proofs.Judging.{judged_told, judged_failed, failed_judged, judged_info}
 use Rattle.conform_job.proofs.frames.inspect_key.Goals as goal
 use Rattle.conform_job.proofs.frames.inspect_key.Given as given
 
@@ -23,8 +24,10 @@ pub returns-clause-info : goal.returns-clause-info
 returns-clause-info g c = judged_info c.args.parts.now (g.S.Scans.world c.args.scans.now) c.args.key c.args.named.now c.inspect-seen.result c.judged.result
     (told_more (g.S.Scans.world c.args.scans.now) _ _ (seen_is g c) c.inspect-seen.ensures.told) c.inspect-seen.ensures.frame c.judged.ensures
 
-pub returns-clause-failed : goal.returns-clause-failed
-returns-clause-failed g c = judged_failed c.args.named.now _ _ c.inspect-seen.result c.judged.result _ _ c.judged.ensures c.inspect-seen.ensures.failed
+pub returns-clause-scan : goal.returns-clause-scan
+returns-clause-scan g c = leaves_as g.S.Scans.world g.S.Scans.faults g.S.Scans.same _ _
+    (judged_failed c.args.named.now _ _ c.inspect-seen.result c.judged.result c.judged.ensures) (failed_judged c.args.named.now _ _ c.inspect-seen.result c.judged.result c.judged.ensures)
+    c.inspect-seen.ensures.scan
 
 pub returns-clause-asked : goal.returns-clause-asked
 returns-clause-asked g c = rw (path_is g c) c.inspect-seen.ensures.heads

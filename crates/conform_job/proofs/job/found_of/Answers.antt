@@ -1,4 +1,5 @@
 -- The cuts first, then the lines, then the frames.
+use Rattle.scan_source.proofs.Leaving.{leaves_as, leaves_done, leaves_still}
 use Rattle.conform_job.proofs.Planning.{err_as, no_err, cut_told, cut_lines, cut_steady, placed_told, placed_lines, placed_steady, none_told, frames_none, frames_told, frames_lines}
 use Rattle.conform_job.proofs.Ending.{cut_asked, ended_asked, placed_asked}
 use Rattle.conform_job.proofs.job.found_of.Goals as goal
@@ -9,8 +10,8 @@ returns-in-Err-clause-told g c = cut_told c.args.parts.now (g.S.Scans.world c.ar
 pub returns-in-Err-clause-lines : goal.returns-in-Err-clause-lines
 returns-in-Err-clause-lines g c = cut_lines c.args.parts.now c.in-Err.fault c.in-Err.ensures.refused
 
-pub returns-in-Err-clause-failed : goal.returns-in-Err-clause-failed
-returns-in-Err-clause-failed g c e = absurd (cut_steady c.args.parts.now c.in-Err.fault c.in-Err.ensures.refused e)
+pub returns-in-Err-clause-scan : goal.returns-in-Err-clause-scan
+returns-in-Err-clause-scan g c = leaves_still g.S.Scans.world g.S.Scans.faults g.S.Scans.same _ (g.met.S.Scans.same_refl _) (cut_steady c.args.parts.now c.in-Err.fault c.in-Err.ensures.refused)
 
 pub returns-in-Err-places_in-clause-told : goal.returns-in-Err-places_in-clause-told
 returns-in-Err-places_in-clause-told g c =
@@ -19,8 +20,9 @@ returns-in-Err-places_in-clause-told g c =
 pub returns-in-Err-places_in-clause-lines : goal.returns-in-Err-places_in-clause-lines
 returns-in-Err-places_in-clause-lines g c = placed_lines c.args.parts.now c.in-Err-places_in.fault c.in-Ok.ensures.none.0 c.in-Err-places_in.ensures.refused
 
-pub returns-in-Err-places_in-clause-failed : goal.returns-in-Err-places_in-clause-failed
-returns-in-Err-places_in-clause-failed g c e = absurd (placed_steady c.args.parts.now c.in-Err-places_in.fault c.in-Err-places_in.ensures.refused e)
+pub returns-in-Err-places_in-clause-scan : goal.returns-in-Err-places_in-clause-scan
+returns-in-Err-places_in-clause-scan g c =
+    leaves_still g.S.Scans.world g.S.Scans.faults g.S.Scans.same _ (g.met.S.Scans.same_refl _) (placed_steady c.args.parts.now c.in-Err-places_in.fault c.in-Err-places_in.ensures.refused)
 
 pub returns-in-Ok-infos_of-clause-told : goal.returns-in-Ok-infos_of-clause-told
 returns-in-Ok-infos_of-clause-told g c =
@@ -38,11 +40,8 @@ returns-in-Ok-infos_of-clause-found g c = record {
   grows = c.in-Ok-infos_of.ensures.grows;
 }
 
-pub returns-in-Ok-infos_of-clause-failed : goal.returns-in-Ok-infos_of-clause-failed
-returns-in-Ok-infos_of-clause-failed g c e = absurd (no_err _ _ e)
-
-pub returns-in-Ok-infos_of-clause-steady : goal.returns-in-Ok-infos_of-clause-steady
-returns-in-Ok-infos_of-clause-steady g c other = c.in-Ok-infos_of.ensures.steady (no_err _ _)
+pub returns-in-Ok-infos_of-clause-scan : goal.returns-in-Ok-infos_of-clause-scan
+returns-in-Ok-infos_of-clause-scan g c = leaves_done g.S.Scans.world g.S.Scans.faults g.S.Scans.same _ _ (no_err _ _) (no_err _ _) c.in-Ok-infos_of.ensures.scan
 
 pub returns-in-Err-infos_of-clause-told : goal.returns-in-Err-infos_of-clause-told
 returns-in-Err-infos_of-clause-told g c =
@@ -52,11 +51,8 @@ pub returns-in-Err-infos_of-clause-lines : goal.returns-in-Err-infos_of-clause-l
 returns-in-Err-infos_of-clause-lines g c =
     frames_lines c.args.parts.now (g.S.Scans.world c.args.scans.now) c.in-Ok.ensures.none.0 c.in-Ok-places_in.ensures.none.0 c.in-Err-infos_of.fault c.in-Err-infos_of.ensures.of_frames
 
-pub returns-in-Err-infos_of-clause-failed : goal.returns-in-Err-infos_of-clause-failed
-returns-in-Err-infos_of-clause-failed g c e = c.in-Err-infos_of.ensures.failed (err_as _ _ e)
-
-pub returns-in-Err-infos_of-clause-steady : goal.returns-in-Err-infos_of-clause-steady
-returns-in-Err-infos_of-clause-steady g c other = c.in-Err-infos_of.ensures.steady (λ e. other (err_as _ _ e))
+pub returns-in-Err-infos_of-clause-scan : goal.returns-in-Err-infos_of-clause-scan
+returns-in-Err-infos_of-clause-scan g c = leaves_as g.S.Scans.world g.S.Scans.faults g.S.Scans.same _ _ (err_as _ _) (err_as _ _) c.in-Err-infos_of.ensures.scan
 
 pub returns-in-Err-clause-asked : goal.returns-in-Err-clause-asked
 returns-in-Err-clause-asked g c = cut_asked c.args.parts.now (g.S.Scans.world c.args.scans.now) (g.S.Scans.heads c.args.scans.now) c.in-Err.fault c.in-Err.ensures.refused

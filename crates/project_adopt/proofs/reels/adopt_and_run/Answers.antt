@@ -4,7 +4,7 @@ use Rattle.std.specs.Prelude.{Err}
 use Rattle.cf_base.specs.Count.{HasRisen}
 use Rattle.reconform.specs.declared.adopting.AdoptFault.TheVariants as faults
 use Rattle.outcome_line.specs.declared.outcome.Outcome.TheVariants as outcomes
-use Rattle.project_job.proofs.Leaving.{leaves_still}
+use Rattle.scan_source.proofs.Leaving.{leaves_still}
 use Rattle.project_run.specs.Calls.{disk_state}
 use Rattle.project_run.proofs.Runs.{match_each}
 use Rattle.project_adopt.specs.Adopt.{IsOfAdopt, outcome_of_fault}
@@ -44,8 +44,8 @@ returns-in-Ok-clause-disks g c =
     let rest = c.run_rest.ensures.disk in record {
       cause = record {
         old_later = adopted.cause.old_later;
-        later = omega (arith, adopted.cause.later, rest.counts.later);
-        failed = λ is. inr (subst (λ (n : ℕ). HasRisen n (g.D.Disk.faults c.run_rest.new.disk)) (adopted.steady (λ same. cc)) (rest.counts.failed is));
+        later = omega (arith, adopted.cause.later, rest.counts.cause.later);
+        failed = λ is. inr (subst (λ (n : ℕ). HasRisen n (g.D.Disk.faults c.run_rest.new.disk)) (adopted.steady (λ same. cc)) (rest.counts.cause.failed is));
       };
       steady = λ none. rest.counts.steady none ∙ adopted.steady (λ same. cc);
       old_steady = λ none. adopted.steady_old (λ same. cc);

@@ -17,7 +17,7 @@ returns-clause-ran g c =
     let report = c.run_alone-end.result.1 in
     let at = disk_state g.D.Disk.tells g.D.Disk.history g.D.Disk.faults in
     let by : (reached : Outcome) (output : List ℕ) → ReportsAdoption c.args.job.now c.args.done end report reached output
-    → IsRest c.args.job.now (g.S.Scans.world c.args.scan.now) c.args.done (at c.args.disk.now) (at c.run_alone-end.new.disk) (g.S.Scans.loads c.args.scan.now) (g.S.Scans.loads c.run_alone-end.new.scan) reached output =
+    → IsRest c.args.job.now c.args.done (g.S.Scans.world c.args.scan.now) (g.S.Scans.loads c.args.scan.now) (g.S.Scans.loads c.run_alone-end.new.scan) (at c.args.disk.now) (at c.run_alone-end.new.disk) reached output =
     λ reached output reply. record {
       run_output = run_text report;
       run = record {

@@ -11,13 +11,13 @@ returns-in-Err-clause-reply g c =
     let first : get_or c.args.scans.items 0 c.index_mut.result.now ≡ c.index_mut.result.now = search rules in
     let job = c.in-Err.ensures in
     uncrewed g.S.Scans.world g.S.Scans.faults g.S.Scans.loads g.S.Scans.same c.planned.new.scan c.args.path.now c.args.workers c.args.scans.items c.index_mut.result.now _ _ _ some first
-    job.told job.kind job.loads job.refused (λ other. job.scan.counts.steady (λ is. other cc)) job.scan.counts.later job.scan.told job.scan.lent
+    job.told job.kind job.loads job.refused (λ other. job.scan.counts.steady (λ is. other cc)) job.scan.counts.cause.later job.scan.told job.scan.lent
 
 pub returns-in-Err-clause-failed : goal.returns-in-Err-clause-failed
 returns-in-Err-clause-failed g c is =
     let some : 0 < length c.args.scans.items = search rules in
     let first : get_or c.args.scans.items 0 c.index_mut.result.now ≡ c.index_mut.result.now = search rules in
-    failed_first g.S.Scans.world g.S.Scans.faults g.S.Scans.loads g.S.Scans.same c.planned.new.scan c.args.scans.items c.index_mut.result.now some first (c.in-Err.ensures.scan.counts.failed (error_as _ _ is))
+    failed_first g.S.Scans.world g.S.Scans.faults g.S.Scans.loads g.S.Scans.same c.planned.new.scan c.args.scans.items c.index_mut.result.now some first (c.in-Err.ensures.scan.counts.cause.failed (error_as _ _ is))
 
 pub run_job-ended-requires-clause-one_world : goal.run_job-ended-requires-clause-one_world
 run_job-ended-requires-clause-one_world g c κs within =

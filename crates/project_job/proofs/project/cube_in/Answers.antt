@@ -2,7 +2,7 @@
 use Rattle.std.proofs.Common.{◌≡◌, Ok, Err, refl, subst}
 use Rattle.project_job.specs.Jobs.{look_of_text, itself, Reaches}
 use Rattle.project_job.proofs.Projects.{err_as, no_err, cube_had, cube_refused, cube_missing}
-use Rattle.project_job.proofs.Leaving.{leaves_as, leaves_done}
+use Rattle.scan_source.proofs.Leaving.{leaves_as, leaves_done}
 use Rattle.project_job.proofs.Loading.{load_stage}
 use Rattle.outcome_line.specs.declared.outcome.Which.TheVariants as which
 use Rattle.project_job.proofs.project.cube_in.Goals as goal

@@ -1,7 +1,7 @@
 -- The steps to the parts of a job, one after another; the list and the cube are loaded.
 use Rattle.std.proofs.Common.{◌∙◌, refl, arith}
 use Rattle.project_job.proofs.Projects.{loaded_both, loaded_list, err_as, no_err, no_reels, no_list, no_timeline, no_look, all_parts}
-use Rattle.project_job.proofs.Leaving.{leaves_as, leaves_done, leaves_still, leaves_then}
+use Rattle.scan_source.proofs.Leaving.{leaves_as, leaves_done, leaves_still, leaves_then}
 use Rattle.project_job.proofs.Loading.{loaded_behind, look_behind, stage_texts}
 use Rattle.project_job.proofs.project.parts_of.Goals as goal
 

@@ -6,7 +6,7 @@ use Rattle.project_file.specs.declared.Project.{Project}
 use Rattle.project_job.specs.Jobs.{cube_count}
 use Rattle.project_job.proofs.Counted.{counted_job}
 use Rattle.project_job.proofs.Projects.{no_project, no_parts, no_job, a_job, loaded_first, loaded_all, err_as, no_err, scan_of_job, job_of_scan}
-use Rattle.project_job.proofs.Leaving.{leaves_as, leaves_by, leaves_done, leaves_then}
+use Rattle.scan_source.proofs.Leaving.{leaves_as, leaves_done, leaves_then}
 use Rattle.project_job.proofs.Loading.{project_loaded, parts_loaded, job_loaded, unasked, job_asked, judged, stage_texts}
 use Rattle.project_job.proofs.project.planned.Goals as goal
 
@@ -97,10 +97,10 @@ returns-in-Err-parts_of-clause-scan g c =
 pub returns-in-Ok-plan-clause-scan : goal.returns-in-Ok-plan-clause-scan
 returns-in-Ok-plan-clause-scan g c =
     leaves_then g.S.Scans.world g.S.Scans.faults g.S.Scans.same g.met.S.Scans.same_trans _ _ _ (no_err _ _) c.in-Ok.ensures.scan (leaves_then g.S.Scans.world g.S.Scans.faults g.S.Scans.same g.met.S.Scans.same_trans _ _ _ (no_err _ _) c.in-Ok-parts_of.ensures.scan
-    (leaves_done g.S.Scans.world g.S.Scans.faults g.S.Scans.same _ _ (no_err _ _) (no_err _ _) (leaves_by g.S.Scans.world g.S.Scans.faults g.S.Scans.same _ _ c.in-Ok-plan.ensures.later c.in-Ok-plan.ensures.failed c.in-Ok-plan.ensures.steady c.in-Ok-plan.ensures.world c.in-Ok-plan.ensures.same)))
+    (leaves_done g.S.Scans.world g.S.Scans.faults g.S.Scans.same _ _ (no_err _ _) (no_err _ _) c.in-Ok-plan.ensures.scan))
 
 pub returns-clause-scan : goal.returns-clause-scan
 returns-clause-scan g c =
     leaves_then g.S.Scans.world g.S.Scans.faults g.S.Scans.same g.met.S.Scans.same_trans _ _ _ (no_err _ _) c.in-Ok.ensures.scan (leaves_then g.S.Scans.world g.S.Scans.faults g.S.Scans.same g.met.S.Scans.same_trans _ _ _ (no_err _ _) c.in-Ok-parts_of.ensures.scan
     (leaves_as g.S.Scans.world g.S.Scans.faults g.S.Scans.same _ _ (scan_of_job c.in-Err-plan.fault _ c.refused_job.ensures) (job_of_scan c.in-Err-plan.fault _ c.refused_job.ensures)
-    (leaves_by g.S.Scans.world g.S.Scans.faults g.S.Scans.same _ _ c.in-Err-plan.ensures.later c.in-Err-plan.ensures.failed c.in-Err-plan.ensures.steady c.in-Err-plan.ensures.world c.in-Err-plan.ensures.same)))
+    c.in-Err-plan.ensures.scan))

@@ -2,7 +2,7 @@
 use Rattle.std.proofs.Common.{refl}
 use Rattle.project_job.proofs.Counted.{counted_project}
 use Rattle.project_job.proofs.Projects.{err_as, no_err, memory_apart, refused_apart, project_had, project_refused}
-use Rattle.project_job.proofs.Leaving.{leaves_as, leaves_done}
+use Rattle.scan_source.proofs.Leaving.{leaves_as, leaves_done}
 use Rattle.project_job.proofs.Loading.{load_stage, memory_stage, own_stage}
 use Rattle.outcome_line.specs.declared.outcome.Which.TheVariants as which
 use Rattle.outcome_line.specs.declared.outcome.Refused.TheVariants as refused

@@ -13,7 +13,7 @@ use Rattle.reel_writer.specs.Changes.{IsOwnFile, MayWrite}
 use Rattle.reel_writer.specs.Reel.{frames_of}
 use Rattle.reel_writer.proofs.ReelLaws.{reel_run_itself, sound_has}
 use Rattle.reconform.specs.declared.adopting.AdoptFault.{AdoptFault}
-use Rattle.reconform.specs.Adopt.{WasRefused, by_old}
+use Rattle.reconform.specs.Adopt.{IsWhyUnadopted, by_old}
 use Rattle.reconform.proofs.Answering.{answered_along, err_is, never_touched, old_disk, old_refused}
 use Rattle.reconform.proofs.Going.{can_along, caused_as, viewed_along}
 use Rattle.reconform.proofs.adopting.adopt_into.Goals as goal
@@ -26,7 +26,7 @@ returns-in-Err-clause-answer g c =
     let disk = g.E.Disk.history c.args.disk in
     let digest = c.digest.ensures ∙ ap (λ (job : JobData). job.parts.digest) c.requires.old_job in
     let count = c.count.ensures.count ∙ ap (λ (t : RecordReel). frame_count t.events) c.timeline.ensures ∙ ap frames_of c.requires.old_job in
-    subst (λ (e : AdoptFault). WasRefused g.N.Work.job g.O.Work.job g.E.Disk.tells h after disk disk e) (sym c.of_old.ensures)
+    subst (λ (e : AdoptFault). IsWhyUnadopted g.N.Work.job g.O.Work.job g.E.Disk.tells h after disk disk e) (sym c.of_old.ensures)
     (old_refused g.N.Work.job g.O.Work.job g.E.Disk.tells h after disk disk c.in-Err.fault (subst (λ (d : List ℕ). IsRefusalFor d c.in-Err.fault) digest c.in-Err.ensures.known)
     (λ told. subst (λ n. IsRefused g.O.Work.job.parts.digest n h after c.in-Err.fault) count (subst (λ (d : List ℕ). IsRefused d c.count.result h after c.in-Err.fault) digest (c.in-Err.ensures.answer (c.requires.tells ∙ told)))))
 

@@ -9,7 +9,7 @@ use Rattle.reel_writer.specs.Changes.{IsOwnFile, IsRunFile, MayWrite}
 use Rattle.reel_writer.proofs.ReelLaws.{reel_run_along}
 use Rattle.reel_writer.proofs.Writing.{own_file, own_written, writes_wider}
 use Rattle.reconform.specs.declared.adopting.AdoptFault.{AdoptFault}
-use Rattle.reconform.specs.Adopt.{IsOfOld, WasRefused, by_new}
+use Rattle.reconform.specs.Adopt.{IsOfOld, IsWhyUnadopted, by_new}
 use Rattle.reconform.proofs.Answering.{err_is, never_old, never_opened, new_disk, new_refused, opened_answer}
 use Rattle.reconform.proofs.Going.{caused_as, still_itself}
 use Rattle.reconform.proofs.adopting.adopt_owned.Goals as goal
@@ -33,7 +33,7 @@ returns-in-Ok-clause-steady g c other = c.adopt_opened.ensures.steady other ∙ 
 pub returns-in-Err-clause-answer : goal.returns-in-Err-clause-answer
 returns-in-Err-clause-answer g c =
     let h = g.D.Disk.history c.args.old.now in
-    subst (λ (e : AdoptFault). WasRefused g.N.Work.job g.O.Work.job g.E.Disk.tells h h (g.E.Disk.history c.args.disk) (g.E.Disk.history c.in-Err.disk) e) (sym c.of_new.ensures)
+    subst (λ (e : AdoptFault). IsWhyUnadopted g.N.Work.job g.O.Work.job g.E.Disk.tells h h (g.E.Disk.history c.args.disk) (g.E.Disk.history c.in-Err.disk) e) (sym c.of_new.ensures)
     (new_refused g.N.Work.job g.O.Work.job g.E.Disk.tells h h (g.E.Disk.history c.args.disk) (g.E.Disk.history c.in-Err.disk) (λ told. (c.requires.viewed (c.requires.tells ∙ told)).fit) c.in-Err.fault c.in-Err.ensures.known c.in-Err.ensures.answer)
 
 pub returns-in-Err-clause-not_old : goal.returns-in-Err-clause-not_old

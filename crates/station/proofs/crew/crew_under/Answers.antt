@@ -8,10 +8,10 @@ use Rattle.render_board.specs.Board.{Log}
 use Rattle.render_board.specs.History.{first_why, is_disk, stops_of}
 use Rattle.resume_ledger.specs.Ledger.{IsLedgerFile, IsWrittenLedgerFile}
 use Rattle.resume_ledger.specs.Sound.{WritesOnly}
-use Rattle.station.specs.Crews.{AreWorked, IsUnstepped, WasCrewed, WasUnmade}
+use Rattle.station.specs.Crews.{AreWorked, TookNoSteps, TookSteps, WasUnmade}
 use Rattle.reel_writer.specs.Changes.{IsOwnFile, MayWrite}
 use Rattle.reel_writer.proofs.Writing.{writes_wider}
-use Rattle.single_run.specs.Run.{WasRefused}
+use Rattle.single_run.specs.Run.{WasUnopened}
 use Rattle.single_run.specs.declared.run_end.RunEnd.TheVariants as ends
 use Rattle.single_run.proofs.Closing.{was_refused, whole_reel}
 use Rattle.station.proofs.Crewing.{by_steps, crew_run, crew_spares, crew_writes, crewed, was_unmade, with_steps}
@@ -47,8 +47,8 @@ returns-in-Err-clause-ran g c =
     let made = c.unmade.ensures in
     let was = was_refused g.N.Work.job g.D.Disk.tells (g.D.Disk.history c.args.disk) (g.D.Disk.history c.in-Err.disk) c.in-Err.fault _ _ _ (made.end ∙ c.end_of_opening.ensures.end) c.in-Err.ensures.known c.in-Err.ensures.answer c.in-Err.ensures.adds_none made.kept made.loads made.log in
     let crew = c.unmade.result in
-    subst (λ steps. MatchOption steps (IsUnstepped g.N.Work.job g.D.Disk.tells (g.D.Disk.history c.args.disk) (g.D.Disk.history crew.disk) crew.end crew.report crew.log) (λ all. WasCrewed g.N.Work.job g.N.Work.files (min c.args.workers (vec_len c.args.scans)) g.D.Disk.tells (g.D.Disk.history c.args.disk) (g.D.Disk.history crew.disk) all crew.end crew.report crew.log)) (sym made.history)
-    (inl (subst (λ d. WasRefused g.N.Work.job g.D.Disk.tells (g.D.Disk.history c.args.disk) (g.D.Disk.history d) c.unmade.result.end c.unmade.result.report c.unmade.result.log) (sym made.disk) was))
+    subst (λ steps. MatchOption steps (TookNoSteps g.N.Work.job g.D.Disk.tells (g.D.Disk.history c.args.disk) (g.D.Disk.history crew.disk) crew.end crew.report crew.log) (λ all. TookSteps g.N.Work.job g.N.Work.files (min c.args.workers (vec_len c.args.scans)) g.D.Disk.tells (g.D.Disk.history c.args.disk) (g.D.Disk.history crew.disk) all crew.end crew.report crew.log)) (sym made.history)
+    (inl (subst (λ d. WasUnopened g.N.Work.job g.D.Disk.tells (g.D.Disk.history c.args.disk) (g.D.Disk.history d) c.unmade.result.end c.unmade.result.report c.unmade.result.log) (sym made.disk) was))
 
 pub returns-in-Err-clause-sound_has : goal.returns-in-Err-clause-sound_has
 returns-in-Err-clause-sound_has g c = c.in-Err.ensures.sound_has
@@ -71,7 +71,7 @@ returns-in-None-clause-ran g c =
     let made = c.unmade-in-None.ensures in
     let was = was_unmade g.N.Work.job g.D.Disk.tells (g.D.Disk.history c.args.disk) (g.D.Disk.history c.in-Ok.reel.disk) c.in-Ok.reel.ledger _ _ _ c.in-Ok.ensures.answer c.in-Ok.ensures.known made.end made.kept made.loads made.log in
     let crew = c.unmade-in-None.result in
-    subst (λ steps. MatchOption steps (IsUnstepped g.N.Work.job g.D.Disk.tells (g.D.Disk.history c.args.disk) (g.D.Disk.history crew.disk) crew.end crew.report crew.log) (λ all. WasCrewed g.N.Work.job g.N.Work.files (min c.args.workers (vec_len c.args.scans)) g.D.Disk.tells (g.D.Disk.history c.args.disk) (g.D.Disk.history crew.disk) all crew.end crew.report crew.log)) (sym made.history)
+    subst (λ steps. MatchOption steps (TookNoSteps g.N.Work.job g.D.Disk.tells (g.D.Disk.history c.args.disk) (g.D.Disk.history crew.disk) crew.end crew.report crew.log) (λ all. TookSteps g.N.Work.job g.N.Work.files (min c.args.workers (vec_len c.args.scans)) g.D.Disk.tells (g.D.Disk.history c.args.disk) (g.D.Disk.history crew.disk) all crew.end crew.report crew.log)) (sym made.history)
     (inr (subst (λ d. WasUnmade g.N.Work.job g.D.Disk.tells (g.D.Disk.history c.args.disk) (g.D.Disk.history d) crew.end crew.report crew.log) (sym (made.disk ∙ c.close.ensures)) was))
 
 pub returns-in-None-clause-scans : goal.returns-in-None-clause-scans
@@ -99,7 +99,7 @@ returns-in-None-clause-writes g c told =
 pub returns-clause-ran : goal.returns-clause-ran
 returns-clause-ran g c =
     by_steps c.run_opened.result.history _ _ _ c.run_opened.ensures.some c.run_opened.ensures.made (λ steps made.
-    subst (λ (n : ℕ). WasCrewed g.N.Work.job g.N.Work.files n g.D.Disk.tells (g.D.Disk.history c.args.disk) (g.D.Disk.history c.run_opened.result.disk) steps c.run_opened.result.end c.run_opened.result.report c.run_opened.result.log) c.requires.crew
+    subst (λ (n : ℕ). TookSteps g.N.Work.job g.N.Work.files n g.D.Disk.tells (g.D.Disk.history c.args.disk) (g.D.Disk.history c.run_opened.result.disk) steps c.run_opened.result.end c.run_opened.result.report c.run_opened.result.log) c.requires.crew
     (crewed g.N.Work.job g.N.Work.files g.W.Crewed.workers g.N.Start.start g.D.Disk.tells g.D.Disk.history g.D.Disk.faults c.args.disk c.run_opened.result.disk steps c.run_opened.result.end c.run_opened.result.report
     c.requires.start c.requires.moment made (λ told. (c.in-Ok.ensures.answer told).fit) c.run_opened.result.log c.run_opened.ensures.shared))
 

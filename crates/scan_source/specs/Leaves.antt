@@ -1,14 +1,13 @@
 -- What a call leaves of the scan that it is lent, whatever it comes to. All of it is this project's own rule.
 --     CountsFaults      how a count of faults goes
 --     LeavesScan      what is left of a scan, by its meanings
-use Rattle.std.specs.Prelude.{◌≡◌, ℕ, ◌≤◌, Option}
-use Rattle.cf_base.specs.Count.{HasRisen}
+use Rattle.std.specs.Prelude.{◌≡◌, ℕ, Option}
+use Rattle.cf_base.specs.Count.{HasCause}
 use Rattle.scan_source.specs.World.{World}
 
--- The count never falls. Where the call failed for a fault it rose, and else it stays.
+-- A failure has its cause in the count, and where there is none the count stays.
 pub record CountsFaults (Failed : Type 0) (before after : ℕ) : Type 0 where
-  pub later : before ≤ after
-  pub failed : Failed → HasRisen before after
+  pub cause : HasCause before after Failed
   pub steady : (Failed → ⊥) → after ≡ before
 
 -- The scan is the same, and tells the same files.

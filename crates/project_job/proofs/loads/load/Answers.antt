@@ -1,0 +1,29 @@
+-- What a load leaves of the scan: a file that was got, and one that is absent, are no failure.
+use Rattle.std.proofs.Common.{◌≢◌, ℕ, Result, Ok, Err}
+use Rattle.scan_source.proofs.Leaving.{leaves_by}
+use Rattle.scan_source.specs.declared.scans.Loaded.{Loaded}
+use Rattle.scan_source.specs.declared.scans.Loaded.TheVariants as loaded
+use Rattle.outcome_line.specs.declared.outcome.Outcome.{Outcome}
+use Rattle.outcome_line.specs.declared.outcome.Outcome.TheVariants as outcomes
+use Rattle.outcome_line.specs.declared.outcome.Refused.TheVariants as refused
+use Rattle.outcome_line.specs.declared.outcome.Which.{Which}
+use Rattle.project_job.proofs.Projects.{no_err}
+use Rattle.project_job.specs.declared.loads.Front.{Front}
+use Rattle.project_job.proofs.loads.load.Goals as goal
+
+got_unfailed : (len : ℕ) → loaded.Got len ≢ loaded.Failed
+got_unfailed len is = cc
+
+absent_unfailed : loaded.Absent ≢ loaded.Failed
+absent_unfailed is = cc
+
+absent_no_fault : (absent : Which) → ◌≢◌ {A = Result Front Outcome} (Err (outcomes.Refused (refused.NoFile absent))) (Err outcomes.SourceFault)
+absent_no_fault absent is = cc
+
+pub returns-in-Got-clause-scan : goal.returns-in-Got-clause-scan
+returns-in-Got-clause-scan g c =
+    leaves_by g.S.Scans.world g.S.Scans.faults g.S.Scans.same _ _ c.in-Got.ensures.later (λ failed. absurd (no_err _ _ failed)) (λ _. c.in-Got.ensures.steady (got_unfailed _)) c.in-Got.ensures.world c.in-Got.ensures.same
+
+pub returns-in-Absent-clause-scan : goal.returns-in-Absent-clause-scan
+returns-in-Absent-clause-scan g c =
+    leaves_by g.S.Scans.world g.S.Scans.faults g.S.Scans.same _ _ c.in-Absent.ensures.later (λ failed. absurd (absent_no_fault c.args.absent failed)) (λ _. c.in-Absent.ensures.steady absent_unfailed) c.in-Absent.ensures.world c.in-Absent.ensures.same
