@@ -15,7 +15,7 @@ mod work;
 
 pub use crew::{Crew, run_crew};
 pub use frame_share::{ShareLog, ShareStep};
-pub use rounds::worker;
+pub use rounds::Shared;
 pub use seat::Seat;
 pub use shared_frames::SharedFrames;
 pub use shared_station::{Crewed, Marks, Station};

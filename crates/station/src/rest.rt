@@ -28,18 +28,253 @@ use single_run::{RunEnd, make_frame};
 use std::alloc::Global;
 use std::sync::ledger::Ledger;
 
-/// Whether a worker has stopped.
-fn has_stopped<D: Disk, N: Work + Start, W: Crewed, A: Ledger, B: Ledger, C: Ledger, E: Ledger>(
-    station: &Station<D, N, W, A, B, C, E>,
-) -> bool
-    ensures stopped { result ≡ has_stop station.now.log.steps }
-{
-    for worker in 0..station.workers() {
-        if let Turn::Stopped = station.turn(worker) {
-            return true;
+/// What the workers of a run have left, when all have returned.
+pub(crate) struct Rest<
+    D: Disk,
+    N: Work + Start,
+    W: Crewed,
+    A: Ledger,
+    B: Ledger,
+    C: Ledger,
+    E: Ledger,
+    F: Ledger,
+> {
+    /// The reel, and who renders which frame.
+    pub station: Station<D, N, W, A, B, C, E>,
+    /// The source frames that they shared.
+    pub share: Share<N, F>,
+}
+
+impl<
+    D: Disk,
+    N: Work + Start,
+    W: Crewed,
+    A: Ledger,
+    B: Ledger,
+    C: Ledger,
+    E: Ledger,
+    F: Ledger,
+> Rest<D, N, W, A, B, C, E, F> {
+    /// Whether a worker has stopped.
+    fn has_stopped(&self) -> bool
+        ensures stopped { result ≡ has_stop self.now.station.log.steps }
+    {
+        for worker in 0..self.station.workers() {
+            if let Turn::Stopped = self.station.turn(worker) {
+                return true;
+            }
+        }
+        false
+    }
+
+    /// Finishes the frame that was made for a worker, or stops as that worker where none was. It says whether the frame is done.
+    fn finish_or_stop(
+        &mut self,
+        worker: u16,
+        made: Result<Rendered<N>, RunEnd>,
+        marks: &mut Marks<A, B, C, E>,
+    ) -> bool
+        requires worker { worker < self.old.station.log.workers }
+        requires is_open { self.old.station.reel.ledger.closed ≡ false }
+        requires running { turn_of self.old.station.log worker ≢ turns.Stopped }
+        requires holds { IfOk made (λ frame. turn_of self.old.station.log worker ≡ turns.Holds frame.index) }
+        requires stop { IfErr made (IsUnrendered N.job N.files) }
+        ensures done { result ≡ true → IsOkAnd made (λ frame. HasDone self.old.station.log worker frame.index self.new.station.log) }
+        ensures stopped { result ≡ false → has_stop self.new.station.log.steps ≡ true }
+        ensures start { self.new.station.log.start ≡ self.old.station.log.start }
+        ensures workers { self.new.station.log.workers ≡ self.old.station.log.workers }
+        ensures marks { HasMarked N.files made marks.old marks.new }
+    {
+        match made {
+            Ok(frame) => self
+                .station
+                .finish(worker, &Hashed::of(frame), marks)
+                .is_ok(),
+            Err(end) => {
+                self.station.stop(worker, why_of::<N>(end), marks);
+                false
+            }
         }
     }
-    false
+
+    /// Makes and finishes the frame that a worker holds. It says whether it is done; else a worker has stopped.
+    fn finish_as<S: Scans>(
+        &mut self,
+        alloc: Global,
+        job: &Job,
+        seat: &mut Seat<S, N, A, B, C, E, F>,
+        worker: u16,
+        i: u32,
+    ) -> bool
+        requires job { job.now ≡ N.job }
+        requires files { Tells N.files (S.world seat.old.scan) }
+        requires infos { AreInfosOf N.job.parts N.files N.job.infos }
+        requires few { seat.old.loads + 2 < 2 ^ 64 }
+        requires worker { worker < self.old.station.log.workers }
+        requires holds { turn_of self.old.station.log worker ≡ turns.Holds i }
+        requires closed { seat.old.units.pending ≡ 0 }
+        ensures closed { result ≡ true → seat.new.units.pending ≡ 0 }
+        ensures done { result ≡ true → HasDone self.old.station.log worker i self.new.station.log }
+        ensures stopped { result ≡ false → has_stop self.new.station.log.steps ≡ true }
+        ensures start { self.new.station.log.start ≡ self.old.station.log.start }
+        ensures workers { self.new.station.log.workers ≡ self.old.station.log.workers }
+        ensures stepped { HasStepped N.files S.world S.faults S.loads S.same 2 seat.old seat.new }
+    {
+        self.station.recall();
+        if self.station.is_closed() {
+            return false;
+        }
+        let made = make_apart::<N, F, S>(
+            alloc,
+            job,
+            &mut seat.scan,
+            i,
+            &mut self.share,
+            &mut seat.units,
+            &mut seat.loads,
+        );
+        seat.has_failed = either(seat.has_failed, is_source_fault(&made));
+        self.finish_or_stop(worker, made, &mut seat.marks)
+    }
+
+    /// Finishes the frame that a worker holds, if it does. It says whether the worker is idle then; else one has stopped.
+    fn finish_one<S: Scans>(
+        &mut self,
+        alloc: Global,
+        job: &Job,
+        seat: &mut Seat<S, N, A, B, C, E, F>,
+        worker: u16,
+    ) -> bool
+        requires job { job.now ≡ N.job }
+        requires files { Tells N.files (S.world seat.old.scan) }
+        requires infos { AreInfosOf N.job.parts N.files N.job.infos }
+        requires few { seat.old.loads + 2 < 2 ^ 64 }
+        requires worker { worker < self.old.station.log.workers }
+        requires closed { seat.old.units.pending ≡ 0 }
+        ensures closed { result ≡ true → seat.new.units.pending ≡ 0 }
+        ensures idle { result ≡ true → turn_of self.new.station.log worker ≡ turns.Idle }
+        ensures others { result ≡ true → (w : ℕ) → w ≢ worker → turn_of self.new.station.log w ≡ turn_of self.old.station.log w }
+        ensures stopped { result ≡ false → has_stop self.new.station.log.steps ≡ true }
+        ensures start { self.new.station.log.start ≡ self.old.station.log.start }
+        ensures workers { self.new.station.log.workers ≡ self.old.station.log.workers }
+        ensures stepped { HasStepped N.files S.world S.faults S.loads S.same 2 seat.old seat.new }
+    {
+        self.station.recall();
+        match self.station.turn(worker) {
+            Turn::Idle => true,
+            Turn::Stopped => false,
+            Turn::Holds(i) => self.finish_as(alloc, job, seat, worker, i),
+        }
+    }
+
+    /// Finishes each frame that a worker holds. It says whether all are idle then; else a worker has stopped.
+    fn finish_held<S: Scans>(
+        &mut self,
+        alloc: Global,
+        job: &Job,
+        seat: &mut Seat<S, N, A, B, C, E, F>,
+    ) -> bool
+        requires job { job.now ≡ N.job }
+        requires files { Tells N.files (S.world seat.old.scan) }
+        requires infos { AreInfosOf N.job.parts N.files N.job.infos }
+        requires few { seat.old.loads ≤ 524288 }
+        requires closed { seat.old.units.pending ≡ 0 }
+        ensures closed { result ≡ true → seat.new.units.pending ≡ 0 }
+        ensures idle { result ≡ true → (w : ℕ) → w < self.new.station.log.workers → turn_of self.new.station.log w ≡ turns.Idle }
+        ensures stopped { result ≡ false → has_stop self.new.station.log.steps ≡ true }
+        ensures start { self.new.station.log.start ≡ self.old.station.log.start }
+        ensures workers { self.new.station.log.workers ≡ self.old.station.log.workers }
+        ensures stepped { HasStepped N.files S.world S.faults S.loads S.same 32 seat.old seat.new }
+    {
+        for worker in 0..self.station.workers() {
+            if !self.finish_one(alloc, job, seat, worker) {
+                return false;
+            }
+        }
+        true
+    }
+
+    /// Claims a frame for worker 0, while all workers are idle. There is none where a worker has stopped, and else where every
+    /// frame is done.
+    fn claim_first(&mut self) -> Option<u32>
+        requires idle { (w : ℕ) → w < self.old.station.log.workers → turn_of self.old.station.log w ≡ turns.Idle }
+        ensures taken { IfSome result (λ i. HasClaimed self.old.station.log i self.new.station.log) }
+        ensures whole { result ≡ None → HasFinished N.job self.new.station.log }
+    {
+        self.station.recall();
+        match self.station.claim(0) {
+            Claim::Take(i) => Some(i),
+            Claim::NoneLeft | Claim::Stopped => None,
+        }
+    }
+
+    /// Claims and finishes each free frame as worker 0.
+    fn finish_free<S: Scans>(
+        &mut self,
+        alloc: Global,
+        job: &Job,
+        seat: &mut Seat<S, N, A, B, C, E, F>,
+    )
+        requires job { job.now ≡ N.job }
+        requires files { Tells N.files (S.world seat.old.scan) }
+        requires infos { AreInfosOf N.job.parts N.files N.job.infos }
+        requires few { seat.old.loads ≤ 524320 }
+        requires closed { seat.old.units.pending ≡ 0 }
+        requires idle { (w : ℕ) → w < self.old.station.log.workers → turn_of self.old.station.log w ≡ turns.Idle }
+        ensures whole { HasFinished N.job self.new.station.log }
+        ensures stepped { HasStepped N.files S.world S.faults S.loads S.same 524290 seat.old seat.new }
+    {
+        self.station.recall();
+        for _ in 0..job.timeline().count() + 1 {
+            let Some(i) = self.claim_first() else {
+                return;
+            };
+            if !self.finish_as(alloc, job, seat, 0, i) {
+                return;
+            }
+        }
+        unreachable!()
+    }
+
+    /// Stops as worker 0, for want of memory, while no worker has stopped.
+    fn stop_first(&mut self, marks: &mut Marks<A, B, C, E>)
+        requires none { has_stop self.old.station.log.steps ≡ false }
+        ensures stopped { has_stop self.new.station.log.steps ≡ true }
+        ensures marks { marks.new ≡ raised_by whys.Memory marks.old }
+    {
+        self.station.recall();
+        self.station.stop(0, Why::Memory, marks);
+    }
+
+    /// Finishes what the workers left, where none of them has stopped: first each frame that a worker holds, as that worker,
+    /// and then each free one as worker 0. Where a miss has had no put, for want of memory, worker 0 stops instead. Either a
+    /// worker has stopped then, or every frame is done.
+    pub(crate) fn finish_rest<S: Scans>(
+        &mut self,
+        alloc: Global,
+        job: &Job,
+        seat: &mut Seat<S, N, A, B, C, E, F>,
+        all_put: bool,
+    )
+        requires job { job.now ≡ N.job }
+        requires files { Tells N.files (S.world seat.old.scan) }
+        requires infos { AreInfosOf N.job.parts N.files N.job.infos }
+        requires few { seat.old.loads ≤ 524288 }
+        requires put { all_put ≡ true → seat.old.units.pending ≡ 0 }
+        ensures whole { HasFinished N.job self.new.station.log }
+        ensures stepped { HasStepped N.files S.world S.faults S.loads S.same 524322 seat.old seat.new }
+    {
+        if self.has_stopped() {
+            return;
+        }
+        if !all_put {
+            self.stop_first(&mut seat.marks);
+            return;
+        }
+        if self.finish_held(alloc, job, seat) {
+            self.finish_free(alloc, job, seat);
+        }
+    }
 }
 
 /// Whether one of two things holds.
@@ -79,270 +314,4 @@ fn make_apart<N: Work, F: Ledger, S: Scans>(
     };
     let mut rooms = Rooms::new(alloc);
     make_frame(alloc, job, scan, i, &mut rooms, room, share, units, loads)
-}
-
-/// Finishes the frame that was made for a worker, or stops as that worker where none was. It says whether the frame is done.
-fn finish_or_stop<D: Disk, N: Work + Start, W: Crewed, A: Ledger, B: Ledger, C: Ledger, E: Ledger>(
-    station: &mut Station<D, N, W, A, B, C, E>,
-    worker: u16,
-    made: Result<Rendered<N>, RunEnd>,
-    marks: &mut Marks<A, B, C, E>,
-) -> bool
-    requires worker { worker < station.old.log.workers }
-    requires is_open { station.old.reel.ledger.closed ≡ false }
-    requires running { turn_of station.old.log worker ≢ turns.Stopped }
-    requires holds { IfOk made (λ frame. turn_of station.old.log worker ≡ turns.Holds frame.index) }
-    requires stop { IfErr made (IsUnrendered N.job N.files) }
-    ensures done { result ≡ true → IsOkAnd made (λ frame. HasDone station.old.log worker frame.index station.new.log) }
-    ensures stopped { result ≡ false → has_stop station.new.log.steps ≡ true }
-    ensures start { station.new.log.start ≡ station.old.log.start }
-    ensures workers { station.new.log.workers ≡ station.old.log.workers }
-    ensures marks { HasMarked N.files made marks.old marks.new }
-{
-    match made {
-        Ok(frame) => station.finish(worker, &Hashed::of(frame), marks).is_ok(),
-        Err(end) => {
-            station.stop(worker, why_of::<N>(end), marks);
-            false
-        }
-    }
-}
-
-/// Makes and finishes the frame that a worker holds. It says whether it is done; else a worker has stopped.
-fn finish_as<
-    S: Scans,
-    D: Disk,
-    N: Work + Start,
-    W: Crewed,
-    A: Ledger,
-    B: Ledger,
-    C: Ledger,
-    E: Ledger,
-    F: Ledger,
->(
-    alloc: Global,
-    job: &Job,
-    station: &mut Station<D, N, W, A, B, C, E>,
-    share: &mut Share<N, F>,
-    seat: &mut Seat<S, N, A, B, C, E, F>,
-    worker: u16,
-    i: u32,
-) -> bool
-    requires job { job.now ≡ N.job }
-    requires files { Tells N.files (S.world seat.old.scan) }
-    requires infos { AreInfosOf N.job.parts N.files N.job.infos }
-    requires few { seat.old.loads + 2 < 2 ^ 64 }
-    requires worker { worker < station.old.log.workers }
-    requires holds { turn_of station.old.log worker ≡ turns.Holds i }
-    requires closed { seat.old.units.pending ≡ 0 }
-    ensures closed { result ≡ true → seat.new.units.pending ≡ 0 }
-    ensures done { result ≡ true → HasDone station.old.log worker i station.new.log }
-    ensures stopped { result ≡ false → has_stop station.new.log.steps ≡ true }
-    ensures start { station.new.log.start ≡ station.old.log.start }
-    ensures workers { station.new.log.workers ≡ station.old.log.workers }
-    ensures stepped { HasStepped N.files S.world S.faults S.loads S.same 2 seat.old seat.new }
-{
-    station.recall();
-    if station.is_closed() {
-        return false;
-    }
-    let made = make_apart::<N, F, S>(
-        alloc,
-        job,
-        &mut seat.scan,
-        i,
-        share,
-        &mut seat.units,
-        &mut seat.loads,
-    );
-    seat.has_failed = either(seat.has_failed, is_source_fault(&made));
-    finish_or_stop(station, worker, made, &mut seat.marks)
-}
-
-/// Finishes the frame that a worker holds, if it does. It says whether the worker is idle then; else one has stopped.
-fn finish_one<
-    S: Scans,
-    D: Disk,
-    N: Work + Start,
-    W: Crewed,
-    A: Ledger,
-    B: Ledger,
-    C: Ledger,
-    E: Ledger,
-    F: Ledger,
->(
-    alloc: Global,
-    job: &Job,
-    station: &mut Station<D, N, W, A, B, C, E>,
-    share: &mut Share<N, F>,
-    seat: &mut Seat<S, N, A, B, C, E, F>,
-    worker: u16,
-) -> bool
-    requires job { job.now ≡ N.job }
-    requires files { Tells N.files (S.world seat.old.scan) }
-    requires infos { AreInfosOf N.job.parts N.files N.job.infos }
-    requires few { seat.old.loads + 2 < 2 ^ 64 }
-    requires worker { worker < station.old.log.workers }
-    requires closed { seat.old.units.pending ≡ 0 }
-    ensures closed { result ≡ true → seat.new.units.pending ≡ 0 }
-    ensures idle { result ≡ true → turn_of station.new.log worker ≡ turns.Idle }
-    ensures others { result ≡ true → (w : ℕ) → w ≢ worker → turn_of station.new.log w ≡ turn_of station.old.log w }
-    ensures stopped { result ≡ false → has_stop station.new.log.steps ≡ true }
-    ensures start { station.new.log.start ≡ station.old.log.start }
-    ensures workers { station.new.log.workers ≡ station.old.log.workers }
-    ensures stepped { HasStepped N.files S.world S.faults S.loads S.same 2 seat.old seat.new }
-{
-    station.recall();
-    match station.turn(worker) {
-        Turn::Idle => true,
-        Turn::Stopped => false,
-        Turn::Holds(i) => finish_as(alloc, job, station, share, seat, worker, i),
-    }
-}
-
-/// Finishes each frame that a worker holds. It says whether all are idle then; else a worker has stopped.
-fn finish_held<
-    S: Scans,
-    D: Disk,
-    N: Work + Start,
-    W: Crewed,
-    A: Ledger,
-    B: Ledger,
-    C: Ledger,
-    E: Ledger,
-    F: Ledger,
->(
-    alloc: Global,
-    job: &Job,
-    station: &mut Station<D, N, W, A, B, C, E>,
-    share: &mut Share<N, F>,
-    seat: &mut Seat<S, N, A, B, C, E, F>,
-) -> bool
-    requires job { job.now ≡ N.job }
-    requires files { Tells N.files (S.world seat.old.scan) }
-    requires infos { AreInfosOf N.job.parts N.files N.job.infos }
-    requires few { seat.old.loads ≤ 524288 }
-    requires closed { seat.old.units.pending ≡ 0 }
-    ensures closed { result ≡ true → seat.new.units.pending ≡ 0 }
-    ensures idle { result ≡ true → (w : ℕ) → w < station.new.log.workers → turn_of station.new.log w ≡ turns.Idle }
-    ensures stopped { result ≡ false → has_stop station.new.log.steps ≡ true }
-    ensures start { station.new.log.start ≡ station.old.log.start }
-    ensures workers { station.new.log.workers ≡ station.old.log.workers }
-    ensures stepped { HasStepped N.files S.world S.faults S.loads S.same 32 seat.old seat.new }
-{
-    for worker in 0..station.workers() {
-        if !finish_one(alloc, job, station, share, seat, worker) {
-            return false;
-        }
-    }
-    true
-}
-
-/// Claims a frame for worker 0, while all workers are idle. There is none where a worker has stopped, and else where every
-/// frame is done.
-fn claim_first<D: Disk, N: Work + Start, W: Crewed, A: Ledger, B: Ledger, C: Ledger, E: Ledger>(
-    station: &mut Station<D, N, W, A, B, C, E>,
-) -> Option<u32>
-    requires idle { (w : ℕ) → w < station.old.log.workers → turn_of station.old.log w ≡ turns.Idle }
-    ensures taken { IfSome result (λ i. HasClaimed station.old.log i station.new.log) }
-    ensures whole { result ≡ None → HasFinished N.job station.new.log }
-{
-    station.recall();
-    match station.claim(0) {
-        Claim::Take(i) => Some(i),
-        Claim::NoneLeft | Claim::Stopped => None,
-    }
-}
-
-/// Claims and finishes each free frame as worker 0.
-fn finish_free<
-    S: Scans,
-    D: Disk,
-    N: Work + Start,
-    W: Crewed,
-    A: Ledger,
-    B: Ledger,
-    C: Ledger,
-    E: Ledger,
-    F: Ledger,
->(
-    alloc: Global,
-    job: &Job,
-    station: &mut Station<D, N, W, A, B, C, E>,
-    share: &mut Share<N, F>,
-    seat: &mut Seat<S, N, A, B, C, E, F>,
-)
-    requires job { job.now ≡ N.job }
-    requires files { Tells N.files (S.world seat.old.scan) }
-    requires infos { AreInfosOf N.job.parts N.files N.job.infos }
-    requires few { seat.old.loads ≤ 524320 }
-    requires closed { seat.old.units.pending ≡ 0 }
-    requires idle { (w : ℕ) → w < station.old.log.workers → turn_of station.old.log w ≡ turns.Idle }
-    ensures whole { HasFinished N.job station.new.log }
-    ensures stepped { HasStepped N.files S.world S.faults S.loads S.same 524290 seat.old seat.new }
-{
-    station.recall();
-    for _ in 0..job.timeline().count() + 1 {
-        let Some(i) = claim_first(station) else {
-            return;
-        };
-        if !finish_as(alloc, job, station, share, seat, 0, i) {
-            return;
-        }
-    }
-    unreachable!()
-}
-
-/// Stops as worker 0, for want of memory, while no worker has stopped.
-fn stop_first<D: Disk, N: Work + Start, W: Crewed, A: Ledger, B: Ledger, C: Ledger, E: Ledger>(
-    station: &mut Station<D, N, W, A, B, C, E>,
-    marks: &mut Marks<A, B, C, E>,
-)
-    requires none { has_stop station.old.log.steps ≡ false }
-    ensures stopped { has_stop station.new.log.steps ≡ true }
-    ensures marks { marks.new ≡ raised_by whys.Memory marks.old }
-{
-    station.recall();
-    station.stop(0, Why::Memory, marks);
-}
-
-/// Finishes what the workers left, where none of them has stopped: first each frame that a worker holds, as that worker,
-/// and then each free one as worker 0. Where a miss has had no put, for want of memory, worker 0 stops instead. Either a
-/// worker has stopped then, or every frame is done.
-pub(crate) fn finish_rest<
-    S: Scans,
-    D: Disk,
-    N: Work + Start,
-    W: Crewed,
-    A: Ledger,
-    B: Ledger,
-    C: Ledger,
-    E: Ledger,
-    F: Ledger,
->(
-    alloc: Global,
-    job: &Job,
-    station: &mut Station<D, N, W, A, B, C, E>,
-    share: &mut Share<N, F>,
-    seat: &mut Seat<S, N, A, B, C, E, F>,
-    all_put: bool,
-)
-    requires job { job.now ≡ N.job }
-    requires files { Tells N.files (S.world seat.old.scan) }
-    requires infos { AreInfosOf N.job.parts N.files N.job.infos }
-    requires few { seat.old.loads ≤ 524288 }
-    requires put { all_put ≡ true → seat.old.units.pending ≡ 0 }
-    ensures whole { HasFinished N.job station.new.log }
-    ensures stepped { HasStepped N.files S.world S.faults S.loads S.same 524322 seat.old seat.new }
-{
-    if has_stopped(station) {
-        return;
-    }
-    if !all_put {
-        stop_first(station, &mut seat.marks);
-        return;
-    }
-    if finish_held(alloc, job, station, share, seat) {
-        finish_free(alloc, job, station, share, seat);
-    }
 }

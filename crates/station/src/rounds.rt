@@ -50,8 +50,10 @@ pub(crate) fn why_of<N: Work>(end: RunEnd) -> Why
     }
 }
 
-/// Takes a frame, where there is one for the worker.
-fn take_frame<
+/// What the workers of a run share.
+#[derive(Drop)]
+pub struct Shared<
+    'a,
     D: Disk,
     N: Work + Start,
     W: Crewed,
@@ -59,15 +61,22 @@ fn take_frame<
     B: Ledger,
     C: Ledger,
     E: Ledger,
-    R: Wait,
->(rt: &R, number: u16, station: &Mutex<Station<D, N, W, A, B, C, E>>) -> Result<Held, Away>
-    ensures within { IfOk result (λ i. i < frames_of N.job) }
-{
-    station.lock(rt).take(number)
+    F: Ledger,
+    R: Threads + Wait + Sync,
+> {
+    /// Threads, and waiting for a lock.
+    pub rt: &'a R,
+    /// Where memory comes from.
+    pub alloc: Global,
+    /// N's job.
+    pub job: &'a Job,
+    /// The reel, and who renders which frame.
+    pub station: &'a Mutex<Station<D, N, W, A, B, C, E>>,
+    /// The source frames.
+    pub share: &'a SharedFrames<N, F>,
 }
 
-/// Finishes a frame that the worker took, where it still holds it and the reel is open.
-fn hand_in<
+impl<
     D: Disk,
     N: Work + Start,
     W: Crewed,
@@ -75,199 +84,151 @@ fn hand_in<
     B: Ledger,
     C: Ledger,
     E: Ledger,
-    R: Wait,
->(
-    rt: &R,
-    number: u16,
-    marks: &mut Marks<A, B, C, E>,
-    station: &Mutex<Station<D, N, W, A, B, C, E>>,
-    held: Held,
-    frame: &Hashed<N>,
-) -> Result<(), Leave>
-    requires index { frame.now.index ≡ held }
-    ensures unmarked { OnOk result (marks.new ≡ marks.old) }
-    ensures left { IfErr result (HasLeft (λ why. why ≡ whys.Disk) marks.old marks.new) }
-{
-    station.lock(rt).hand_in(number, held, frame, marks)
-}
+    F: Ledger,
+    R: Threads + Wait + Sync,
+> Shared<'_, D, N, W, A, B, C, E, F, R> {
+    /// Takes a frame, where there is one for the worker.
+    fn take_frame(&self, number: u16) -> Result<Held, Away>
+        ensures within { IfOk result (λ i. i < frames_of N.job) }
+    {
+        self.station.lock(self.rt).take(number)
+    }
 
-/// Stops, where the worker has not stopped and the reel is open, with the frame that it took.
-fn give_up<
-    D: Disk,
-    N: Work + Start,
-    W: Crewed,
-    A: Ledger,
-    B: Ledger,
-    C: Ledger,
-    E: Ledger,
-    R: Wait,
->(
-    rt: &R,
-    number: u16,
-    marks: &mut Marks<A, B, C, E>,
-    station: &Mutex<Station<D, N, W, A, B, C, E>>,
-    held: Option<Held>,
-    why: Why,
-) -> Leave
-    requires why { MayStop N.job N.files why }
-    ensures left { HasLeft (λ other. other ≡ why) marks.old marks.new result }
-{
-    station.lock(rt).give_up(number, held, why, marks)
-}
+    /// Finishes a frame that the worker took, where it still holds it and the reel is open.
+    fn hand_in(
+        &self,
+        number: u16,
+        marks: &mut Marks<A, B, C, E>,
+        held: Held,
+        frame: &Hashed<N>,
+    ) -> Result<(), Leave>
+        requires index { frame.now.index ≡ held }
+        ensures unmarked { OnOk result (marks.new ≡ marks.old) }
+        ensures left { IfErr result (HasLeft (λ why. why ≡ whys.Disk) marks.old marks.new) }
+    {
+        self.station
+            .lock(self.rt)
+            .hand_in(number, held, frame, marks)
+    }
 
-/// Hands in the frame that was made for a worker, or stops where none was. The room is handed back where the worker goes on.
-fn deliver<
-    D: Disk,
-    N: Work + Start,
-    W: Crewed,
-    A: Ledger,
-    B: Ledger,
-    C: Ledger,
-    E: Ledger,
-    R: Wait,
->(
-    rt: &R,
-    number: u16,
-    marks: &mut Marks<A, B, C, E>,
-    station: &Mutex<Station<D, N, W, A, B, C, E>>,
-    held: Held,
-    made: Result<Rendered<N>, RunEnd>,
-) -> Result<FrameBuf, Leave>
-    requires index { IfOk made (λ frame. frame.index ≡ held) }
-    requires stop { IfErr made (IsUnrendered N.job N.files) }
-    ensures room { IfOk result (λ back. length back ≡ frame_size N.job) }
-    ensures goes_on { OnOk result ((marks.new ≡ marks.old) × IsOk made) }
-    ensures marks { HasMarked N.files made marks.old marks.new }
-    ensures left { IfErr result (HasLeft (λ why. made ≡ Err RunEnd.SourceFault → why ≡ whys.Source) marks.old marks.new) }
-{
-    match made {
-        Ok(frame) => {
-            let hashed = Hashed::of(frame);
-            match hand_in(rt, number, marks, station, held, &hashed) {
-                Ok(()) => Ok(hashed.into_frame().into_buf()),
-                Err(leave) => Err(leave),
+    /// Stops, where the worker has not stopped and the reel is open, with the frame that it took.
+    fn give_up(
+        &self,
+        number: u16,
+        marks: &mut Marks<A, B, C, E>,
+        held: Option<Held>,
+        why: Why,
+    ) -> Leave
+        requires why { MayStop N.job N.files why }
+        ensures left { HasLeft (λ other. other ≡ why) marks.old marks.new result }
+    {
+        self.station.lock(self.rt).give_up(number, held, why, marks)
+    }
+
+    /// Hands in the frame that was made for a worker, or stops where none was. The room is handed back where the worker goes on.
+    fn deliver(
+        &self,
+        number: u16,
+        marks: &mut Marks<A, B, C, E>,
+        held: Held,
+        made: Result<Rendered<N>, RunEnd>,
+    ) -> Result<FrameBuf, Leave>
+        requires index { IfOk made (λ frame. frame.index ≡ held) }
+        requires stop { IfErr made (IsUnrendered N.job N.files) }
+        ensures room { IfOk result (λ back. length back ≡ frame_size N.job) }
+        ensures goes_on { OnOk result ((marks.new ≡ marks.old) × IsOk made) }
+        ensures marks { HasMarked N.files made marks.old marks.new }
+        ensures left { IfErr result (HasLeft (λ why. made ≡ Err RunEnd.SourceFault → why ≡ whys.Source) marks.old marks.new) }
+    {
+        match made {
+            Ok(frame) => {
+                let hashed = Hashed::of(frame);
+                match self.hand_in(number, marks, held, &hashed) {
+                    Ok(()) => Ok(hashed.into_frame().into_buf()),
+                    Err(leave) => Err(leave),
+                }
+            }
+            Err(end) => Err(self.give_up(number, marks, Some(held), why_of::<N>(end))),
+        }
+    }
+
+    /// One round: takes a frame, makes it and finishes it. The room is handed back where the worker goes on; else it has stopped, or
+    /// was turned away.
+    fn round<S: Scans>(
+        &self,
+        seat: &mut Seat<S, N, A, B, C, E, F>,
+        rooms: &mut Rooms<N>,
+        room: FrameBuf,
+    ) -> Result<FrameBuf, Leave>
+        requires job { self.now.job.now ≡ N.job }
+        requires files { Tells N.files (S.world seat.old.scan) }
+        requires infos { AreInfosOf N.job.parts N.files N.job.infos }
+        requires room { length room ≡ frame_size N.job }
+        requires few { seat.old.loads + 2 < 2 ^ 64 }
+        requires unfailed { seat.old.has_failed ≡ false }
+        requires closed { seat.old.units.pending ≡ 0 }
+        ensures number { seat.new.number ≡ seat.old.number }
+        ensures stepped { HasStepped N.files S.world S.faults S.loads S.same 2 seat.old seat.new }
+        ensures closed { OnOk result (seat.new.units.pending ≡ 0) }
+        ensures room { IfOk result (λ back. length back ≡ frame_size N.job) }
+        ensures goes_on { OnOk result ((seat.new.marks ≡ seat.old.marks) × (seat.new.has_failed ≡ false)) }
+        ensures left { IfErr result (HasLeft (λ why. seat.new.has_failed ≡ true → why ≡ whys.Source) seat.old.marks seat.new.marks) }
+    {
+        let held = match self.take_frame(seat.number) {
+            Ok(held) => held,
+            Err(away) => return Err(Leave::Away(away)),
+        };
+        let made = make_shared::<N, F, S, R>(
+            self.rt,
+            self.alloc,
+            self.job,
+            &mut seat.scan,
+            seat.number,
+            held.frame(),
+            rooms,
+            room,
+            seat.threads,
+            self.share,
+            &mut seat.units,
+            &mut seat.loads,
+        );
+        seat.has_failed = is_source_fault(&made);
+        self.deliver(seat.number, &mut seat.marks, held, made)
+    }
+
+    /// A worker's part of a run: it claims, makes and finishes frames until none is left, or somebody stops. It loads, renders
+    /// and hashes outside both locks, holds one of them at a time, and waits for them alone. A frame is rendered in as many threads
+    /// as its seat says.
+    ///
+    /// It stops where a load failed, where memory ran out, where the disk failed in a finish, and where a source file isn't
+    /// what it was when the job was planned. Each stop is counted in its marks. It leaves only where it has stopped or the station
+    /// has turned it away: a frame that it took can't be let go, and a station alone says that it has no step for a worker.
+    pub fn worker<S: Scans>(&self, seat: &mut Seat<S, N, A, B, C, E, F>) -> Leave
+        requires job { self.now.job.now ≡ N.job }
+        requires files { Tells N.files (S.world seat.old.scan) }
+        requires infos { AreInfosOf N.job.parts N.files N.job.infos }
+        requires none { seat.old.loads ≡ 0 }
+        requires unfailed { seat.old.has_failed ≡ false }
+        requires closed { seat.old.units.pending ≡ 0 }
+        ensures number { seat.new.number ≡ seat.old.number }
+        ensures worked { HasWorked N.files S.world S.faults S.loads S.same 524288 seat.old seat.new }
+        ensures left { HasLeft (λ why. seat.new.has_failed ≡ true → why ≡ whys.Source) seat.old.marks seat.new.marks result }
+    {
+        let mut room = match FrameBuf::new(self.alloc, self.job) {
+            Ok(room) => room,
+            Err(_) => return self.give_up(seat.number, &mut seat.marks, None, Why::Memory),
+        };
+        let mut rooms = Rooms::new(self.alloc);
+        for _ in 0..self.job.timeline().count() {
+            match self.round(seat, &mut rooms, room) {
+                Ok(back) => room = back,
+                Err(leave) => return leave,
             }
         }
-        Err(end) => Err(give_up(rt, number, marks, station, Some(held), why_of::<N>(end))),
-    }
-}
-
-/// One round: takes a frame, makes it and finishes it. The room is handed back where the worker goes on; else it has stopped, or
-/// was turned away.
-fn round<
-    S: Scans,
-    D: Disk,
-    N: Work + Start,
-    W: Crewed,
-    A: Ledger,
-    B: Ledger,
-    C: Ledger,
-    E: Ledger,
-    F: Ledger,
-    R: Threads + Wait + Sync,
->(
-    rt: &R,
-    alloc: Global,
-    job: &Job,
-    seat: &mut Seat<S, N, A, B, C, E, F>,
-    station: &Mutex<Station<D, N, W, A, B, C, E>>,
-    share: &SharedFrames<N, F>,
-    rooms: &mut Rooms<N>,
-    room: FrameBuf,
-) -> Result<FrameBuf, Leave>
-    requires job { job.now ≡ N.job }
-    requires files { Tells N.files (S.world seat.old.scan) }
-    requires infos { AreInfosOf N.job.parts N.files N.job.infos }
-    requires room { length room ≡ frame_size N.job }
-    requires few { seat.old.loads + 2 < 2 ^ 64 }
-    requires unfailed { seat.old.has_failed ≡ false }
-    requires closed { seat.old.units.pending ≡ 0 }
-    ensures number { seat.new.number ≡ seat.old.number }
-    ensures stepped { HasStepped N.files S.world S.faults S.loads S.same 2 seat.old seat.new }
-    ensures closed { OnOk result (seat.new.units.pending ≡ 0) }
-    ensures room { IfOk result (λ back. length back ≡ frame_size N.job) }
-    ensures goes_on { OnOk result ((seat.new.marks ≡ seat.old.marks) × (seat.new.has_failed ≡ false)) }
-    ensures left { IfErr result (HasLeft (λ why. seat.new.has_failed ≡ true → why ≡ whys.Source) seat.old.marks seat.new.marks) }
-{
-    let held = match take_frame(rt, seat.number, station) {
-        Ok(held) => held,
-        Err(away) => return Err(Leave::Away(away)),
-    };
-    let made = make_shared::<N, F, S, R>(
-        rt,
-        alloc,
-        job,
-        &mut seat.scan,
-        seat.number,
-        held.frame(),
-        rooms,
-        room,
-        seat.threads,
-        share,
-        &mut seat.units,
-        &mut seat.loads,
-    );
-    seat.has_failed = is_source_fault(&made);
-    deliver(rt, seat.number, &mut seat.marks, station, held, made)
-}
-
-/// A worker's part of a run: it claims, makes and finishes frames until none is left, or somebody stops. It loads, renders
-/// and hashes outside both locks, holds one of them at a time, and waits for them alone. A frame is rendered in as many threads
-/// as its seat says.
-///
-/// It stops where a load failed, where memory ran out, where the disk failed in a finish, and where a source file isn't
-/// what it was when the job was planned. Each stop is counted in its marks. It leaves only where it has stopped or the station
-/// has turned it away: a frame that it took can't be let go, and a station alone says that it has no step for a worker.
-pub fn worker<
-    S: Scans,
-    D: Disk,
-    N: Work + Start,
-    W: Crewed,
-    A: Ledger,
-    B: Ledger,
-    C: Ledger,
-    E: Ledger,
-    F: Ledger,
-    R: Threads + Wait + Sync,
->(
-    rt: &R,
-    alloc: Global,
-    job: &Job,
-    seat: &mut Seat<S, N, A, B, C, E, F>,
-    station: &Mutex<Station<D, N, W, A, B, C, E>>,
-    share: &SharedFrames<N, F>,
-) -> Leave
-    requires job { job.now ≡ N.job }
-    requires files { Tells N.files (S.world seat.old.scan) }
-    requires infos { AreInfosOf N.job.parts N.files N.job.infos }
-    requires none { seat.old.loads ≡ 0 }
-    requires unfailed { seat.old.has_failed ≡ false }
-    requires closed { seat.old.units.pending ≡ 0 }
-    ensures number { seat.new.number ≡ seat.old.number }
-    ensures worked { HasWorked N.files S.world S.faults S.loads S.same 524288 seat.old seat.new }
-    ensures left { HasLeft (λ why. seat.new.has_failed ≡ true → why ≡ whys.Source) seat.old.marks seat.new.marks result }
-{
-    let mut room = match FrameBuf::new(alloc, job) {
-        Ok(room) => room,
-        Err(_) => return give_up(rt, seat.number, &mut seat.marks, station, None, Why::Memory),
-    };
-    let mut rooms = Rooms::new(alloc);
-    for _ in 0..job.timeline().count() {
-        match round(rt, alloc, job, seat, station, share, &mut rooms, room) {
-            Ok(back) => room = back,
-            Err(leave) => return leave,
+        // So many finishes leave no frame, and the station says so.
+        match self.take_frame(seat.number) {
+            Err(away) => Leave::Away(away),
+            Ok(held) => self.give_up(seat.number, &mut seat.marks, Some(held), Why::Memory),
         }
-    }
-    // So many finishes leave no frame, and the station says so.
-    match take_frame(rt, seat.number, station) {
-        Err(away) => Leave::Away(away),
-        Ok(held) => give_up(
-            rt,
-            seat.number,
-            &mut seat.marks,
-            station,
-            Some(held),
-            Why::Memory,
-        ),
     }
 }

@@ -6,8 +6,8 @@ ghost use Rattle.station.specs.Left.{HasFinished};
 ghost use Rattle.station.specs.Stepped.{HasWorked, IsReady};
 
 use crate::each::{Works, work_on_each};
-use crate::rest::finish_rest;
-use crate::rounds::worker;
+use crate::rest::Rest;
+use crate::rounds::Shared;
 use crate::seat::Seat;
 use crate::shared_frames::SharedFrames;
 use conform_job::{Job, Work};
@@ -19,27 +19,6 @@ use std::alloc::Global;
 use std::sync::ledger::Ledger;
 use std::sync::{Mutex, Wait};
 use std::thread::Threads;
-
-/// What the workers of a run share.
-#[derive(Drop)]
-struct Shared<
-    'a,
-    D: Disk,
-    N: Work + Start,
-    W: Crewed,
-    A: Ledger,
-    B: Ledger,
-    C: Ledger,
-    E: Ledger,
-    F: Ledger,
-    R: Threads + Wait + Sync,
-> {
-    rt: &'a R,
-    alloc: Global,
-    job: &'a Job,
-    station: &'a Mutex<Station<D, N, W, A, B, C, E>>,
-    share: &'a SharedFrames<N, F>,
-}
 
 impl<
     S: Scans,
@@ -64,14 +43,7 @@ impl<
     ghost has = { λ shared old new. HasWorked N.files S.world S.faults S.loads S.same 524288 old new };
 
     fn work(&self, seat: &mut Seat<S, N, A, B, C, E, F>) {
-        drop(worker(
-            self.rt,
-            self.alloc,
-            self.job,
-            seat,
-            self.station,
-            self.share,
-        ));
+        drop(self.worker(seat));
     }
 }
 
@@ -154,9 +126,12 @@ pub(crate) fn work_all<
         share: &share,
     };
     work_in_first(&shared, seats, threads);
-    let mut station = station.into_inner();
-    let mut share = share.into_share();
+    let mut rest = Rest {
+        station: station.into_inner(),
+        share: share.into_share(),
+    };
     let all_put = are_put(seats);
-    finish_rest(alloc, job, &mut station, &mut share, &mut seats[0], all_put);
+    rest.finish_rest(alloc, job, &mut seats[0], all_put);
+    let Rest { station, share } = rest;
     (station, share)
 }

@@ -2,11 +2,11 @@ use Rattle.std.proofs.Common.{◌≡◌, ◌+◌, ◌*◌, ◌∙◌, Bool, List
 use Rattle.render_board.specs.declared.step.Step.TheVariants.{Claim}
 use Rattle.render_board.specs.Board.{Log, with_step}
 use Rattle.station.proofs.Resting.{free_most, holds_after, round_over, stepped_along, stepped_itself}
-use Rattle.station.proofs.rest.finish_free.Goals as goal
+use Rattle.station.proofs.rest.Rest.finish_free.Goals as goal
 
 pub loop-init : goal.loop-init
 loop-init g c =
-    let most = free_most c.args.station.now.log in
+    let most = free_most c.args.self.now.station.log in
     let size = c.recall.ensures.kept.size in
     record {
       within = search rules;
@@ -21,7 +21,7 @@ loop-init g c =
     }
 
 pub finish_as-requires-clause-holds : goal.finish_as-requires-clause-holds
-finish_as-requires-clause-holds g c = holds_after c.loop.station.log c.claim_first.new.station.log c.in-Some.i c.in-Some.ensures.taken.0
+finish_as-requires-clause-holds g c = holds_after c.loop.self.station.log c.claim_first.new.self.station.log c.in-Some.i c.in-Some.ensures.taken.0
 
 -- where it ends
 pub returns-then-not-finish_as-clause-stepped : goal.returns-then-not-finish_as-clause-stepped
@@ -33,8 +33,8 @@ returns-then-not-finish_as-clause-stepped g c =
 pub loop-preserved : goal.loop-preserved
 loop-preserved g c =
     let inv = c.loop.invariant in
-    let over = round_over c.loop.station.log c.claim_first.new.station.log c.finish_as.new.station.log c.in-Some.i c.in-Some.ensures.taken.1 c.in-Some.ensures.taken.0 (c.finish_as.ensures.done c.if-not-finish_as.false) inv.idle in
-    let mid : c.claim_first.new.station.log ≡ with_step c.loop.station.log (Claim 0 c.in-Some.i) = c.in-Some.ensures.taken.0 in
+    let over = round_over c.loop.self.station.log c.claim_first.new.self.station.log c.finish_as.new.self.station.log c.in-Some.i c.in-Some.ensures.taken.1 c.in-Some.ensures.taken.0 (c.finish_as.ensures.done c.if-not-finish_as.false) inv.idle in
+    let mid : c.claim_first.new.self.station.log ≡ with_step c.loop.self.station.log (Claim 0 c.in-Some.i) = c.in-Some.ensures.taken.0 in
     record {
       within = search rules;
       ending = inv.ending;

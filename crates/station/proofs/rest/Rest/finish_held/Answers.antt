@@ -1,6 +1,6 @@
 use Rattle.std.proofs.Common.{◌*◌, ◌+◌, ◌∙◌, rules, arith}
 use Rattle.station.proofs.Resting.{idle_next, stepped_along, stepped_itself, stepped_within}
-use Rattle.station.proofs.rest.finish_held.Goals as goal
+use Rattle.station.proofs.rest.Rest.finish_held.Goals as goal
 
 pub loop-worker-init : goal.loop-worker-init
 loop-worker-init g c = record {
@@ -28,7 +28,7 @@ loop-worker-preserved g c =
       few = search rules;
       start = c.finish_one.ensures.start ∙ inv.start;
       workers = c.finish_one.ensures.workers ∙ inv.workers;
-      idle = idle_next c.loop-worker.station.log c.finish_one.new.station.log c.loop-worker.worker (search rules) (search rules) inv.idle;
+      idle = idle_next c.loop-worker.self.station.log c.finish_one.new.self.station.log c.loop-worker.worker (search rules) (search rules) inv.idle;
       closed = c.finish_one.ensures.closed c.if-not-finish_one.false;
       stepped = stepped_along g.N.Work.files g.S.Scans.world g.S.Scans.faults g.S.Scans.loads g.S.Scans.same g.met.S.Scans.same_trans (2 * c.loop-worker.worker) 2 (2 * (c.loop-worker.worker + 1)) c.args.seat.now c.loop-worker.seat c.finish_one.new.seat
           (omega arith) inv.stepped c.finish_one.ensures.stepped;

@@ -1,5 +1,5 @@
 use Rattle.station.proofs.Resting.{marked_end, marked_finish}
-use Rattle.station.proofs.rest.finish_or_stop.Goals as goal
+use Rattle.station.proofs.rest.Rest.finish_or_stop.Goals as goal
 
 pub returns-in-Ok-clause-marks : goal.returns-in-Ok-clause-marks
 returns-in-Ok-clause-marks g c = marked_finish _ _ _ _ c.finish-in-Ok.result c.finish-in-Ok.ensures.unmarked c.finish-in-Ok.ensures.marked

@@ -1,6 +1,6 @@
 use Rattle.std.proofs.Common.{arith}
 use Rattle.station.proofs.Resting.{stepped_along}
-use Rattle.station.proofs.rest.finish_rest.Goals as goal
+use Rattle.station.proofs.rest.Rest.finish_rest.Goals as goal
 
 pub returns-then-finish_held-clause-stepped : goal.returns-then-finish_held-clause-stepped
 returns-then-finish_held-clause-stepped g c =

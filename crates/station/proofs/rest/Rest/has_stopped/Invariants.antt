@@ -1,12 +1,12 @@
 use Rattle.std.proofs.Common.{◌≡◌, ◌≢◌, ℕ, ◌<◌, ◌≤◌}
 use Rattle.render_board.specs.Board.{IsLegal, turn_of}
 use Rattle.render_board.specs.declared.board.Turn.TheVariants as turns
-use Rattle.station.proofs.rest.has_stopped.Given as goal
+use Rattle.station.proofs.rest.Rest.has_stopped.Given as goal
 
 abbrev pub invariant-loop-worker : goal.invariant-loop-worker
 invariant-loop-worker g l = record {
   within : l.worker ≤ l.worker-end;
-  ending : l.worker-end ≡ l.station.log.workers;
-  legal : IsLegal l.station.log;
-  running : (w : ℕ) → w < l.worker → turn_of l.station.log w ≢ turns.Stopped;
+  ending : l.worker-end ≡ l.self.station.log.workers;
+  legal : IsLegal l.self.station.log;
+  running : (w : ℕ) → w < l.worker → turn_of l.self.station.log w ≢ turns.Stopped;
 }

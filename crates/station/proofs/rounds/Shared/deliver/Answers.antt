@@ -6,7 +6,7 @@ use Rattle.frame_render.specs.Frame.{FrameBytes}
 use Rattle.single_run.specs.declared.run_end.RunEnd.{RunEnd}
 use Rattle.shared_station.specs.Marks.{raised_by}
 use Rattle.station.proofs.Resting.{marked_disk, marked_end, marked_left, marked_none}
-use Rattle.station.proofs.rounds.deliver.Goals as goal
+use Rattle.station.proofs.rounds.Shared.deliver.Goals as goal
 
 pub returns-in-Ok-hand_in-clause-marks : goal.returns-in-Ok-hand_in-clause-marks
 returns-in-Ok-hand_in-clause-marks g c = marked_none _ _ _ _ c.in-Ok-hand_in.ensures.unmarked

@@ -1,6 +1,6 @@
 use Rattle.std.proofs.lemmas.Result.{on_ok_weaker}
 use Rattle.station.proofs.Resting.{failed_alone, none_failed, of_ok, stepped_itself, stepped_made}
-use Rattle.station.proofs.rounds.round.Goals as goal
+use Rattle.station.proofs.rounds.Shared.round.Goals as goal
 
 pub returns-in-Err-clause-stepped : goal.returns-in-Err-clause-stepped
 returns-in-Err-clause-stepped g c = stepped_itself g.N.Work.files g.S.Scans.world g.S.Scans.faults g.S.Scans.loads g.S.Scans.same g.met.S.Scans.same_refl 2 c.args.seat.now

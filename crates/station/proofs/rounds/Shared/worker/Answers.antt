@@ -1,6 +1,6 @@
 use Rattle.std.proofs.Common.{◌*◌, ◌+◌, ◌≤◌, rules, refl, arith, ◌∙◌}
 use Rattle.station.proofs.Resting.{stepped_along, stepped_itself, stepped_left, worked_first}
-use Rattle.station.proofs.rounds.worker.Goals as goal
+use Rattle.station.proofs.rounds.Shared.worker.Goals as goal
 
 -- no room for a frame
 pub returns-in-Err-clause-worked : goal.returns-in-Err-clause-worked
