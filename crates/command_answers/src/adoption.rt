@@ -2,7 +2,8 @@
 ghost use Rattle.std.specs.Prelude.{◌≡◌, Err, IfErr};
 ghost use Rattle.command_answers.specs.Reply.{IsReplyOverScan};
 ghost use Rattle.command_answers.specs.States.{OnScan};
-ghost use Rattle.project_adopt.specs.Adopt.{IsAdoptReply, LeavesDisks, OnDisks};
+ghost use Rattle.project_adopt.specs.Adopt.{IsAdoptReply, OnDisks};
+ghost use Rattle.reconform.specs.Adopt.{LeavesDisks};
 ghost use Rattle.project_run.specs.Calls.{IsLeftAlone, Replies, OverScan};
 ghost use Rattle.command_words.specs.declared.command.Command.TheVariants as commands;
 

@@ -4,20 +4,18 @@
 --     GoesOn      then so did the old one, or to none
 --     HasAdopted      both came to a job: frames were taken over, the rest was run, and the crash promise of both together
 --     OnDisks, Ends      what a call made of both folders, and what it came to
---     LeavesDisks      what it leaves of the two disks, whatever it comes to
 --     IsOldSound, IsOldSoundIn      what that promise has as a premise where it speaks of the source files
 use Rattle.std.specs.Prelude.{◌≡◌, ◌⊎◌, ℕ, ◌+◌, Bool, true, List, [], ◌∷◌, ◌++◌, codes, decimal, Option, None, IfSome, Result, Ok, MatchResult}
 use Rattle.scan_source.specs.World.{World, file_at}
 use Rattle.conform_job.specs.Answers.{count_after}
 use Rattle.conform_job.specs.Job.{JobData}
 use Rattle.reel_disk.specs.Disk.{Files, History, moment_of, view_of, IsStill}
-use Rattle.reel_disk.specs.Loan.{Loan}
 use Rattle.reel_disk.specs.Runs.{Spares}
 use Rattle.resume_ledger.specs.Ledger.{IsInForce}
 use Rattle.resume_ledger.specs.Sound.{IsSound, WritesOnly}
 use Rattle.resume_ledger.specs.declared.layout.Version.TheVariants.{Two}
 use Rattle.reel_writer.specs.Reel.{frames_of, reel_of, HasFrameFiles, IsReelRun, IsSoundReel}
-use Rattle.reconform.specs.Adopt.{HasAnswered, IsCaused, IsOfOld}
+use Rattle.reconform.specs.Adopt.{HasAnswered, IsOfOld}
 use Rattle.reconform.specs.declared.adopting.Adopted.{Adopted}
 use Rattle.reconform.specs.declared.adopting.AdoptFault.{AdoptFault}
 use Rattle.reconform.specs.declared.adopting.AdoptFault.TheVariants as fault
@@ -93,14 +91,6 @@ OnDisks tells history faults old old_after disk disk_after Made =
 -- this is so of the outcome that a call came to, also of Done
 abbrev pub Ends : {A : Type 0} → Result A Outcome → (Outcome → Type 0) → Type 0
 Ends result Was = MatchResult result (λ text. Was outcome.Done) Was
-
--- Both disks are lent as they were. A failure has its cause in the count of one of them, and else both counts stay.
-pub record LeavesDisks {D : Type 0} (faults : D → ℕ) (loans : D → List Loan) (Failed : Type 0) (old old_after disk disk_after : D) : Type 0 where
-  pub cause : IsCaused (faults old) (faults old_after) (faults disk) (faults disk_after) Failed
-  pub steady : (Failed → ⊥) → faults disk_after ≡ faults disk
-  pub old_steady : (Failed → ⊥) → faults old_after ≡ faults old
-  pub lent : loans disk_after ≡ loans disk
-  pub old_lent : loans old_after ≡ loans old
 
 -- The crash promise. At every moment each frame that a crash leaves acknowledged is the definition's, and no acknowledgement
 -- is lost; at Done the folder has the whole reel.

@@ -5,9 +5,9 @@ ghost use Rattle.conform_job.specs.Names.{Tells};
 ghost use Rattle.scan_source.specs.Leaves.{LeavesScan};
 ghost use Rattle.project_run.specs.Calls.{LeavesDisk, OnDisk, Replies, OverScan};
 ghost use Rattle.project_run.specs.Run.{IsOfRun};
-ghost use Rattle.reconform.specs.Adopt.{CanServe};
+ghost use Rattle.reconform.specs.Adopt.{CanServe, LeavesDisks};
 ghost use Rattle.reel_disk.specs.Disk.{view_of};
-ghost use Rattle.project_adopt.specs.Adopt.{Ends, IsAdoption, IsJobOver, IsOfAdopt, IsOldSoundIn, IsPromised, IsRest, LeavesDisks, OnDisks};
+ghost use Rattle.project_adopt.specs.Adopt.{Ends, IsAdoption, IsJobOver, IsOfAdopt, IsOldSoundIn, IsPromised, IsRest, OnDisks};
 
 use crate::report::{outcome_of_fault, reply_of};
 use conform_job::{Job, Work};

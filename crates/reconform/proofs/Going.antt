@@ -1,20 +1,30 @@
 -- How an adoption goes on, and what is known where it ends.
-use Rattle.std.proofs.Common.{◌≡◌, ℕ, ◌≤◌, Bool, true, false, List, length, refl, sym, subst, arith, Option}
-use Rattle.std.specs.Prelude.{Some, None, IfSome, ◌⊎◌}
-use Rattle.cf_base.specs.Count.{HasRisen}
+use Rattle.std.proofs.Common.{◌≡◌, inl, inr, ℕ, ◌≤◌, Bool, true, false, List, get_or, length, refl, sym, ap, ◌∙◌, subst, arith, Option}
+use Rattle.std.specs.Prelude.{Some, None, IfSome, ◌⊎◌, Ok, Err, IsErrOf}
+use Rattle.cf_base.specs.Count.{HasCause, HasRisen}
 use Rattle.scan_source.specs.World.{World, file_at}
 use Rattle.conform_job.specs.Job.{JobData}
 use Rattle.reel_disk.specs.Disk.{Files, Moment, History, IsStill, moment_of, view_of}
+use Rattle.reel_disk.specs.Loan.{Loan}
 use Rattle.reel_disk.proofs.Images.{view_is_image}
+use Rattle.reel_disk.proofs.Moments.{keeps_along}
+use Rattle.reel_disk.proofs.Sparing.{spares_along, spares_itself, spares_wider}
 use Rattle.resume_ledger.specs.Ledger.{Acks, Agrees, AreFlagsOf, HasOwn, IsFit, IsInForce}
 use Rattle.resume_ledger.specs.declared.layout.Version.{Version}
 use Rattle.resume_ledger.specs.declared.layout.Version.TheVariants.{One, Two}
 use Rattle.resume_ledger.specs.Look.{ViewState, IsViewOf}
 use Rattle.resume_ledger.specs.Sound.{IsSound}
 use Rattle.resume_ledger.proofs.Versions.{agrees_shown}
+use Rattle.reel_writer.specs.Changes.{IsRunFile}
 use Rattle.reel_writer.specs.Reel.{frames_of, reel_of, HasAcked}
 use Rattle.reel_writer.specs.View.{ReelView, IsReelOf}
-use Rattle.reconform.specs.Adopt.{CanServe, IsCaused}
+use Rattle.reel_writer.proofs.ReelLaws.{reel_run_along, reel_run_itself}
+use Rattle.reel_writer.proofs.Writing.{kept_itself, run_file_before}
+use Rattle.reconform.specs.Adopt.{CanServe, IsCaused, LeavesBoth}
+use Rattle.reconform.specs.Parts.{IsPart, WasLookedAt}
+use Rattle.reconform.specs.declared.adopting.Adopted.{Adopted}
+use Rattle.reconform.specs.declared.adopting.AdoptFault.{AdoptFault}
+use Rattle.reconform.specs.declared.adopting.AdoptFault.TheVariants.{DiskFault}
 
 pub still_itself : (h : History) → IsStill h h
 still_itself h = record {
@@ -23,8 +33,7 @@ still_itself h = record {
 }
 
 module _ (new old : JobData) (tells : Bool) (h later : History) (still : tells ≡ true → IsStill h later) where
-  -- what the old folder has to be, it stays
-  pub can_along : (told : Option World) → IfSome told (λ world. CanServe new old world tells (view_of h)) → IfSome told (λ world. CanServe new old world tells (view_of later))
+  can_along : (told : Option World) → IfSome told (λ world. CanServe new old world tells (view_of h)) → IfSome told (λ world. CanServe new old world tells (view_of later))
   can_along None can = tt
   can_along (Some world) can = record {
     told = can.told;
@@ -32,16 +41,106 @@ module _ (new old : JobData) (tells : Bool) (h later : History) (still : tells �
     look = can.look;
   }
 
-  pub viewed_along : (view : ViewState) → (tells ≡ true → IsViewOf old.parts.digest (frames_of old) (view_of h) view) → tells ≡ true → IsViewOf old.parts.digest (frames_of old) (view_of later) view
-  viewed_along view viewed told = subst (λ (m : Moment). IsViewOf old.parts.digest (frames_of old) m.view view) (sym (still told).same) (viewed told)
+  -- what was known of the old folder, while it stays as it is
+  pub looked_along : (told : Option World) (view : ViewState) → WasLookedAt new old told tells (view_of h) view → WasLookedAt new old told tells (view_of later) view
+  looked_along told view looked = record {
+    can_serve = can_along told looked.can_serve;
+    viewed = λ is. subst (λ (m : Moment). IsViewOf old.parts.digest (frames_of old) m.view view) (sym (still is).same) (looked.viewed is);
+    flags = looked.flags;
+  }
+
+module _ {E : Type 0} (job : JobData) (told : Option World) (tells : Bool) (history : E → History) where
+  -- nothing was asked of the new folder
+  pub part_itself : (gates : List Bool) (disk : E) → IsPart job told tells history gates disk disk
+  part_itself gates disk = record {
+    run = λ is. reel_run_itself job told (history disk);
+    none_lost = λ is. kept_itself job (history disk);
+    spares = λ is. spares_itself (history disk) (IsRunFile job gates);
+  }
+
+  -- one part behind another
+  pub part_along : (before gates : List Bool) → ((k : ℕ) → get_or before k false ≡ true → get_or gates k false ≡ true) → (old mid new : E)
+      → IsPart job told tells history before old mid → IsPart job told tells history gates mid new → IsPart job told tells history before old new
+  part_along before gates grows old mid new first second = record {
+    run = λ is. reel_run_along job told _ _ _ (first.run is) (second.run is) (second.none_lost is);
+    none_lost = λ is k. keeps_along (HasAcked job k) _ _ _ (first.run is).extends (second.run is).extends (first.none_lost is k) (second.none_lost is k);
+    spares = λ is. spares_along _ _ _ (IsRunFile job before) (first.run is).extends (second.run is).extends (first.spares is)
+        (spares_wider _ _ (IsRunFile job gates) (IsRunFile job before) (run_file_before job before gates grows) (second.spares is));
+  }
 
 -- the counts as they were when it began
-pub caused_as : (a b c d a2 c2 : ℕ) (Failed Later : Type 0) → a2 ≡ a → c2 ≡ c → (Later → Failed) → IsCaused a2 b c2 d Failed → IsCaused a b c d Later
+caused_as : (a b c d a2 c2 : ℕ) (Failed Later : Type 0) → a2 ≡ a → c2 ≡ c → (Later → Failed) → IsCaused a2 b c2 d Failed → IsCaused a b c d Later
 caused_as a b c d a2 c2 Failed Later first second failed caused = record {
   old_later = subst (λ n. n ≤ b) first caused.old_later;
   later = subst (λ n. n ≤ d) second caused.later;
   failed = λ is. subst (λ n. HasRisen n b ⊎ HasRisen c d) first (subst (λ n. HasRisen a2 b ⊎ HasRisen n d) second (caused.failed (failed is)));
 }
+
+module _ {D E : Type 0} (old_faults : D → ℕ) (old_loans : D → List Loan) (faults : E → ℕ) (loans : E → List Loan) where
+  -- nothing was asked of either disk
+  pub both_itself : (Failed : Type 0) → (Failed → ⊥) → (old : D) (disk : E) → LeavesBoth old_faults old_loans faults loans Failed old old disk disk
+  both_itself Failed never old disk = record {
+    cause = record { old_later = omega arith; later = omega arith; failed = λ is. absurd (never is) };
+    steady = λ none. refl;
+    old_steady = λ none. refl;
+    lent = refl;
+    old_lent = refl;
+  }
+
+  -- something was asked of the old one
+  pub old_asked : (Failed : Type 0) (old new : D) (disk : E) → HasCause (old_faults old) (old_faults new) Failed → ((Failed → ⊥) → old_faults new ≡ old_faults old) → old_loans new ≡ old_loans old
+      → LeavesBoth old_faults old_loans faults loans Failed old new disk disk
+  old_asked Failed old new disk cause steady lent = record {
+    cause = record { old_later = cause.later; later = omega arith; failed = λ is. inl (cause.failed is) };
+    steady = λ none. refl;
+    old_steady = steady;
+    lent = refl;
+    old_lent = lent;
+  }
+
+  -- something was asked of the new one
+  pub new_asked : (Failed : Type 0) (old : D) (disk after : E) → HasCause (faults disk) (faults after) Failed → ((Failed → ⊥) → faults after ≡ faults disk) → loans after ≡ loans disk
+      → LeavesBoth old_faults old_loans faults loans Failed old old disk after
+  new_asked Failed old disk after cause steady lent = record {
+    cause = record { old_later = omega arith; later = cause.later; failed = λ is. inr (cause.failed is) };
+    steady = steady;
+    old_steady = λ none. refl;
+    lent = lent;
+    old_lent = refl;
+  }
+
+  -- calls of which none failed went before, and what is a failure is told otherwise
+  pub both_behind : (Failed Later : Type 0) → (Later → Failed) → (Failed → Later) → (old mid new : D) (disk between after : E)
+      → old_faults mid ≡ old_faults old → faults between ≡ faults disk → old_loans mid ≡ old_loans old → loans between ≡ loans disk
+      → LeavesBoth old_faults old_loans faults loans Failed mid new between after → LeavesBoth old_faults old_loans faults loans Later old new disk after
+  both_behind Failed Later to from old mid new disk between after old_steady steady old_lent lent leaves = record {
+    cause = caused_as _ _ _ _ _ _ Failed Later old_steady steady to leaves.cause;
+    steady = λ none. leaves.steady (λ failed. none (from failed)) ∙ steady;
+    old_steady = λ none. leaves.old_steady (λ failed. none (from failed)) ∙ old_steady;
+    lent = leaves.lent ∙ lent;
+    old_lent = leaves.old_lent ∙ old_lent;
+  }
+
+  -- what was taken over is counted, or the fault passed on
+  pub both_counted : (nothing : Unit {0}) (done : Adopted) (old new : D) (disk after : E) → LeavesBoth old_faults old_loans faults loans (IsErrOf {T = Unit {0}} {E = AdoptFault} (Ok nothing) DiskFault) old new disk after
+      → LeavesBoth old_faults old_loans faults loans (IsErrOf {T = Adopted} {E = AdoptFault} (Ok done) DiskFault) old new disk after
+  both_counted nothing done old new disk after = both_behind _ _ (λ is. absurd (never is)) (λ is. absurd (none is)) old old new disk disk after refl refl refl refl
+    where
+      never : IsErrOf {T = Adopted} {E = AdoptFault} (Ok done) DiskFault → ⊥
+      never is = cc
+
+      none : IsErrOf {T = Unit {0}} {E = AdoptFault} (Ok nothing) DiskFault → ⊥
+      none is = cc
+
+  pub both_passed : (fault : AdoptFault) (old new : D) (disk after : E) → LeavesBoth old_faults old_loans faults loans (IsErrOf {T = Unit {0}} {E = AdoptFault} (Err fault) DiskFault) old new disk after
+      → LeavesBoth old_faults old_loans faults loans (IsErrOf {T = Adopted} {E = AdoptFault} (Err fault) DiskFault) old new disk after
+  both_passed fault old new disk after = both_behind _ _ (λ is. ap Err (here is)) (λ is. ap Err (there is)) old old new disk disk after refl refl refl refl
+    where
+      here : IsErrOf {T = Adopted} {E = AdoptFault} (Err fault) DiskFault → fault ≡ DiskFault
+      here is = cc
+
+      there : IsErrOf {T = Unit {0}} {E = AdoptFault} (Err fault) DiskFault → fault ≡ DiskFault
+      there is = cc
 
 module _ {D : Type 0} (job : JobData) (tells : Bool) (history : D → History) (reel : ReelView D) (of : IsReelOf job tells history reel) where
   -- no more are adopted than there are frames

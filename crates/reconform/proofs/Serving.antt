@@ -1,6 +1,6 @@
 -- What a frame gets of its donor.
 use Rattle.std.proofs.Common.{◌≡◌, inl, inr, ℕ, ◌+◌, ◌<◌, Bool, true, false, List, get_or, set, length, drop, refl, sym, ap, ◌∙◌, subst, arith, Option}
-use Rattle.std.specs.Prelude.{Some, None, IfSome, ◌⊎◌, ◌↔◌, Result, Ok, Err, IfOk, OnOk}
+use Rattle.std.specs.Prelude.{Some, None, IfSome, ◌⊎◌, ◌↔◌, Result, Ok, Err, IfOk, IsErr, OnOk}
 use Rattle.std.specs.BTreeMap.{BTreeMap}
 use Rattle.std.proofs.lemmas.Bool.{cases_eq, cases_lt, false≢true}
 use Rattle.std.proofs.lemmas.List.{get_or-set_same, get_or-set_other, length-set}
@@ -139,6 +139,10 @@ if_ok (Err e) P Q f p = tt
 pub on_ok : {A E : Type 0} (r : Result A E) (P Q : Type 0) → (P → Q) → OnOk r P → OnOk r Q
 on_ok (Ok a) P Q f p = f p
 on_ok (Err e) P Q f p = tt
+
+pub where_ok : {A E : Type 0} (r : Result A E) (P : Type 0) → OnOk r P → (IsErr r → ⊥) → P
+where_ok (Ok a) P p none = p
+where_ok (Err e) P p none = absurd (none refl)
 
 module _ {D : Type 0} (old : ReelView D) (i : ℕ) (disk : D) (new : ReelView D) where
   pub same_finish : get_or old.ledger.gates i false ≡ false → new ≡ after_finish old i disk → IsSameReel old new

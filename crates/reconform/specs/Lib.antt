@@ -1,4 +1,5 @@
 pub mod Adopt
 pub mod Donor
 pub mod Laws
+pub mod Parts
 pub mod Plan

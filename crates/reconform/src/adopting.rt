@@ -1,14 +1,14 @@
 //! Taking over frames of an old reel.
-ghost use Rattle.std.specs.Prelude.{◌≡◌, ◌≢◌, ◌<◌, true, false, length, Err, IfOk, IfSome, IfErr, IsErrOf};
+ghost use Rattle.std.specs.Prelude.{◌≡◌, true, false, length, IfOk, IfSome, IfErr, IsErrOf};
 ghost use Rattle.reel_disk.specs.Disk.{Files, view_of, IsStill};
 ghost use Rattle.reel_disk.specs.Runs.{Spares};
 ghost use Rattle.resume_ledger.specs.Ledger.{IsInForce};
-ghost use Rattle.resume_ledger.specs.Look.{IsViewOf};
 ghost use Rattle.resume_ledger.specs.Sound.{WritesOnly};
-ghost use Rattle.reel_writer.specs.Changes.{IsOwnFile, IsRunFile, MayWrite};
-ghost use Rattle.reel_writer.specs.Reel.{frames_of, HasFrameFiles, IsReelRun, IsSoundReel, KeepsReel};
+ghost use Rattle.reel_writer.specs.Changes.{IsOwnFile, MayWrite};
+ghost use Rattle.reel_writer.specs.Reel.{frames_of, HasFrameFiles, IsReelRun, IsSoundReel};
 ghost use Rattle.scan_source.specs.World.{World};
-ghost use Rattle.reconform.specs.Adopt.{AsOpenedFor, CanServe, HasAnswered, IsCaused, IsOfOld, by_new, by_old};
+ghost use Rattle.reconform.specs.Adopt.{AsOpenedFor, CanServe, HasAnswered, IsOfOld, LeavesBoth, LeavesDisks, by_new, by_old};
+ghost use Rattle.reconform.specs.Parts.{IsPart, IsSafeAdoption, WasLookedAt};
 
 use crate::frames::adopt_alike;
 use conform_job::{Job, Work};
@@ -88,12 +88,8 @@ pub fn adopt<N: Work, O: Work, D: Disk>(
     // What the old folder holds stays as it is, at every moment and whatever the answer is.
     ensures still { D.tells ≡ true → IsStill (D.history old.old) (D.history old.new) }
 
-    ensures same_old { D.loans old.new ≡ D.loans old.old }
-    ensures same_disk { D.loans disk.new ≡ D.loans disk.old }
-    ensures cause { IsCaused (D.faults old.old) (D.faults old.new) (D.faults disk.old) (D.faults disk.new)
-        (IsErrOf result AdoptFault.DiskFault) }
-    ensures steady_old { result ≢ Err AdoptFault.DiskFault → D.faults old.new ≡ D.faults old.old }
-    ensures steady { result ≢ Err AdoptFault.DiskFault → D.faults disk.new ≡ D.faults disk.old }
+    // Both disks are lent as they were. The count of one of them rose where a disk failed, and else both stay.
+    ensures disks { LeavesDisks D.faults D.loans (IsErrOf result AdoptFault.DiskFault) old.old old.new disk.old disk.new }
 {
     let (result, _) = adopt_into::<N, O, D, _>(alloc, new_job, old_job, old, &mut *disk);
     result
@@ -114,21 +110,10 @@ fn adopt_into<N: Work, O: Work, D: Disk, E: Disk>(
     ensures answer { HasAnswered N.job O.job E.tells (D.history old.old) (D.history old.new)
         (E.history disk) (E.history result.1) result.0 }
     ensures untouched { IfErr result.0 (λ fault. IsOfOld fault → result.1 ≡ disk) }
-    ensures run { E.tells ≡ true → IsReelRun N.job N.files (E.history disk) (E.history result.1) }
-    ensures sound_has { (world : World) (files : Files) → IsSoundReel N.job world files
-        → HasFrameFiles N.job files }
+    ensures safe { IsSafeAdoption N.job N.files E.tells E.history disk result.1 }
     ensures sealed { IfOk result.0 (λ done. E.tells ≡ true → IsInForce Version.Two (view_of (E.history result.1))) }
-    ensures spares { E.tells ≡ true
-        → Spares (E.history disk) (E.history result.1) (IsOwnFile N.job (view_of (E.history disk))) }
-    ensures writes { E.tells ≡ true
-        → WritesOnly (E.history disk) (E.history result.1) (MayWrite N.job (view_of (E.history disk))) }
     ensures still { D.tells ≡ true → IsStill (D.history old.old) (D.history old.new) }
-    ensures same_old { D.loans old.new ≡ D.loans old.old }
-    ensures same_disk { E.loans result.1 ≡ E.loans disk }
-    ensures cause { IsCaused (D.faults old.old) (D.faults old.new) (E.faults disk) (E.faults result.1)
-        (IsErrOf result.0 AdoptFault.DiskFault) }
-    ensures steady_old { result.0 ≢ Err AdoptFault.DiskFault → D.faults old.new ≡ D.faults old.old }
-    ensures steady { result.0 ≢ Err AdoptFault.DiskFault → E.faults result.1 ≡ E.faults disk }
+    ensures disks { LeavesBoth D.faults D.loans E.faults E.loans (IsErrOf result.0 AdoptFault.DiskFault) old.old old.new disk result.1 }
 {
     new_job.recall();
     match Ledger::look(alloc, old, old_job.digest(), old_job.timeline().count()) {
@@ -148,28 +133,15 @@ fn adopt_owned<N: Work, O: Work, D: Disk, E: Disk>(
 ) -> (Result<Adopted, AdoptFault>, E)
     requires new_job { new_job.now ≡ N.job }
     requires old_job { old_job.now ≡ O.job }
-    requires can_serve { IfSome N.files (λ world. CanServe N.job O.job world D.tells (view_of (D.history old.old))) }
     requires tells { D.tells ≡ E.tells }
-    requires viewed { D.tells ≡ true → IsViewOf O.job.parts.digest (frames_of O.job) (view_of (D.history old.old)) view.now }
-    requires flags { length view.now.gates ≡ frames_of O.job }
+    requires looked { WasLookedAt N.job O.job N.files D.tells (view_of (D.history old.old)) view.now }
     ensures answer { HasAnswered N.job O.job E.tells (D.history old.old) (D.history old.new)
         (E.history disk) (E.history result.1) result.0 }
     ensures not_old { IfErr result.0 (λ fault. IsOfOld fault → ⊥) }
-    ensures run { E.tells ≡ true → IsReelRun N.job N.files (E.history disk) (E.history result.1) }
-    ensures sound_has { (world : World) (files : Files) → IsSoundReel N.job world files
-        → HasFrameFiles N.job files }
+    ensures safe { IsSafeAdoption N.job N.files E.tells E.history disk result.1 }
     ensures sealed { IfOk result.0 (λ done. E.tells ≡ true → IsInForce Version.Two (view_of (E.history result.1))) }
-    ensures spares { E.tells ≡ true
-        → Spares (E.history disk) (E.history result.1) (IsOwnFile N.job (view_of (E.history disk))) }
-    ensures writes { E.tells ≡ true
-        → WritesOnly (E.history disk) (E.history result.1) (MayWrite N.job (view_of (E.history disk))) }
     ensures still { D.tells ≡ true → IsStill (D.history old.old) (D.history old.new) }
-    ensures same_old { D.loans old.new ≡ D.loans old.old }
-    ensures same_disk { E.loans result.1 ≡ E.loans disk }
-    ensures cause { IsCaused (D.faults old.old) (D.faults old.new) (E.faults disk) (E.faults result.1)
-        (IsErrOf result.0 AdoptFault.DiskFault) }
-    ensures steady_old { result.0 ≢ Err AdoptFault.DiskFault → D.faults old.new ≡ D.faults old.old }
-    ensures steady { result.0 ≢ Err AdoptFault.DiskFault → E.faults result.1 ≡ E.faults disk }
+    ensures disks { LeavesBoth D.faults D.loans E.faults E.loans (IsErrOf result.0 AdoptFault.DiskFault) old.old old.new disk result.1 }
 {
     match Reel::<E, N>::begin(alloc, disk, new_job) {
         Ok(reel) => adopt_opened::<N, O, D, E>(alloc, new_job, old_job, old, view, reel),
@@ -212,23 +184,14 @@ fn adopt_opened<N: Work, O: Work, D: Disk, E: Disk>(
 ) -> (Result<Adopted, AdoptFault>, E)
     requires new_job { new_job.now ≡ N.job }
     requires old_job { old_job.now ≡ O.job }
-    requires can_serve { IfSome N.files (λ world. CanServe N.job O.job world D.tells (view_of (D.history old.old))) }
-    requires viewed { D.tells ≡ true → IsViewOf O.job.parts.digest (frames_of O.job) (view_of (D.history old.old)) view.now }
-    requires flags { length view.now.gates ≡ frames_of O.job }
+    requires looked { WasLookedAt N.job O.job N.files D.tells (view_of (D.history old.old)) view.now }
     requires is_open { reel.ledger.closed ≡ false }
     requires size { length reel.ledger.gates ≡ frames_of N.job }
     ensures answer { AsOpenedFor N.job O.job D.tells view.now (D.history old.old) E.tells E.history reel result }
-    ensures run { E.tells ≡ true → IsReelRun N.job N.files (E.history reel.disk) (E.history result.1) }
-    ensures none_lost { E.tells ≡ true → KeepsReel N.job (E.history reel.disk) (E.history result.1) }
+    ensures part { IsPart N.job N.files E.tells E.history reel.ledger.gates reel.disk result.1 }
     ensures sealed { IfOk result.0 (λ done. E.tells ≡ true → IsInForce Version.Two (view_of (E.history result.1))) }
-    ensures spares { E.tells ≡ true → Spares (E.history reel.disk) (E.history result.1) (IsRunFile N.job reel.ledger.gates) }
     ensures still { D.tells ≡ true → IsStill (D.history old.old) (D.history old.new) }
-    ensures same_old { D.loans old.new ≡ D.loans old.old }
-    ensures same_disk { E.loans result.1 ≡ E.loans reel.disk }
-    ensures cause { IsCaused (D.faults old.old) (D.faults old.new) (E.faults reel.disk) (E.faults result.1)
-        (IsErrOf result.0 AdoptFault.DiskFault) }
-    ensures steady_old { result.0 ≢ Err AdoptFault.DiskFault → D.faults old.new ≡ D.faults old.old }
-    ensures steady { result.0 ≢ Err AdoptFault.DiskFault → E.faults result.1 ≡ E.faults reel.disk }
+    ensures disks { LeavesBoth D.faults D.loans E.faults E.loans (IsErrOf result.0 AdoptFault.DiskFault) old.old old.new reel.disk result.1 }
 {
     let mut reel = reel;
     match adopt_alike::<N, O, D, E>(alloc, new_job, old_job, old, view, &mut reel) {

@@ -1,17 +1,13 @@
 //! The frames of an adoption, in order.
-ghost use Rattle.std.specs.Prelude.{◌≡◌, ◌≢◌, ◌+◌, ◌*◌, ◌<◌, ◌≤◌, ◌↔◌, true, false, drop, length, set, slice_index_or, Err, IfOk, IfErr, IfSome, OnOk, IsErr, IsErrOf};
+ghost use Rattle.std.specs.Prelude.{◌≡◌, ◌+◌, ◌*◌, ◌<◌, ◌≤◌, ◌↔◌, true, false, drop, length, set, slice_index_or, IfOk, IfErr, IfSome, OnOk, IsErr, IsErrOf};
 ghost use Rattle.cf_base.specs.Count.{HasCause};
 ghost use Rattle.frame_render.specs.Frame.{frame_file, frame_size, pixel_count};
 ghost use Rattle.scan_source.specs.World.{file_at};
 ghost use Rattle.reel_disk.specs.Disk.{view_of, IsStill};
-ghost use Rattle.reel_disk.specs.Runs.{Spares};
-ghost use Rattle.resume_ledger.specs.Look.{IsViewOf};
-ghost use Rattle.reel_writer.specs.Changes.{IsRunFile};
-ghost use Rattle.reel_writer.specs.Reel.{frames_of, IsReelRun, KeepsReel};
-ghost use Rattle.reconform.specs.Adopt.{CanServe, IsCaused, IsSameReel, IsServed, IsStop, IsReelServed};
-ghost use Rattle.reconform.specs.Donor.{AreLeast, HasIntactDonor};
-ghost use Rattle.reconform.specs.Laws.{HasTitle};
-ghost use Rattle.reconform.specs.Plan.{AreAlike};
+ghost use Rattle.reel_writer.specs.Reel.{frames_of};
+ghost use Rattle.reconform.specs.Adopt.{IsReelServed, IsSameReel, IsServed, IsStop, LeavesBoth};
+ghost use Rattle.reconform.specs.Donor.{HasIntactDonor};
+ghost use Rattle.reconform.specs.Parts.{HasDonors, IsPart, WasLookedAt};
 
 use crate::adopting::AdoptFault;
 use crate::donors::Donors;
@@ -37,12 +33,8 @@ fn read_donor<N: Work, O: Work, D: Disk>(
 ) -> Result<bool, DiskFault>
     requires new_job { new_job.now ≡ N.job }
     requires old_job { old_job.now ≡ O.job }
-    requires can_serve { IfSome N.files (λ world. CanServe N.job O.job world D.tells (view_of (D.history old.old))) }
-    requires viewed { D.tells ≡ true → IsViewOf O.job.parts.digest (frames_of O.job) (view_of (D.history old.old)) view.now }
-    requires alike { AreAlike N.job O.job }
-    requires titles { HasTitle N.job × HasTitle O.job }
-    requires flags { length view.now.gates ≡ frames_of O.job }
-    requires donors { AreLeast O.job view.now.gates (frames_of O.job) donors.now.by_plan }
+    requires looked { WasLookedAt N.job O.job N.files D.tells (view_of (D.history old.old)) view.now }
+    requires donors { HasDonors N.job O.job view.now.gates donors.now.by_plan }
     requires index { i < frames_of N.job }
     requires file { length file.old ≡ frame_size O.job }
     ensures intact { IfOk result (λ is. D.tells ≡ true
@@ -89,13 +81,7 @@ fn finish_frame<N: Work, E: Disk>(
     ensures finished { OnOk result (reel.new.ledger.gates ≡ set reel.old.ledger.gates i true) }
     ensures stays { IsSameReel reel.old reel.new }
     ensures stays_open { OnOk result (reel.new.ledger.closed ≡ false) }
-    ensures run { E.tells ≡ true
-        → IsReelRun N.job N.files (E.history reel.old.disk) (E.history reel.new.disk) }
-    ensures none_lost { E.tells ≡ true
-        → KeepsReel N.job (E.history reel.old.disk) (E.history reel.new.disk) }
-    ensures spares { E.tells ≡ true
-        → Spares (E.history reel.old.disk) (E.history reel.new.disk)
-        (IsRunFile N.job reel.old.ledger.gates) }
+    ensures part { IsPart N.job N.files E.tells E.history reel.old.ledger.gates reel.old.disk reel.new.disk }
     ensures same { E.loans reel.new.disk ≡ E.loans reel.old.disk }
     ensures cause { HasCause (E.faults reel.old.disk) (E.faults reel.new.disk) (IsErr result) }
     ensures steady { OnOk result (E.faults reel.new.disk ≡ E.faults reel.old.disk) }
@@ -121,12 +107,8 @@ fn adopt_frame<N: Work, O: Work, D: Disk, E: Disk>(
 ) -> Result<FrameBuf, DiskFault>
     requires new_job { new_job.now ≡ N.job }
     requires old_job { old_job.now ≡ O.job }
-    requires can_serve { IfSome N.files (λ world. CanServe N.job O.job world D.tells (view_of (D.history old.old))) }
-    requires viewed { D.tells ≡ true → IsViewOf O.job.parts.digest (frames_of O.job) (view_of (D.history old.old)) view.now }
-    requires alike { AreAlike N.job O.job }
-    requires titles { HasTitle N.job × HasTitle O.job }
-    requires flags { length view.now.gates ≡ frames_of O.job }
-    requires donors { AreLeast O.job view.now.gates (frames_of O.job) donors.now.by_plan }
+    requires looked { WasLookedAt N.job O.job N.files D.tells (view_of (D.history old.old)) view.now }
+    requires donors { HasDonors N.job O.job view.now.gates donors.now.by_plan }
     requires index { i < frames_of N.job }
     requires file { length file.old ≡ frame_size O.job }
     requires room { length room ≡ frame_size N.job }
@@ -139,19 +121,9 @@ fn adopt_frame<N: Work, O: Work, D: Disk, E: Disk>(
         → IsServed N.job O.job view.now (view_of (D.history old.old)) i reel.old.ledger.gates reel.new.ledger.gates) }
     ensures stays { IsSameReel reel.old reel.new }
     ensures stays_open { OnOk result (reel.new.ledger.closed ≡ false) }
-    ensures run { E.tells ≡ true
-        → IsReelRun N.job N.files (E.history reel.old.disk) (E.history reel.new.disk) }
-    ensures none_lost { E.tells ≡ true
-        → KeepsReel N.job (E.history reel.old.disk) (E.history reel.new.disk) }
-    ensures spares { E.tells ≡ true
-        → Spares (E.history reel.old.disk) (E.history reel.new.disk)
-        (IsRunFile N.job reel.old.ledger.gates) }
+    ensures part { IsPart N.job N.files E.tells E.history reel.old.ledger.gates reel.old.disk reel.new.disk }
     ensures still { D.tells ≡ true → IsStill (D.history old.old) (D.history old.new) }
-    ensures same_old { D.loans old.new ≡ D.loans old.old }
-    ensures same_disk { E.loans reel.new.disk ≡ E.loans reel.old.disk }
-    ensures cause { IsCaused (D.faults old.old) (D.faults old.new) (E.faults reel.old.disk) (E.faults reel.new.disk) (IsErr result) }
-    ensures steady_old { OnOk result (D.faults old.new ≡ D.faults old.old) }
-    ensures steady { OnOk result (E.faults reel.new.disk ≡ E.faults reel.old.disk) }
+    ensures disks { LeavesBoth D.faults D.loans E.faults E.loans (IsErr result) old.old old.new reel.old.disk reel.new.disk }
 {
     if reel.is_acked(i) {
         return Ok(room);
@@ -178,12 +150,8 @@ fn adopt_frames<N: Work, O: Work, D: Disk, E: Disk>(
 ) -> Result<(), AdoptFault>
     requires new_job { new_job.now ≡ N.job }
     requires old_job { old_job.now ≡ O.job }
-    requires can_serve { IfSome N.files (λ world. CanServe N.job O.job world D.tells (view_of (D.history old.old))) }
-    requires viewed { D.tells ≡ true → IsViewOf O.job.parts.digest (frames_of O.job) (view_of (D.history old.old)) view.now }
-    requires alike { AreAlike N.job O.job }
-    requires titles { HasTitle N.job × HasTitle O.job }
-    requires flags { length view.now.gates ≡ frames_of O.job }
-    requires donors { AreLeast O.job view.now.gates (frames_of O.job) donors.now.by_plan }
+    requires looked { WasLookedAt N.job O.job N.files D.tells (view_of (D.history old.old)) view.now }
+    requires donors { HasDonors N.job O.job view.now.gates donors.now.by_plan }
     requires is_open { reel.old.ledger.closed ≡ false }
     requires size { length reel.old.ledger.gates ≡ frames_of N.job }
 
@@ -192,20 +160,9 @@ fn adopt_frames<N: Work, O: Work, D: Disk, E: Disk>(
     ensures stays { IsSameReel reel.old reel.new }
     ensures stays_open { OnOk result (reel.new.ledger.closed ≡ false) }
     ensures end { IfErr result IsStop }
-    ensures run { E.tells ≡ true
-        → IsReelRun N.job N.files (E.history reel.old.disk) (E.history reel.new.disk) }
-    ensures none_lost { E.tells ≡ true
-        → KeepsReel N.job (E.history reel.old.disk) (E.history reel.new.disk) }
-    ensures spares { E.tells ≡ true
-        → Spares (E.history reel.old.disk) (E.history reel.new.disk)
-        (IsRunFile N.job reel.old.ledger.gates) }
+    ensures part { IsPart N.job N.files E.tells E.history reel.old.ledger.gates reel.old.disk reel.new.disk }
     ensures still { D.tells ≡ true → IsStill (D.history old.old) (D.history old.new) }
-    ensures same_old { D.loans old.new ≡ D.loans old.old }
-    ensures same_disk { E.loans reel.new.disk ≡ E.loans reel.old.disk }
-    ensures cause { IsCaused (D.faults old.old) (D.faults old.new) (E.faults reel.old.disk) (E.faults reel.new.disk)
-        (IsErrOf result AdoptFault.DiskFault) }
-    ensures steady_old { result ≢ Err AdoptFault.DiskFault → D.faults old.new ≡ D.faults old.old }
-    ensures steady { result ≢ Err AdoptFault.DiskFault → E.faults reel.new.disk ≡ E.faults reel.old.disk }
+    ensures disks { LeavesBoth D.faults D.loans E.faults E.loans (IsErrOf result AdoptFault.DiskFault) old.old old.new reel.old.disk reel.new.disk }
 {
     let (mut room, mut file) = match room_for(alloc, new_job, old_job) {
         Ok(made) => made,
@@ -254,9 +211,7 @@ pub(crate) fn adopt_alike<N: Work, O: Work, D: Disk, E: Disk>(
 ) -> Result<(), AdoptFault>
     requires new_job { new_job.now ≡ N.job }
     requires old_job { old_job.now ≡ O.job }
-    requires can_serve { IfSome N.files (λ world. CanServe N.job O.job world D.tells (view_of (D.history old.old))) }
-    requires viewed { D.tells ≡ true → IsViewOf O.job.parts.digest (frames_of O.job) (view_of (D.history old.old)) view.now }
-    requires flags { length view.now.gates ≡ frames_of O.job }
+    requires looked { WasLookedAt N.job O.job N.files D.tells (view_of (D.history old.old)) view.now }
     requires is_open { reel.old.ledger.closed ≡ false }
     requires size { length reel.old.ledger.gates ≡ frames_of N.job }
 
@@ -265,20 +220,9 @@ pub(crate) fn adopt_alike<N: Work, O: Work, D: Disk, E: Disk>(
     ensures stays { IsSameReel reel.old reel.new }
     ensures stays_open { OnOk result (reel.new.ledger.closed ≡ false) }
     ensures end { IfErr result IsStop }
-    ensures run { E.tells ≡ true
-        → IsReelRun N.job N.files (E.history reel.old.disk) (E.history reel.new.disk) }
-    ensures none_lost { E.tells ≡ true
-        → KeepsReel N.job (E.history reel.old.disk) (E.history reel.new.disk) }
-    ensures spares { E.tells ≡ true
-        → Spares (E.history reel.old.disk) (E.history reel.new.disk)
-        (IsRunFile N.job reel.old.ledger.gates) }
+    ensures part { IsPart N.job N.files E.tells E.history reel.old.ledger.gates reel.old.disk reel.new.disk }
     ensures still { D.tells ≡ true → IsStill (D.history old.old) (D.history old.new) }
-    ensures same_old { D.loans old.new ≡ D.loans old.old }
-    ensures same_disk { E.loans reel.new.disk ≡ E.loans reel.old.disk }
-    ensures cause { IsCaused (D.faults old.old) (D.faults old.new) (E.faults reel.old.disk) (E.faults reel.new.disk)
-        (IsErrOf result AdoptFault.DiskFault) }
-    ensures steady_old { result ≢ Err AdoptFault.DiskFault → D.faults old.new ≡ D.faults old.old }
-    ensures steady { result ≢ Err AdoptFault.DiskFault → E.faults reel.new.disk ≡ E.faults reel.old.disk }
+    ensures disks { LeavesBoth D.faults D.loans E.faults E.loans (IsErrOf result AdoptFault.DiskFault) old.old old.new reel.old.disk reel.new.disk }
 {
     if are_alike(new_job, old_job) {
         return match Donors::of(alloc, old_job, view) {

@@ -43,14 +43,14 @@ returns-in-Ok-clause-disks g c =
     let adopted = c.in-Ok.ensures in
     let rest = c.run_rest.ensures.disk in record {
       cause = record {
-        old_later = adopted.cause.old_later;
-        later = omega (arith, adopted.cause.later, rest.counts.cause.later);
-        failed = λ is. inr (subst (λ (n : ℕ). HasRisen n (g.D.Disk.faults c.run_rest.new.disk)) (adopted.steady (λ same. cc)) (rest.counts.cause.failed is));
+        old_later = adopted.disks.cause.old_later;
+        later = omega (arith, adopted.disks.cause.later, rest.counts.cause.later);
+        failed = λ is. inr (subst (λ (n : ℕ). HasRisen n (g.D.Disk.faults c.run_rest.new.disk)) (adopted.disks.steady (λ same. cc)) (rest.counts.cause.failed is));
       };
-      steady = λ none. rest.counts.steady none ∙ adopted.steady (λ same. cc);
-      old_steady = λ none. adopted.steady_old (λ same. cc);
-      lent = rest.lent ∙ adopted.same_disk;
-      old_lent = adopted.same_old;
+      steady = λ none. rest.counts.steady none ∙ adopted.disks.steady (λ same. cc);
+      old_steady = λ none. adopted.disks.old_steady (λ same. cc);
+      lent = rest.lent ∙ adopted.disks.lent;
+      old_lent = adopted.disks.old_lent;
     }
 
 pub returns-in-Err-clause-went : goal.returns-in-Err-clause-went
@@ -89,12 +89,12 @@ returns-in-Err-clause-disks g c =
     let unless : (c.outcome_of_fault.result ≡ outcomes.DiskFault → ⊥) → c.in-Err.fault ≡ faults.DiskFault → ⊥ =
     λ none is. none (c.outcome_of_fault.ensures ∙ ap outcome_of_fault is) in record {
       cause = record {
-        old_later = adopted.cause.old_later;
-        later = adopted.cause.later;
-        failed = λ is. let same : c.outcome_of_fault.result ≡ outcomes.DiskFault = cc in adopted.cause.failed (ap Err (by_disk c.in-Err.fault (sym c.outcome_of_fault.ensures ∙ same)));
+        old_later = adopted.disks.cause.old_later;
+        later = adopted.disks.cause.later;
+        failed = λ is. let same : c.outcome_of_fault.result ≡ outcomes.DiskFault = cc in adopted.disks.cause.failed (ap Err (by_disk c.in-Err.fault (sym c.outcome_of_fault.ensures ∙ same)));
       };
-      steady = λ none. adopted.steady (λ is. unless (λ same. none (ap Err same)) (let same : c.in-Err.fault ≡ faults.DiskFault = cc in same));
-      old_steady = λ none. adopted.steady_old (λ is. unless (λ same. none (ap Err same)) (let same : c.in-Err.fault ≡ faults.DiskFault = cc in same));
-      lent = adopted.same_disk;
-      old_lent = adopted.same_old;
+      steady = λ none. adopted.disks.steady (λ is. unless (λ same. none (ap Err same)) (let same : c.in-Err.fault ≡ faults.DiskFault = cc in same));
+      old_steady = λ none. adopted.disks.old_steady (λ is. unless (λ same. none (ap Err same)) (let same : c.in-Err.fault ≡ faults.DiskFault = cc in same));
+      lent = adopted.disks.lent;
+      old_lent = adopted.disks.old_lent;
     }

@@ -1,4 +1,4 @@
-use Rattle.std.proofs.Common.{rules, ◌≡◌, ◌≤◌, ℕ, List, length, inl, refl, sym, ap, ◌∙◌, subst, arith}
+use Rattle.std.proofs.Common.{rules, ◌≡◌, ◌≤◌, ℕ, List, length, refl, sym, ap, ◌∙◌, subst}
 use Rattle.std.specs.Prelude.{Err}
 use Rattle.conform_job.specs.Job.{JobData}
 use Rattle.record_timeline.specs.Accepted.{RecordReel, frame_count}
@@ -15,7 +15,7 @@ use Rattle.reel_writer.proofs.ReelLaws.{reel_run_itself, sound_has}
 use Rattle.reconform.specs.declared.adopting.AdoptFault.{AdoptFault}
 use Rattle.reconform.specs.Adopt.{IsWhyUnadopted, by_old}
 use Rattle.reconform.proofs.Answering.{answered_along, err_is, never_touched, old_disk, old_refused}
-use Rattle.reconform.proofs.Going.{can_along, caused_as, viewed_along}
+use Rattle.reconform.proofs.Going.{both_behind, looked_along, old_asked}
 use Rattle.reconform.proofs.adopting.adopt_into.Goals as goal
 
 -- the old folder was refused
@@ -30,31 +30,24 @@ returns-in-Err-clause-answer g c =
     (old_refused g.N.Work.job g.O.Work.job g.E.Disk.tells h after disk disk c.in-Err.fault (subst (λ (d : List ℕ). IsRefusalFor d c.in-Err.fault) digest c.in-Err.ensures.known)
     (λ told. subst (λ n. IsRefused g.O.Work.job.parts.digest n h after c.in-Err.fault) count (subst (λ (d : List ℕ). IsRefused d c.count.result h after c.in-Err.fault) digest (c.in-Err.ensures.answer (c.requires.tells ∙ told)))))
 
-pub returns-in-Err-clause-cause : goal.returns-in-Err-clause-cause
-returns-in-Err-clause-cause g c = record {
-  old_later = c.in-Err.ensures.cause.later;
-  later = omega arith;
-  failed = λ is. inl (c.in-Err.ensures.cause.failed (ap Err (old_disk c.in-Err.fault (sym c.of_old.ensures ∙ err_is _ _ is))));
-}
-
-pub returns-in-Err-clause-steady_old : goal.returns-in-Err-clause-steady_old
-returns-in-Err-clause-steady_old g c other = c.in-Err.ensures.steady (λ same. let is : c.in-Err.fault ≡ cause.DiskFault = cc in other (ap Err (c.of_old.ensures ∙ ap by_old is)))
+pub returns-in-Err-clause-disks : goal.returns-in-Err-clause-disks
+returns-in-Err-clause-disks g c =
+    old_asked g.D.Disk.faults g.D.Disk.loans g.E.Disk.faults g.E.Disk.loans _ c.args.old.now c.look.new.disk c.args.disk
+    (record { later = c.in-Err.ensures.cause.later; failed = λ is. c.in-Err.ensures.cause.failed (ap Err (old_disk c.in-Err.fault (sym c.of_old.ensures ∙ err_is _ _ is))) })
+    (λ other. c.in-Err.ensures.steady (λ same. let is : c.in-Err.fault ≡ cause.DiskFault = cc in other (ap Err (c.of_old.ensures ∙ ap by_old is)))) c.in-Err.ensures.same
 
 -- it was looked at
-pub adopt_owned-requires-clause-can_serve : goal.adopt_owned-requires-clause-can_serve
-adopt_owned-requires-clause-can_serve g c =
-    can_along g.N.Work.job g.O.Work.job g.D.Disk.tells (g.D.Disk.history c.args.old.now) (g.D.Disk.history c.look.new.disk) c.in-Ok.ensures.still g.N.Work.files c.requires.can_serve
-
-pub adopt_owned-requires-clause-viewed : goal.adopt_owned-requires-clause-viewed
-adopt_owned-requires-clause-viewed g c =
+pub adopt_owned-requires-clause-looked : goal.adopt_owned-requires-clause-looked
+adopt_owned-requires-clause-looked g c =
     let h = g.D.Disk.history c.args.old.now in
     let digest = c.digest.ensures ∙ ap (λ (job : JobData). job.parts.digest) c.requires.old_job in
     let count = c.count.ensures.count ∙ ap (λ (t : RecordReel). frame_count t.events) c.timeline.ensures ∙ ap frames_of c.requires.old_job in
-    viewed_along g.N.Work.job g.O.Work.job g.D.Disk.tells h (g.D.Disk.history c.look.new.disk) c.in-Ok.ensures.still c.in-Ok.view
-    (λ told. subst (λ n. IsViewOf g.O.Work.job.parts.digest n (view_of h) c.in-Ok.view) count (subst (λ (d : List ℕ). IsViewOf d c.count.result (view_of h) c.in-Ok.view) digest (c.in-Ok.ensures.answer told)))
-
-pub adopt_owned-requires-clause-flags : goal.adopt_owned-requires-clause-flags
-adopt_owned-requires-clause-flags g c = c.in-Ok.ensures.known ∙ c.count.ensures.count ∙ ap (λ (t : RecordReel). frame_count t.events) c.timeline.ensures ∙ ap frames_of c.requires.old_job
+    looked_along g.N.Work.job g.O.Work.job g.D.Disk.tells h (g.D.Disk.history c.look.new.disk) c.in-Ok.ensures.still g.N.Work.files c.in-Ok.view
+    (record {
+      can_serve = c.requires.can_serve;
+      viewed = λ told. subst (λ n. IsViewOf g.O.Work.job.parts.digest n (view_of h) c.in-Ok.view) count (subst (λ (d : List ℕ). IsViewOf d c.count.result (view_of h) c.in-Ok.view) digest (c.in-Ok.ensures.answer told));
+      flags = c.in-Ok.ensures.known ∙ count;
+    })
 
 pub returns-in-Ok-clause-answer : goal.returns-in-Ok-clause-answer
 returns-in-Ok-clause-answer g c =
@@ -67,24 +60,19 @@ returns-in-Ok-clause-untouched g c = never_touched c.adopt_owned.result.0 _ c.ad
 pub returns-in-Ok-clause-still : goal.returns-in-Ok-clause-still
 returns-in-Ok-clause-still g c told = still_along _ _ _ (c.in-Ok.ensures.still told) (c.adopt_owned.ensures.still told)
 
-pub returns-in-Ok-clause-cause : goal.returns-in-Ok-clause-cause
-returns-in-Ok-clause-cause g c = caused_as _ _ _ _ _ _ _ _ (c.in-Ok.ensures.steady (λ same. cc)) refl (λ is. is) c.adopt_owned.ensures.cause
+pub returns-in-Ok-clause-disks : goal.returns-in-Ok-clause-disks
+returns-in-Ok-clause-disks g c =
+    both_behind g.D.Disk.faults g.D.Disk.loans g.E.Disk.faults g.E.Disk.loans _ _ (λ is. is) (λ is. is) c.args.old.now c.look.new.disk c.adopt_owned.new.old c.args.disk c.args.disk c.adopt_owned.result.1 (c.in-Ok.ensures.steady (λ same. cc)) refl c.in-Ok.ensures.same refl
+    c.adopt_owned.ensures.disks
 
-pub returns-in-Ok-clause-steady_old : goal.returns-in-Ok-clause-steady_old
-returns-in-Ok-clause-steady_old g c other = c.adopt_owned.ensures.steady_old other ∙ c.in-Ok.ensures.steady (λ same. cc)
-
-pub returns-in-Err-clause-run : goal.returns-in-Err-clause-run
-returns-in-Err-clause-run g c told = reel_run_itself g.N.Work.job g.N.Work.files (g.E.Disk.history c.args.disk)
-
-pub returns-in-Err-clause-spares : goal.returns-in-Err-clause-spares
-returns-in-Err-clause-spares g c told = spares_itself (g.E.Disk.history c.args.disk) (IsOwnFile g.N.Work.job (view_of (g.E.Disk.history c.args.disk)))
-
-pub returns-in-Err-clause-writes : goal.returns-in-Err-clause-writes
-returns-in-Err-clause-writes g c told =
-    let may = MayWrite g.N.Work.job (view_of (g.E.Disk.history c.args.disk)) in
-    spares_writes may _ _ (spares_itself (g.E.Disk.history c.args.disk) may)
-
-pub returns-in-Err-clause-sound_has : goal.returns-in-Err-clause-sound_has
-returns-in-Err-clause-sound_has g c =
+pub returns-in-Err-clause-safe : goal.returns-in-Err-clause-safe
+returns-in-Err-clause-safe g c =
     let here : length c.args.new_job.now.parts.project.title ≤ 199 = search rules in
-    sound_has g.N.Work.job (length-frame_file g.N.Work.job (subst (λ (job : JobData). length job.parts.project.title ≤ 199) c.requires.new_job here))
+    let held = g.E.Disk.history c.args.disk in
+    let may = MayWrite g.N.Work.job (view_of held) in
+    record {
+      run = λ told. reel_run_itself g.N.Work.job g.N.Work.files held;
+      sound_has = sound_has g.N.Work.job (length-frame_file g.N.Work.job (subst (λ (job : JobData). length job.parts.project.title ≤ 199) c.requires.new_job here));
+      spares = λ told. spares_itself held (IsOwnFile g.N.Work.job (view_of held));
+      writes = λ told. spares_writes may _ _ (spares_itself held may);
+    }

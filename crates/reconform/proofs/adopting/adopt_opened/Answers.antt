@@ -1,11 +1,10 @@
 use Rattle.std.proofs.Common.{length, sym, ap, ◌∙◌, subst, arith}
 use Rattle.reel_disk.specs.Disk.{view_of}
-use Rattle.reel_disk.specs.Runs.{Spares}
 use Rattle.resume_ledger.specs.Ledger.{AreFlagsOf, IsFit, IsInForce}
 use Rattle.resume_ledger.specs.declared.layout.Version.TheVariants.{Two}
-use Rattle.reel_writer.specs.Changes.{IsRunFile}
-use Rattle.reel_writer.specs.Reel.{frames_of, KeepsReel}
-use Rattle.reconform.proofs.Going.{flags_are, is_fit}
+use Rattle.reel_writer.specs.Reel.{frames_of}
+use Rattle.reconform.specs.Parts.{IsPart}
+use Rattle.reconform.proofs.Going.{both_counted, both_passed, flags_are, is_fit}
 use Rattle.reconform.proofs.adopting.adopt_opened.Goals as goal
 
 pub returns-in-Ok-clause-answer : goal.returns-in-Ok-clause-answer
@@ -26,21 +25,17 @@ returns-in-Ok-clause-answer g c =
       adopted_is = omega (arith, sum, kept, acks);
     }
 
-pub returns-in-Ok-clause-none_lost : goal.returns-in-Ok-clause-none_lost
-returns-in-Ok-clause-none_lost g c told =
-    subst (λ d. KeepsReel g.N.Work.job (g.E.Disk.history c.args.reel.disk) (g.E.Disk.history d)) (sym c.close.ensures) (c.adopt_alike.ensures.none_lost told)
+pub returns-in-Ok-clause-part : goal.returns-in-Ok-clause-part
+returns-in-Ok-clause-part g c = subst (λ d. IsPart g.N.Work.job g.N.Work.files g.E.Disk.tells g.E.Disk.history c.args.reel.ledger.gates c.args.reel.disk d) (sym c.close.ensures) c.adopt_alike.ensures.part
 
-pub returns-in-Err-clause-none_lost : goal.returns-in-Err-clause-none_lost
-returns-in-Err-clause-none_lost g c told =
-    subst (λ d. KeepsReel g.N.Work.job (g.E.Disk.history c.args.reel.disk) (g.E.Disk.history d)) (sym c.close-in-Err.ensures) (c.adopt_alike.ensures.none_lost told)
+pub returns-in-Ok-clause-disks : goal.returns-in-Ok-clause-disks
+returns-in-Ok-clause-disks g c = rw c.close.ensures (both_counted g.D.Disk.faults g.D.Disk.loans g.E.Disk.faults g.E.Disk.loans _ _ c.args.old.now c.adopt_alike.new.old c.args.reel.disk c.adopt_alike.new.reel.disk c.in-Ok.ensures.disks)
 
-pub returns-in-Ok-clause-spares : goal.returns-in-Ok-clause-spares
-returns-in-Ok-clause-spares g c told =
-    subst (λ d. Spares (g.E.Disk.history c.args.reel.disk) (g.E.Disk.history d) (IsRunFile g.N.Work.job c.args.reel.ledger.gates)) (sym c.close.ensures) (c.adopt_alike.ensures.spares told)
+pub returns-in-Err-clause-part : goal.returns-in-Err-clause-part
+returns-in-Err-clause-part g c = subst (λ d. IsPart g.N.Work.job g.N.Work.files g.E.Disk.tells g.E.Disk.history c.args.reel.ledger.gates c.args.reel.disk d) (sym c.close-in-Err.ensures) c.adopt_alike.ensures.part
 
-pub returns-in-Err-clause-spares : goal.returns-in-Err-clause-spares
-returns-in-Err-clause-spares g c told =
-    subst (λ d. Spares (g.E.Disk.history c.args.reel.disk) (g.E.Disk.history d) (IsRunFile g.N.Work.job c.args.reel.ledger.gates)) (sym c.close-in-Err.ensures) (c.adopt_alike.ensures.spares told)
+pub returns-in-Err-clause-disks : goal.returns-in-Err-clause-disks
+returns-in-Err-clause-disks g c = rw c.close-in-Err.ensures (both_passed g.D.Disk.faults g.D.Disk.loans g.E.Disk.faults g.E.Disk.loans c.in-Err.fault c.args.old.now c.adopt_alike.new.old c.args.reel.disk c.adopt_alike.new.reel.disk c.in-Err.ensures.disks)
 
 pub returns-in-Ok-clause-sealed : goal.returns-in-Ok-clause-sealed
 returns-in-Ok-clause-sealed g c told =

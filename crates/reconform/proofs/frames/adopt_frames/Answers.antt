@@ -2,15 +2,10 @@ use Rattle.std.proofs.Common.{rules, ◌≡◌, length, refl, sym, ap, ◌∙◌
 use Rattle.frame_render.specs.Frame.{frame_size}
 use Rattle.frame_render.proofs.Filled.{refilled}
 use Rattle.reel_disk.specs.Disk.{Moment, view_of}
-use Rattle.reel_disk.proofs.Moments.{keeps_along}
-use Rattle.reel_disk.proofs.Sparing.{spares_along, spares_itself, spares_wider}
 use Rattle.resume_ledger.proofs.Reading.{still_along}
-use Rattle.reel_writer.specs.Changes.{IsRunFile}
-use Rattle.reel_writer.specs.Reel.{frames_of, HasAcked}
-use Rattle.reel_writer.proofs.ReelLaws.{reel_run_itself, reel_run_along}
-use Rattle.reel_writer.proofs.Writing.{kept_itself, run_file_before}
+use Rattle.reel_writer.specs.Reel.{frames_of}
 use Rattle.reconform.specs.Adopt.{AreServed, IsServed}
-use Rattle.reconform.proofs.Going.{can_along, caused_as, still_itself, viewed_along}
+use Rattle.reconform.proofs.Going.{both_behind, both_itself, looked_along, part_along, part_itself, still_itself}
 use Rattle.reconform.proofs.Serving.{same_along, same_itself, served_first, served_more}
 use Rattle.reconform.proofs.frames.adopt_frames.Goals as goal
 
@@ -23,9 +18,7 @@ loop-i-init g c = record {
   is_open = c.requires.is_open;
   room = c.in-Ok.ensures.room ∙ ap frame_size c.requires.new_job;
   file = c.in-Ok.ensures.file ∙ ap frame_size c.requires.old_job;
-  run = λ told. reel_run_itself g.N.Work.job g.N.Work.files (g.E.Disk.history c.args.reel.now.disk);
-  none_lost = λ told. kept_itself g.N.Work.job (g.E.Disk.history c.args.reel.now.disk);
-  spares = λ told. spares_itself (g.E.Disk.history c.args.reel.now.disk) (IsRunFile g.N.Work.job c.args.reel.now.ledger.gates);
+  part = part_itself g.N.Work.job g.N.Work.files g.E.Disk.tells g.E.Disk.history c.args.reel.now.ledger.gates c.args.reel.now.disk;
   still = λ told. still_itself (g.D.Disk.history c.args.old.now);
   faults_old = refl;
   faults = refl;
@@ -33,13 +26,9 @@ loop-i-init g c = record {
   same_disk = refl;
 }
 
-pub adopt_frame-requires-clause-can_serve : goal.adopt_frame-requires-clause-can_serve
-adopt_frame-requires-clause-can_serve g c =
-    can_along g.N.Work.job g.O.Work.job g.D.Disk.tells (g.D.Disk.history c.args.old.now) (g.D.Disk.history c.loop-i.old) c.loop-i.invariant.still g.N.Work.files c.requires.can_serve
-
-pub adopt_frame-requires-clause-viewed : goal.adopt_frame-requires-clause-viewed
-adopt_frame-requires-clause-viewed g c =
-    viewed_along g.N.Work.job g.O.Work.job g.D.Disk.tells (g.D.Disk.history c.args.old.now) (g.D.Disk.history c.loop-i.old) c.loop-i.invariant.still c.args.view.now c.requires.viewed
+pub adopt_frame-requires-clause-looked : goal.adopt_frame-requires-clause-looked
+adopt_frame-requires-clause-looked g c =
+    looked_along g.N.Work.job g.O.Work.job g.D.Disk.tells (g.D.Disk.history c.args.old.now) (g.D.Disk.history c.loop-i.old) c.loop-i.invariant.still g.N.Work.files c.args.view.now c.requires.looked
 
 pub adopt_frame-requires-clause-size : goal.adopt_frame-requires-clause-size
 adopt_frame-requires-clause-size g c = c.loop-i.invariant.stays.size ∙ c.requires.size
@@ -59,43 +48,29 @@ loop-i-preserved g c =
       file =
           let long : length c.loop-i.file.items ≡ c.loop-i.file.len = search rules in
           ap length (refilled c.loop-i.file.len c.adopt_frame.new.file c.loop-i.file.items long (c.adopt_frame.ensures.file ∙ sym inv.file ∙ long)) ∙ c.adopt_frame.ensures.file;
-      run = λ told. reel_run_along g.N.Work.job g.N.Work.files _ _ _ (inv.run told) (step.run told) (step.none_lost told);
-      none_lost = λ told k. keeps_along (HasAcked g.N.Work.job k) _ _ _ (inv.run told).extends (step.run told).extends (inv.none_lost told k) (step.none_lost told k);
-      spares = λ told. spares_along _ _ _ (IsRunFile g.N.Work.job c.args.reel.now.ledger.gates) (inv.run told).extends (step.run told).extends (inv.spares told)
-          (spares_wider _ _ (IsRunFile g.N.Work.job c.loop-i.reel.ledger.gates) (IsRunFile g.N.Work.job c.args.reel.now.ledger.gates) (run_file_before g.N.Work.job c.args.reel.now.ledger.gates c.loop-i.reel.ledger.gates inv.stays.grows) (step.spares told));
+      part = part_along g.N.Work.job g.N.Work.files g.E.Disk.tells g.E.Disk.history c.args.reel.now.ledger.gates c.loop-i.reel.ledger.gates inv.stays.grows c.args.reel.now.disk c.loop-i.reel.disk c.adopt_frame.new.reel.disk inv.part step.part;
       still = λ told. still_along _ _ _ (inv.still told) (step.still told);
-      faults_old = step.steady_old ∙ inv.faults_old;
-      faults = step.steady ∙ inv.faults;
-      same_old = step.same_old ∙ inv.same_old;
-      same_disk = step.same_disk ∙ inv.same_disk;
+      faults_old = step.disks.old_steady (λ is. cc) ∙ inv.faults_old;
+      faults = step.disks.steady (λ is. cc) ∙ inv.faults;
+      same_old = step.disks.old_lent ∙ inv.same_old;
+      same_disk = step.disks.lent ∙ inv.same_disk;
     }
 
 -- no room
-pub returns-in-Err-clause-run : goal.returns-in-Err-clause-run
-returns-in-Err-clause-run g c told = reel_run_itself g.N.Work.job g.N.Work.files (g.E.Disk.history c.args.reel.now.disk)
-
-pub returns-in-Err-clause-none_lost : goal.returns-in-Err-clause-none_lost
-returns-in-Err-clause-none_lost g c told = kept_itself g.N.Work.job (g.E.Disk.history c.args.reel.now.disk)
-
-pub returns-in-Err-clause-spares : goal.returns-in-Err-clause-spares
-returns-in-Err-clause-spares g c told = spares_itself (g.E.Disk.history c.args.reel.now.disk) (IsRunFile g.N.Work.job c.args.reel.now.ledger.gates)
+pub returns-in-Err-clause-part : goal.returns-in-Err-clause-part
+returns-in-Err-clause-part g c = part_itself g.N.Work.job g.N.Work.files g.E.Disk.tells g.E.Disk.history c.args.reel.now.ledger.gates c.args.reel.now.disk
 
 pub returns-in-Err-clause-stays : goal.returns-in-Err-clause-stays
 returns-in-Err-clause-stays g c = same_itself c.args.reel.now
 
+pub returns-in-Err-clause-disks : goal.returns-in-Err-clause-disks
+returns-in-Err-clause-disks g c = both_itself g.D.Disk.faults g.D.Disk.loans g.E.Disk.faults g.E.Disk.loans _ (λ is. cc) c.args.old.now c.args.reel.now.disk
+
 -- a disk failed
-pub returns-in-Err-adopt_frame-clause-run : goal.returns-in-Err-adopt_frame-clause-run
-returns-in-Err-adopt_frame-clause-run g c told = reel_run_along g.N.Work.job g.N.Work.files _ _ _ (c.loop-i.invariant.run told) (c.adopt_frame.ensures.run told) (c.adopt_frame.ensures.none_lost told)
-
-pub returns-in-Err-adopt_frame-clause-none_lost : goal.returns-in-Err-adopt_frame-clause-none_lost
-returns-in-Err-adopt_frame-clause-none_lost g c told k =
-    keeps_along (HasAcked g.N.Work.job k) _ _ _ (c.loop-i.invariant.run told).extends (c.adopt_frame.ensures.run told).extends (c.loop-i.invariant.none_lost told k) (c.adopt_frame.ensures.none_lost told k)
-
-pub returns-in-Err-adopt_frame-clause-spares : goal.returns-in-Err-adopt_frame-clause-spares
-returns-in-Err-adopt_frame-clause-spares g c told =
-    spares_along _ _ _ (IsRunFile g.N.Work.job c.args.reel.now.ledger.gates) (c.loop-i.invariant.run told).extends (c.adopt_frame.ensures.run told).extends (c.loop-i.invariant.spares told)
-    (spares_wider _ _ (IsRunFile g.N.Work.job c.loop-i.reel.ledger.gates) (IsRunFile g.N.Work.job c.args.reel.now.ledger.gates)
-    (run_file_before g.N.Work.job c.args.reel.now.ledger.gates c.loop-i.reel.ledger.gates c.loop-i.invariant.stays.grows) (c.adopt_frame.ensures.spares told))
+pub returns-in-Err-adopt_frame-clause-part : goal.returns-in-Err-adopt_frame-clause-part
+returns-in-Err-adopt_frame-clause-part g c =
+    part_along g.N.Work.job g.N.Work.files g.E.Disk.tells g.E.Disk.history c.args.reel.now.ledger.gates c.loop-i.reel.ledger.gates c.loop-i.invariant.stays.grows c.args.reel.now.disk c.loop-i.reel.disk c.adopt_frame.new.reel.disk
+    c.loop-i.invariant.part c.adopt_frame.ensures.part
 
 pub returns-in-Err-adopt_frame-clause-still : goal.returns-in-Err-adopt_frame-clause-still
 returns-in-Err-adopt_frame-clause-still g c told = still_along _ _ _ (c.loop-i.invariant.still told) (c.adopt_frame.ensures.still told)
@@ -103,8 +78,10 @@ returns-in-Err-adopt_frame-clause-still g c told = still_along _ _ _ (c.loop-i.i
 pub returns-in-Err-adopt_frame-clause-stays : goal.returns-in-Err-adopt_frame-clause-stays
 returns-in-Err-adopt_frame-clause-stays g c = same_along _ _ _ c.loop-i.invariant.stays c.adopt_frame.ensures.stays
 
-pub returns-in-Err-adopt_frame-clause-cause : goal.returns-in-Err-adopt_frame-clause-cause
-returns-in-Err-adopt_frame-clause-cause g c = caused_as _ _ _ _ _ _ _ _ c.loop-i.invariant.faults_old c.loop-i.invariant.faults (λ is. refl) c.in-Err-adopt_frame.ensures.cause
+pub returns-in-Err-adopt_frame-clause-disks : goal.returns-in-Err-adopt_frame-clause-disks
+returns-in-Err-adopt_frame-clause-disks g c =
+    both_behind g.D.Disk.faults g.D.Disk.loans g.E.Disk.faults g.E.Disk.loans _ _ (λ is. refl) (λ is. refl) c.args.old.now c.loop-i.old c.adopt_frame.new.old c.args.reel.now.disk c.loop-i.reel.disk c.adopt_frame.new.reel.disk c.loop-i.invariant.faults_old c.loop-i.invariant.faults c.loop-i.invariant.same_old c.loop-i.invariant.same_disk
+    c.in-Err-adopt_frame.ensures.disks
 
 -- every frame was served
 pub returns-clause-served : goal.returns-clause-served
@@ -115,3 +92,11 @@ returns-clause-served g c told =
     let ending = inv.ending in
     let all : c.loop-i.i ≡ frames_of g.N.Work.job = omega (arith, late, within, ending) in
     subst (λ n. AreServed g.N.Work.job g.O.Work.job c.args.view.now (view_of (g.D.Disk.history c.args.old.now)) n c.args.reel.now.ledger.gates c.loop-i.reel.ledger.gates) all (inv.served told)
+
+pub returns-clause-part : goal.returns-clause-part
+returns-clause-part g c = c.loop-i.invariant.part
+
+pub returns-clause-disks : goal.returns-clause-disks
+returns-clause-disks g c =
+    both_behind g.D.Disk.faults g.D.Disk.loans g.E.Disk.faults g.E.Disk.loans _ _ (λ is. is) (λ is. is) c.args.old.now c.loop-i.old c.loop-i.old c.args.reel.now.disk c.loop-i.reel.disk c.loop-i.reel.disk c.loop-i.invariant.faults_old c.loop-i.invariant.faults c.loop-i.invariant.same_old c.loop-i.invariant.same_disk
+    (both_itself g.D.Disk.faults g.D.Disk.loans g.E.Disk.faults g.E.Disk.loans _ (λ is. cc) c.loop-i.old c.loop-i.reel.disk)

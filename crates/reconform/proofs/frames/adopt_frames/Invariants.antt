@@ -1,10 +1,9 @@
 use Rattle.std.proofs.Common.{◌≡◌, ◌≤◌, length, true, false}
 use Rattle.frame_render.specs.Frame.{frame_size}
 use Rattle.reel_disk.specs.Disk.{view_of, IsStill}
-use Rattle.reel_disk.specs.Runs.{Spares}
-use Rattle.reel_writer.specs.Changes.{IsRunFile}
-use Rattle.reel_writer.specs.Reel.{frames_of, IsReelRun, KeepsReel}
+use Rattle.reel_writer.specs.Reel.{frames_of}
 use Rattle.reconform.specs.Adopt.{AreServed, IsSameReel}
+use Rattle.reconform.specs.Parts.{IsPart}
 use Rattle.reconform.proofs.frames.adopt_frames.Given as goal
 
 -- the frames below i are served, and nothing failed
@@ -17,9 +16,7 @@ invariant-loop-i g l = record {
   is_open : l.reel.ledger.closed ≡ false;
   room : length l.room ≡ frame_size g.N.Work.job;
   file : length l.file.items ≡ frame_size g.O.Work.job;
-  run : g.E.Disk.tells ≡ true → IsReelRun g.N.Work.job g.N.Work.files (g.E.Disk.history l.fn.reel.disk) (g.E.Disk.history l.reel.disk);
-  none_lost : g.E.Disk.tells ≡ true → KeepsReel g.N.Work.job (g.E.Disk.history l.fn.reel.disk) (g.E.Disk.history l.reel.disk);
-  spares : g.E.Disk.tells ≡ true → Spares (g.E.Disk.history l.fn.reel.disk) (g.E.Disk.history l.reel.disk) (IsRunFile g.N.Work.job l.fn.reel.ledger.gates);
+  part : IsPart g.N.Work.job g.N.Work.files g.E.Disk.tells g.E.Disk.history l.fn.reel.ledger.gates l.fn.reel.disk l.reel.disk;
   still : g.D.Disk.tells ≡ true → IsStill (g.D.Disk.history l.fn.old) (g.D.Disk.history l.old);
   faults_old : g.D.Disk.faults l.old ≡ g.D.Disk.faults l.fn.old;
   faults : g.E.Disk.faults l.reel.disk ≡ g.E.Disk.faults l.fn.reel.disk;

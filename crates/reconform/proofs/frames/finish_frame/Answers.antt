@@ -25,12 +25,18 @@ returns-in-Ok-clause-stays g c = same_finish _ _ _ _
 pub returns-in-Err-clause-stays : goal.returns-in-Err-clause-stays
 returns-in-Err-clause-stays g c = same_fault _ 0 _ _ c.in-Err.ensures.closed
 
-pub returns-in-Ok-clause-spares : goal.returns-in-Ok-clause-spares
-returns-in-Ok-clause-spares g c told =
-    spares_wider _ _ (IsWrittenFile (file_of g.N.Work.job c.of-hashed.result.index)) (IsRunFile g.N.Work.job c.args.reel.now.ledger.gates)
-    (run_file g.N.Work.job c.args.reel.now.ledger.gates c.args.i c.of-hashed.result.index (ap (λ (f : FrameBytes). f.index) c.of-hashed.ensures ∙ c.rehead.ensures.index) c.requires.index c.requires.fresh) (c.in-Ok.ensures.spares told)
+pub returns-in-Ok-clause-part : goal.returns-in-Ok-clause-part
+returns-in-Ok-clause-part g c = record {
+  run = c.in-Ok.ensures.run;
+  none_lost = c.in-Ok.ensures.none_lost;
+  spares = λ told. spares_wider _ _ (IsWrittenFile (file_of g.N.Work.job c.of-hashed.result.index)) (IsRunFile g.N.Work.job c.args.reel.now.ledger.gates)
+      (run_file g.N.Work.job c.args.reel.now.ledger.gates c.args.i c.of-hashed.result.index (ap (λ (f : FrameBytes). f.index) c.of-hashed.ensures ∙ c.rehead.ensures.index) c.requires.index c.requires.fresh) (c.in-Ok.ensures.spares told);
+}
 
-pub returns-in-Err-clause-spares : goal.returns-in-Err-clause-spares
-returns-in-Err-clause-spares g c told =
-    spares_wider _ _ (IsWrittenFile (file_of g.N.Work.job c.of-hashed.result.index)) (IsRunFile g.N.Work.job c.args.reel.now.ledger.gates)
-    (run_file g.N.Work.job c.args.reel.now.ledger.gates c.args.i c.of-hashed.result.index (ap (λ (f : FrameBytes). f.index) c.of-hashed.ensures ∙ c.rehead.ensures.index) c.requires.index c.requires.fresh) (c.in-Err.ensures.spares told)
+pub returns-in-Err-clause-part : goal.returns-in-Err-clause-part
+returns-in-Err-clause-part g c = record {
+  run = c.in-Err.ensures.run;
+  none_lost = c.in-Err.ensures.none_lost;
+  spares = λ told. spares_wider _ _ (IsWrittenFile (file_of g.N.Work.job c.of-hashed.result.index)) (IsRunFile g.N.Work.job c.args.reel.now.ledger.gates)
+      (run_file g.N.Work.job c.args.reel.now.ledger.gates c.args.i c.of-hashed.result.index (ap (λ (f : FrameBytes). f.index) c.of-hashed.ensures ∙ c.rehead.ensures.index) c.requires.index c.requires.fresh) (c.in-Err.ensures.spares told);
+}

@@ -11,27 +11,27 @@ use Rattle.reconform.proofs.frames.read_donor.Goals as goal
 pub read_intact-requires-clause-within : goal.read_intact-requires-clause-within
 read_intact-requires-clause-within g c =
     let least = least_here g.O.Work.job c.args.view.now.gates (frames_of g.O.Work.job) c.args.donors.now.by_plan c.plan_at.result (plan_at g.N.Work.job c.args.i) (Some c.in-Some.j)
-    c.requires.donors (c.plan_at.ensures ∙ ap (λ (job : JobData). plan_at job c.args.i) c.requires.new_job) (sym c.in-Some.is ∙ c.get.ensures) in
+    c.requires.donors.least (c.plan_at.ensures ∙ ap (λ (job : JobData). plan_at job c.args.i) c.requires.new_job) (sym c.in-Some.is ∙ c.get.ensures) in
     subst (λ (job : JobData). c.in-Some.j < frames_of job) (sym c.requires.old_job) least.0
 
 pub returns-in-Some-clause-intact : goal.returns-in-Some-clause-intact
 returns-in-Some-clause-intact g c =
     let least = least_here g.O.Work.job c.args.view.now.gates (frames_of g.O.Work.job) c.args.donors.now.by_plan c.plan_at.result (plan_at g.N.Work.job c.args.i) (Some c.in-Some.j)
-    c.requires.donors (c.plan_at.ensures ∙ ap (λ (job : JobData). plan_at job c.args.i) c.requires.new_job) (sym c.in-Some.is ∙ c.get.ensures) in
+    c.requires.donors.least (c.plan_at.ensures ∙ ap (λ (job : JobData). plan_at job c.args.i) c.requires.new_job) (sym c.in-Some.is ∙ c.get.ensures) in
     let files = view_of (g.D.Disk.history c.args.old.now) in
-    if_ok c.read_intact.result _ _ (λ is read told. intact_some g.N.Work.job g.O.Work.job c.args.view.now files c.args.i c.in-Some.j c.requires.alike least is
+    if_ok c.read_intact.result _ _ (λ is read told. intact_some g.N.Work.job g.O.Work.job c.args.view.now files c.args.i c.in-Some.j c.requires.donors.alike least is
     (subst (λ (job : JobData). (is ≡ true) ↔ IsIntact job c.args.view.now files c.in-Some.j) c.requires.old_job (read told))) c.read_intact.ensures.intact
 
 pub returns-in-Some-clause-pixels : goal.returns-in-Some-clause-pixels
 returns-in-Some-clause-pixels g c =
     let least = least_here g.O.Work.job c.args.view.now.gates (frames_of g.O.Work.job) c.args.donors.now.by_plan c.plan_at.result (plan_at g.N.Work.job c.args.i) (Some c.in-Some.j)
-    c.requires.donors (c.plan_at.ensures ∙ ap (λ (job : JobData). plan_at job c.args.i) c.requires.new_job) (sym c.in-Some.is ∙ c.get.ensures) in
+    c.requires.donors.least (c.plan_at.ensures ∙ ap (λ (job : JobData). plan_at job c.args.i) c.requires.new_job) (sym c.in-Some.is ∙ c.get.ensures) in
     let files = view_of (g.D.Disk.history c.args.old.now) in
     if_ok c.read_intact.result _ _ (λ is bytes yes. served_pixels g.N.Work.job g.O.Work.job g.N.Work.files g.D.Disk.tells files c.args.view.now c.args.i c.in-Some.j c.read_intact.new.into
-    c.requires.can_serve c.requires.viewed c.requires.alike c.requires.titles least.1 least.2 (λ told. ap (λ (job : JobData). files (file_of job c.in-Some.j)) (sym c.requires.old_job) ∙ bytes yes told)) c.read_intact.ensures.bytes
+    c.requires.looked.can_serve c.requires.looked.viewed c.requires.donors.alike c.requires.donors.titles least.1 least.2 (λ told. ap (λ (job : JobData). files (file_of job c.in-Some.j)) (sym c.requires.old_job) ∙ bytes yes told)) c.read_intact.ensures.bytes
 
 pub returns-in-None-clause-intact : goal.returns-in-None-clause-intact
 returns-in-None-clause-intact g c told =
     intact_none g.N.Work.job g.O.Work.job c.args.view.now (view_of (g.D.Disk.history c.args.old.now)) c.args.i
     (least_here g.O.Work.job c.args.view.now.gates (frames_of g.O.Work.job) c.args.donors.now.by_plan c.plan_at.result (plan_at g.N.Work.job c.args.i) None
-    c.requires.donors (c.plan_at.ensures ∙ ap (λ (job : JobData). plan_at job c.args.i) c.requires.new_job) (sym c.in-None.is ∙ c.get.ensures))
+    c.requires.donors.least (c.plan_at.ensures ∙ ap (λ (job : JobData). plan_at job c.args.i) c.requires.new_job) (sym c.in-None.is ∙ c.get.ensures))

@@ -1,0 +1,49 @@
+-- What a part of an adoption has to find, and what it does to the new folder. All of it is this project's own rule.
+--     WasLookedAt      the old folder, where a view of its ledger was had
+--     HasDonors      two jobs that are alike, and the map of their donors
+--     IsPart      what a part does to the new folder once that is open
+--     IsSafeAdoption      what all of it does, the opening among it
+use Rattle.std.specs.Prelude.{◌≡◌, ℕ, Bool, true, List, length, Option, IfSome}
+use Rattle.std.specs.BTreeMap.{BTreeMap}
+use Rattle.scan_source.specs.World.{World}
+use Rattle.conform_job.specs.Job.{JobData}
+use Rattle.reel_disk.specs.Disk.{Files, History, view_of}
+use Rattle.reel_disk.specs.Runs.{Spares}
+use Rattle.resume_ledger.specs.Look.{ViewState, IsViewOf}
+use Rattle.resume_ledger.specs.Sound.{WritesOnly}
+use Rattle.reel_writer.specs.Changes.{IsOwnFile, IsRunFile, MayWrite}
+use Rattle.reel_writer.specs.Reel.{frames_of, HasFrameFiles, IsReelRun, IsSoundReel, KeepsReel}
+use Rattle.reconform.specs.Adopt.{CanServe}
+use Rattle.reconform.specs.Donor.{AreLeast}
+use Rattle.reconform.specs.Laws.{HasTitle}
+use Rattle.reconform.specs.Plan.{AreAlike}
+use Rattle.reconform.specs.declared.plan.FramePlan.{FramePlan}
+
+-- The ledger of the old folder is as the view says. Where the source files are told, the folder can serve.
+pub record WasLookedAt (new old : JobData) (told : Option World) (tells : Bool) (files : Files) (view : ViewState) : Type 0 where
+  pub can_serve : IfSome told (λ world. CanServe new old world tells files)
+  pub viewed : tells ≡ true → IsViewOf old.parts.digest (frames_of old) files view
+  pub flags : length view.gates ≡ frames_of old
+
+-- The jobs are alike, and the map has the least acknowledged frame of each plan.
+pub record HasDonors (new old : JobData) (acked : List Bool) (by_plan : BTreeMap FramePlan ℕ) : Type 0 where
+  pub alike : AreAlike new old
+  pub titles : HasTitle new × HasTitle old
+  pub least : AreLeast old acked (frames_of old) by_plan
+
+-- What a part does to the new folder, from where these frames were acknowledged: a crash at any moment leaves only frames
+-- acknowledged that are the reel's, no acknowledgement is lost, and no file is changed but the ledger's and those of the other
+-- frames.
+pub record IsPart {E : Type 0} (job : JobData) (told : Option World) (tells : Bool) (history : E → History) (gates : List Bool) (before after : E) : Type 0 where
+  pub run : tells ≡ true → IsReelRun job told (history before) (history after)
+  pub none_lost : tells ≡ true → KeepsReel job (history before) (history after)
+  pub spares : tells ≡ true → Spares (history before) (history after) (IsRunFile job gates)
+
+-- What an adoption does to the new folder: a crash at any moment leaves only frames acknowledged that are the reel's, and no
+-- acknowledgement is lost, as sound files have it. No file is changed but the ledger's and those of frames that the opening
+-- didn't keep, and of the ledger's those of version 2 alone are written.
+pub record IsSafeAdoption {E : Type 0} (job : JobData) (told : Option World) (tells : Bool) (history : E → History) (before after : E) : Type 0 where
+  pub run : tells ≡ true → IsReelRun job told (history before) (history after)
+  pub sound_has : (world : World) (files : Files) → IsSoundReel job world files → HasFrameFiles job files
+  pub spares : tells ≡ true → Spares (history before) (history after) (IsOwnFile job (view_of (history before)))
+  pub writes : tells ≡ true → WritesOnly (history before) (history after) (MayWrite job (view_of (history before)))
