@@ -1,6 +1,6 @@
 -- The steps of a picture line: the first of its faults stands.
 use Rattle.std.proofs.Common.{◌≡◌, ℕ, ◌+◌, ◌-◌, ◌<◌, ◌≤◌, true, false, List, refl, ap, sym, ◌∙◌}
-use Rattle.std.specs.Prelude.{Option, None, Result, Ok, Err, nat_le, nat_lt, unwrap_or}
+use Rattle.std.specs.Prelude.{Option, Result, Ok, Err, nat_le, nat_lt, unwrap_or}
 use Rattle.std.proofs.lemmas.Bool.{lt-ltb, le-ltb, le-leb, lt-leb}
 use Rattle.cf_base.specs.declared.lines.Span.{Span}
 use Rattle.cf_base.specs.declared.timing.Rate.{Rate}
@@ -13,22 +13,7 @@ use Rattle.edl_events.specs.declared.ListKind.TheVariants as fault
 use Rattle.edl_events.specs.declared.steps.State.{State}
 use Rattle.edl_events.specs.declared.steps.Times.{Times}
 use Rattle.edl_events.specs.Pictures.{◌>>=◌, unless, times_of, is_at, leads, transition_fits}
-use Rattle.edl_events.specs.Steps.{picture_from}
-
--- the event of these times
-abbrev event_of : State → ℕ → List ℕ → Transition → Times → EventRec
-event_of s number reel transition times = record {
-  line = s.lines + 1;
-  number = number;
-  reel = reel;
-  src_mode = s.mode;
-  src_in = times.src_in;
-  src_out = times.src_out;
-  rec_in = times.rec_in;
-  rec_out = times.rec_out;
-  speed = None;
-  transition = transition;
-}
+use Rattle.edl_events.specs.Steps.{event_of, picture_from}
 
 -- what is asked of the times, and what is asked then
 abbrev fitted : State → ℕ → List ℕ → Transition → Times → Result EventRec ListKind

@@ -1,4 +1,5 @@
 -- One line more, from what the lines before it say: words of private clauses.
+--     event_of state .. times      the event of a picture line with these times
 --     picture_from rate state bytes ..      the event of a picture line but for its speed, or its first fault
 --     step_of rate state bytes kind      what the lines say with this one, and its event, or its first fault; motion lines apart
 use Rattle.std.specs.Prelude.{ℕ, ◌+◌, nat_le, nat_lt, if◌then◌else◌, List, Some, None, Result, Ok, Err, unwrap_or}
@@ -13,9 +14,25 @@ use Rattle.edl_events.specs.declared.ListKind.{ListKind}
 use Rattle.edl_events.specs.declared.ListKind.TheVariants as fault
 use Rattle.edl_events.specs.declared.steps.State.{State}
 use Rattle.edl_events.specs.declared.steps.Step.{Step}
+use Rattle.edl_events.specs.declared.steps.Times.{Times}
 use Rattle.edl_events.specs.Lists.{can_count}
 use Rattle.edl_events.specs.Made.{IsInDay}
 use Rattle.edl_events.specs.Pictures.{◌>>=◌, unless, times_of, transition_fits}
+
+-- without its speed, which motion lines behind it say
+abbrev pub event_of : State → ℕ → List ℕ → Transition → Times → EventRec
+event_of s number reel transition times = record {
+  line = s.lines + 1;
+  number = number;
+  reel = reel;
+  src_mode = s.mode;
+  src_in = times.src_in;
+  src_out = times.src_out;
+  rec_in = times.rec_in;
+  rec_out = times.rec_out;
+  speed = None;
+  transition = transition;
+}
 
 abbrev pub picture_from : Rate → State → List ℕ → ℕ → List ℕ → Transition → List Span → Result EventRec ListKind
 picture_from rate s bytes number reel transition spans = do
@@ -23,18 +40,7 @@ picture_from rate s bytes number reel transition spans = do
   _ ← unless (nat_le times.rec_in times.rec_out) fault.Backwards
   _ ← unless (nat_lt s.pictures 10000) fault.TooMany
   _ ← transition_fits s.last_out times transition
-  Ok (record {
-    line = s.lines + 1;
-    number = number;
-    reel = reel;
-    src_mode = s.mode;
-    src_in = times.src_in;
-    src_out = times.src_out;
-    rec_in = times.rec_in;
-    rec_out = times.rec_out;
-    speed = None;
-    transition = transition;
-  })
+  Ok (event_of s number reel transition times)
 
 -- an event's numbers are those of the days that the lines before it say
 abbrev pub IsInDayOf : Rate → State → EventRec → Type 0

@@ -1,11 +1,12 @@
 -- How an adoption goes on, and what is known where it ends.
-use Rattle.std.proofs.Common.{◌≡◌, inl, inr, ℕ, ◌≤◌, Bool, true, false, List, get_or, length, refl, sym, ap, ◌∙◌, subst, arith, Option}
+use Rattle.std.proofs.Common.{◌≡◌, inl, inr, ℕ, ◌<◌, ◌≤◌, Bool, true, false, List, get_or, length, refl, sym, ap, ◌∙◌, subst, arith, Option}
 use Rattle.std.specs.Prelude.{Some, None, IfSome, ◌⊎◌, Ok, Err, IsErrOf}
 use Rattle.cf_base.specs.Count.{HasCause, HasRisen}
 use Rattle.scan_source.specs.World.{World, file_at}
-use Rattle.conform_job.specs.Job.{JobData}
+use Rattle.conform_job.specs.Job.{JobData, file_of}
 use Rattle.reel_disk.specs.Disk.{Files, Moment, History, IsStill, moment_of, view_of}
 use Rattle.reel_disk.specs.Loan.{Loan}
+use Rattle.reel_disk.specs.Runs.{Spares}
 use Rattle.reel_disk.proofs.Images.{view_is_image}
 use Rattle.reel_disk.proofs.Moments.{keeps_along}
 use Rattle.reel_disk.proofs.Sparing.{spares_along, spares_itself, spares_wider}
@@ -16,10 +17,10 @@ use Rattle.resume_ledger.specs.Look.{ViewState, IsViewOf}
 use Rattle.resume_ledger.specs.Sound.{IsSound}
 use Rattle.resume_ledger.proofs.Versions.{agrees_shown}
 use Rattle.reel_writer.specs.Changes.{IsRunFile}
-use Rattle.reel_writer.specs.Reel.{frames_of, reel_of, HasAcked}
+use Rattle.reel_writer.specs.Reel.{frames_of, reel_of, HasAcked, IsReelRun, IsWrittenFile, KeepsReel}
 use Rattle.reel_writer.specs.View.{ReelView, IsReelOf}
 use Rattle.reel_writer.proofs.ReelLaws.{reel_run_along, reel_run_itself}
-use Rattle.reel_writer.proofs.Writing.{kept_itself, run_file_before}
+use Rattle.reel_writer.proofs.Writing.{kept_itself, run_file, run_file_before}
 use Rattle.reconform.specs.Adopt.{CanServe, IsCaused, LeavesBoth}
 use Rattle.reconform.specs.Parts.{IsPart, WasLookedAt}
 use Rattle.reconform.specs.declared.adopting.Adopted.{Adopted}
@@ -56,6 +57,16 @@ module _ {E : Type 0} (job : JobData) (told : Option World) (tells : Bool) (hist
     run = λ is. reel_run_itself job told (history disk);
     none_lost = λ is. kept_itself job (history disk);
     spares = λ is. spares_itself (history disk) (IsRunFile job gates);
+  }
+
+  -- a frame whose gate was closed was finished
+  pub part_finished : (gates : List Bool) (i index : ℕ) → index ≡ i → i < frames_of job → get_or gates i false ≡ false → (before after : E)
+      → (tells ≡ true → IsReelRun job told (history before) (history after)) → (tells ≡ true → KeepsReel job (history before) (history after))
+      → (tells ≡ true → Spares (history before) (history after) (IsWrittenFile (file_of job index))) → IsPart job told tells history gates before after
+  part_finished gates i index same within shut before after run none_lost spares = record {
+    run = run;
+    none_lost = none_lost;
+    spares = λ is. spares_wider _ _ (IsWrittenFile (file_of job index)) (IsRunFile job gates) (run_file job gates i index same within shut) (spares is);
   }
 
   -- one part behind another

@@ -40,8 +40,9 @@ pub record IsPart {E : Type 0} (job : JobData) (told : Option World) (tells : Bo
   pub spares : tells ≡ true → Spares (history before) (history after) (IsRunFile job gates)
 
 -- What an adoption does to the new folder: a crash at any moment leaves only frames acknowledged that are the reel's, and no
--- acknowledgement is lost, as sound files have it. No file is changed but the ledger's and those of frames that the opening
--- didn't keep, and of the ledger's those of version 2 alone are written.
+-- acknowledgement is lost where each frame that version 1 acknowledged had a file of a frame's length, as sound files have. No
+-- file is changed but the ledger's and those of frames that the opening didn't keep, and of the ledger's those of version 2
+-- alone are written.
 pub record IsSafeAdoption {E : Type 0} (job : JobData) (told : Option World) (tells : Bool) (history : E → History) (before after : E) : Type 0 where
   pub run : tells ≡ true → IsReelRun job told (history before) (history after)
   pub sound_has : (world : World) (files : Files) → IsSoundReel job world files → HasFrameFiles job files

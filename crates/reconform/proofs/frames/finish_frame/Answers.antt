@@ -1,11 +1,7 @@
 use Rattle.std.proofs.Common.{ℕ, true, false, get_or, set, ap, ◌∙◌}
 use Rattle.frame_render.specs.Frame.{FrameBytes}
-use Rattle.conform_job.specs.Job.{file_of}
-use Rattle.reel_disk.proofs.Sparing.{spares_wider}
-use Rattle.reel_writer.specs.Changes.{IsRunFile}
-use Rattle.reel_writer.specs.Reel.{IsWrittenFile}
 use Rattle.reel_writer.specs.View.{ReelView}
-use Rattle.reel_writer.proofs.Writing.{run_file}
+use Rattle.reconform.proofs.Going.{part_finished}
 use Rattle.reconform.proofs.Serving.{same_finish, same_fault}
 use Rattle.reconform.proofs.frames.finish_frame.Goals as goal
 
@@ -26,17 +22,11 @@ pub returns-in-Err-clause-stays : goal.returns-in-Err-clause-stays
 returns-in-Err-clause-stays g c = same_fault _ 0 _ _ c.in-Err.ensures.closed
 
 pub returns-in-Ok-clause-part : goal.returns-in-Ok-clause-part
-returns-in-Ok-clause-part g c = record {
-  run = c.in-Ok.ensures.run;
-  none_lost = c.in-Ok.ensures.none_lost;
-  spares = λ told. spares_wider _ _ (IsWrittenFile (file_of g.N.Work.job c.of-hashed.result.index)) (IsRunFile g.N.Work.job c.args.reel.now.ledger.gates)
-      (run_file g.N.Work.job c.args.reel.now.ledger.gates c.args.i c.of-hashed.result.index (ap (λ (f : FrameBytes). f.index) c.of-hashed.ensures ∙ c.rehead.ensures.index) c.requires.index c.requires.fresh) (c.in-Ok.ensures.spares told);
-}
+returns-in-Ok-clause-part g c =
+    part_finished g.N.Work.job g.N.Work.files g.E.Disk.tells g.E.Disk.history c.args.reel.now.ledger.gates c.args.i c.of-hashed.result.index (ap (λ (f : FrameBytes). f.index) c.of-hashed.ensures ∙ c.rehead.ensures.index) c.requires.index c.requires.fresh
+    _ _ c.in-Ok.ensures.run c.in-Ok.ensures.none_lost c.in-Ok.ensures.spares
 
 pub returns-in-Err-clause-part : goal.returns-in-Err-clause-part
-returns-in-Err-clause-part g c = record {
-  run = c.in-Err.ensures.run;
-  none_lost = c.in-Err.ensures.none_lost;
-  spares = λ told. spares_wider _ _ (IsWrittenFile (file_of g.N.Work.job c.of-hashed.result.index)) (IsRunFile g.N.Work.job c.args.reel.now.ledger.gates)
-      (run_file g.N.Work.job c.args.reel.now.ledger.gates c.args.i c.of-hashed.result.index (ap (λ (f : FrameBytes). f.index) c.of-hashed.ensures ∙ c.rehead.ensures.index) c.requires.index c.requires.fresh) (c.in-Err.ensures.spares told);
-}
+returns-in-Err-clause-part g c =
+    part_finished g.N.Work.job g.N.Work.files g.E.Disk.tells g.E.Disk.history c.args.reel.now.ledger.gates c.args.i c.of-hashed.result.index (ap (λ (f : FrameBytes). f.index) c.of-hashed.ensures ∙ c.rehead.ensures.index) c.requires.index c.requires.fresh
+    _ _ c.in-Err.ensures.run c.in-Err.ensures.none_lost c.in-Err.ensures.spares
