@@ -8,74 +8,68 @@ use Rattle.resume_ledger.specs.Sound.{AddsAtMost}
 use Rattle.reel_disk.specs.Disk.{moment_of}
 use Rattle.resume_ledger.specs.Ledger.{LedgerState, Agrees}
 use Rattle.reel_writer.specs.View.{ReelView}
-use Rattle.reel_writer.specs.Reel.{frames_of, IsReelRun, KeepsReel, IsWrittenFile}
+use Rattle.reel_writer.specs.Reel.{frames_of, IsFinishing, IsReelRun, KeepsReel, IsWrittenFile}
 use Rattle.reel_writer.proofs.Keeping.{acked_more, once_more, kept_more, has_room, disk_along, gates_same}
 use Rattle.reel_writer.proofs.ReelLaws.{finishing_of, finished_run, acked_of}
 use Rattle.reel_writer.proofs.reel.Reel.finish.Goals as goal
+use Rattle.reel_writer.proofs.reel.Reel.finish.Goals.{After-bytes}
+use Rattle.reel_writer.proofs.reel.Reel.finish.Given as given
+
+-- the frame's number and its file
+index_is : (g : given.Over) (c : After-bytes g) → c.index-i.result ≡ c.args.frame.now.index
+index_is g c = c.index-i.ensures.index ∙ ap (λ (f : FrameBytes). f.index) c.frame-frame.ensures
+
+file_is : (g : given.Over) (c : After-bytes g) → c.file.result ≡ file_of g.N.Work.job c.args.frame.now.index
+file_is g c = c.file.ensures.own ∙ ap (λ (f : FrameBytes). file_of g.N.Work.job f.index) c.frame-frame.ensures
+
+-- what the calls leave that were made, whether the disk failed or not
+module _ (g : given.Over) (c : After-bytes g) (after : g.row.D.Denot)
+    (left : IsFinishing c.self.inside.ledger.digest (length c.self.inside.ledger.gates) c.index-i.result c.file.result c.bytes.result.now (g.D.Disk.history c.self.inside.disk) (g.D.Disk.history after)) where
+  finishing : IsFinishing g.N.Work.job.parts.digest (frames_of g.N.Work.job) c.args.frame.now.index (file_of g.N.Work.job c.args.frame.now.index) c.bytes.result.now (g.D.Disk.history c.self.inside.disk) (g.D.Disk.history after)
+  finishing =
+      finishing_of g.N.Work.job c.self.inside.ledger.digest (length c.self.inside.ledger.gates) c.index-i.result c.args.frame.now.index c.file.result c.bytes.result.now (g.D.Disk.history c.self.inside.disk) (g.D.Disk.history after)
+      c.self.invariant.0.digest c.self.invariant.0.size (index_is g c) (file_is g c) left
+
+  ran : IsReelRun g.N.Work.job g.N.Work.files (g.D.Disk.history c.args.self.now.disk) (g.D.Disk.history after)
+  ran =
+      disk_along _ _ c.self.view_is (λ d. IsReelRun g.N.Work.job g.N.Work.files (g.D.Disk.history d) (g.D.Disk.history after))
+      (finished_run g.N.Work.job g.N.Work.files (g.D.Disk.history c.self.inside.disk) (g.D.Disk.history after) c.args.frame.now.index c.bytes.result.now
+      (subst (λ n. IsFileOf g.N.Work.job g.N.Work.files n c.bytes.result.now) (ap (λ (f : FrameBytes). f.index) c.frame-frame.ensures) c.bytes.ensures.defined) finishing)
+
+  none_lost : KeepsReel g.N.Work.job (g.D.Disk.history c.args.self.now.disk) (g.D.Disk.history after)
+  none_lost = disk_along _ _ c.self.view_is (λ d. KeepsReel g.N.Work.job (g.D.Disk.history d) (g.D.Disk.history after)) finishing.keeps
+
+  others : AddsAtMost c.args.frame.now.index g.N.Work.job.parts.digest (frames_of g.N.Work.job) (g.D.Disk.history c.args.self.now.disk) (g.D.Disk.history after)
+  others = disk_along _ _ c.self.view_is (λ d. AddsAtMost c.args.frame.now.index g.N.Work.job.parts.digest (frames_of g.N.Work.job) (g.D.Disk.history d) (g.D.Disk.history after)) finishing.others
+
+  spares : Spares (g.D.Disk.history c.args.self.now.disk) (g.D.Disk.history after) (IsWrittenFile (file_of g.N.Work.job c.args.frame.now.index))
+  spares = disk_along _ _ c.self.view_is (λ d. Spares (g.D.Disk.history d) (g.D.Disk.history after) (IsWrittenFile (file_of g.N.Work.job c.args.frame.now.index))) finishing.spares
 
 -- it was done
 pub returns-in-Ok-clause-run : goal.returns-in-Ok-clause-run
-returns-in-Ok-clause-run g c told =
-    let index : c.index-i.result ≡ c.args.frame.now.index = c.index-i.ensures.index ∙ ap (λ (f : FrameBytes). f.index) c.frame-frame.ensures in
-    let file : c.file.result ≡ file_of g.N.Work.job c.args.frame.now.index = c.file.ensures.own ∙ ap (λ (f : FrameBytes). file_of g.N.Work.job f.index) c.frame-frame.ensures in
-    disk_along _ _ c.self.view_is (λ d. IsReelRun g.N.Work.job g.N.Work.files (g.D.Disk.history d) (g.D.Disk.history c.store.new.disk))
-    (finished_run g.N.Work.job g.N.Work.files (g.D.Disk.history c.self.inside.disk) (g.D.Disk.history c.store.new.disk) c.args.frame.now.index c.bytes.result.now
-    (subst (λ n. IsFileOf g.N.Work.job g.N.Work.files n c.bytes.result.now) (ap (λ (f : FrameBytes). f.index) c.frame-frame.ensures) c.bytes.ensures.defined)
-    (finishing_of g.N.Work.job c.self.inside.ledger.digest (length c.self.inside.ledger.gates) c.index-i.result c.args.frame.now.index c.file.result c.bytes.result.now (g.D.Disk.history c.self.inside.disk) (g.D.Disk.history c.store.new.disk)
-    c.self.invariant.0.digest c.self.invariant.0.size index file (c.store.ensures.finishing told)))
+returns-in-Ok-clause-run g c told = ran g (goal.at.returns-in-Ok-clause-run g c).After-bytes c.store.new.disk (c.store.ensures.finishing told)
 
 pub returns-in-Ok-clause-none_lost : goal.returns-in-Ok-clause-none_lost
-returns-in-Ok-clause-none_lost g c told =
-    let index : c.index-i.result ≡ c.args.frame.now.index = c.index-i.ensures.index ∙ ap (λ (f : FrameBytes). f.index) c.frame-frame.ensures in
-    let file : c.file.result ≡ file_of g.N.Work.job c.args.frame.now.index = c.file.ensures.own ∙ ap (λ (f : FrameBytes). file_of g.N.Work.job f.index) c.frame-frame.ensures in
-    disk_along _ _ c.self.view_is (λ d. KeepsReel g.N.Work.job (g.D.Disk.history d) (g.D.Disk.history c.store.new.disk)) (finishing_of g.N.Work.job c.self.inside.ledger.digest (length c.self.inside.ledger.gates) c.index-i.result c.args.frame.now.index c.file.result c.bytes.result.now (g.D.Disk.history c.self.inside.disk) (g.D.Disk.history c.store.new.disk)
-    c.self.invariant.0.digest c.self.invariant.0.size index file (c.store.ensures.finishing told)).keeps
+returns-in-Ok-clause-none_lost g c told = none_lost g (goal.at.returns-in-Ok-clause-none_lost g c).After-bytes c.store.new.disk (c.store.ensures.finishing told)
 
 pub returns-in-Ok-clause-others : goal.returns-in-Ok-clause-others
-returns-in-Ok-clause-others g c told =
-    let index : c.index-i.result ≡ c.args.frame.now.index = c.index-i.ensures.index ∙ ap (λ (f : FrameBytes). f.index) c.frame-frame.ensures in
-    let file : c.file.result ≡ file_of g.N.Work.job c.args.frame.now.index = c.file.ensures.own ∙ ap (λ (f : FrameBytes). file_of g.N.Work.job f.index) c.frame-frame.ensures in
-    disk_along _ _ c.self.view_is (λ d. AddsAtMost c.args.frame.now.index g.N.Work.job.parts.digest (frames_of g.N.Work.job) (g.D.Disk.history d) (g.D.Disk.history c.store.new.disk)) (finishing_of g.N.Work.job c.self.inside.ledger.digest (length c.self.inside.ledger.gates) c.index-i.result c.args.frame.now.index c.file.result c.bytes.result.now (g.D.Disk.history c.self.inside.disk) (g.D.Disk.history c.store.new.disk)
-    c.self.invariant.0.digest c.self.invariant.0.size index file (c.store.ensures.finishing told)).others
+returns-in-Ok-clause-others g c told = others g (goal.at.returns-in-Ok-clause-others g c).After-bytes c.store.new.disk (c.store.ensures.finishing told)
 
 pub returns-in-Ok-clause-spares : goal.returns-in-Ok-clause-spares
-returns-in-Ok-clause-spares g c told =
-    let index : c.index-i.result ≡ c.args.frame.now.index = c.index-i.ensures.index ∙ ap (λ (f : FrameBytes). f.index) c.frame-frame.ensures in
-    let file : c.file.result ≡ file_of g.N.Work.job c.args.frame.now.index = c.file.ensures.own ∙ ap (λ (f : FrameBytes). file_of g.N.Work.job f.index) c.frame-frame.ensures in
-    disk_along _ _ c.self.view_is (λ d. Spares (g.D.Disk.history d) (g.D.Disk.history c.store.new.disk) (IsWrittenFile (file_of g.N.Work.job c.args.frame.now.index))) (finishing_of g.N.Work.job c.self.inside.ledger.digest (length c.self.inside.ledger.gates) c.index-i.result c.args.frame.now.index c.file.result c.bytes.result.now (g.D.Disk.history c.self.inside.disk) (g.D.Disk.history c.store.new.disk)
-    c.self.invariant.0.digest c.self.invariant.0.size index file (c.store.ensures.finishing told)).spares
+returns-in-Ok-clause-spares g c told = spares g (goal.at.returns-in-Ok-clause-spares g c).After-bytes c.store.new.disk (c.store.ensures.finishing told)
 
 -- the disk failed
 pub returns-in-Err-clause-run : goal.returns-in-Err-clause-run
-returns-in-Err-clause-run g c told =
-    let index : c.index-i.result ≡ c.args.frame.now.index = c.index-i.ensures.index ∙ ap (λ (f : FrameBytes). f.index) c.frame-frame.ensures in
-    let file : c.file.result ≡ file_of g.N.Work.job c.args.frame.now.index = c.file.ensures.own ∙ ap (λ (f : FrameBytes). file_of g.N.Work.job f.index) c.frame-frame.ensures in
-    disk_along _ _ c.self.view_is (λ d. IsReelRun g.N.Work.job g.N.Work.files (g.D.Disk.history d) (g.D.Disk.history c.store.new.disk))
-    (finished_run g.N.Work.job g.N.Work.files (g.D.Disk.history c.self.inside.disk) (g.D.Disk.history c.store.new.disk) c.args.frame.now.index c.bytes.result.now
-    (subst (λ n. IsFileOf g.N.Work.job g.N.Work.files n c.bytes.result.now) (ap (λ (f : FrameBytes). f.index) c.frame-frame.ensures) c.bytes.ensures.defined)
-    (finishing_of g.N.Work.job c.self.inside.ledger.digest (length c.self.inside.ledger.gates) c.index-i.result c.args.frame.now.index c.file.result c.bytes.result.now (g.D.Disk.history c.self.inside.disk) (g.D.Disk.history c.store.new.disk)
-    c.self.invariant.0.digest c.self.invariant.0.size index file (c.store.ensures.finishing told)))
+returns-in-Err-clause-run g c told = ran g (goal.at.returns-in-Err-clause-run g c).After-bytes c.store.new.disk (c.store.ensures.finishing told)
 
 pub returns-in-Err-clause-none_lost : goal.returns-in-Err-clause-none_lost
-returns-in-Err-clause-none_lost g c told =
-    let index : c.index-i.result ≡ c.args.frame.now.index = c.index-i.ensures.index ∙ ap (λ (f : FrameBytes). f.index) c.frame-frame.ensures in
-    let file : c.file.result ≡ file_of g.N.Work.job c.args.frame.now.index = c.file.ensures.own ∙ ap (λ (f : FrameBytes). file_of g.N.Work.job f.index) c.frame-frame.ensures in
-    disk_along _ _ c.self.view_is (λ d. KeepsReel g.N.Work.job (g.D.Disk.history d) (g.D.Disk.history c.store.new.disk)) (finishing_of g.N.Work.job c.self.inside.ledger.digest (length c.self.inside.ledger.gates) c.index-i.result c.args.frame.now.index c.file.result c.bytes.result.now (g.D.Disk.history c.self.inside.disk) (g.D.Disk.history c.store.new.disk)
-    c.self.invariant.0.digest c.self.invariant.0.size index file (c.store.ensures.finishing told)).keeps
+returns-in-Err-clause-none_lost g c told = none_lost g (goal.at.returns-in-Err-clause-none_lost g c).After-bytes c.store.new.disk (c.store.ensures.finishing told)
 
 pub returns-in-Err-clause-others : goal.returns-in-Err-clause-others
-returns-in-Err-clause-others g c told =
-    let index : c.index-i.result ≡ c.args.frame.now.index = c.index-i.ensures.index ∙ ap (λ (f : FrameBytes). f.index) c.frame-frame.ensures in
-    let file : c.file.result ≡ file_of g.N.Work.job c.args.frame.now.index = c.file.ensures.own ∙ ap (λ (f : FrameBytes). file_of g.N.Work.job f.index) c.frame-frame.ensures in
-    disk_along _ _ c.self.view_is (λ d. AddsAtMost c.args.frame.now.index g.N.Work.job.parts.digest (frames_of g.N.Work.job) (g.D.Disk.history d) (g.D.Disk.history c.store.new.disk)) (finishing_of g.N.Work.job c.self.inside.ledger.digest (length c.self.inside.ledger.gates) c.index-i.result c.args.frame.now.index c.file.result c.bytes.result.now (g.D.Disk.history c.self.inside.disk) (g.D.Disk.history c.store.new.disk)
-    c.self.invariant.0.digest c.self.invariant.0.size index file (c.store.ensures.finishing told)).others
+returns-in-Err-clause-others g c told = others g (goal.at.returns-in-Err-clause-others g c).After-bytes c.store.new.disk (c.store.ensures.finishing told)
 
 pub returns-in-Err-clause-spares : goal.returns-in-Err-clause-spares
-returns-in-Err-clause-spares g c told =
-    let index : c.index-i.result ≡ c.args.frame.now.index = c.index-i.ensures.index ∙ ap (λ (f : FrameBytes). f.index) c.frame-frame.ensures in
-    let file : c.file.result ≡ file_of g.N.Work.job c.args.frame.now.index = c.file.ensures.own ∙ ap (λ (f : FrameBytes). file_of g.N.Work.job f.index) c.frame-frame.ensures in
-    disk_along _ _ c.self.view_is (λ d. Spares (g.D.Disk.history d) (g.D.Disk.history c.store.new.disk) (IsWrittenFile (file_of g.N.Work.job c.args.frame.now.index))) (finishing_of g.N.Work.job c.self.inside.ledger.digest (length c.self.inside.ledger.gates) c.index-i.result c.args.frame.now.index c.file.result c.bytes.result.now (g.D.Disk.history c.self.inside.disk) (g.D.Disk.history c.store.new.disk)
-    c.self.invariant.0.digest c.self.invariant.0.size index file (c.store.ensures.finishing told)).spares
+returns-in-Err-clause-spares g c told = spares g (goal.at.returns-in-Err-clause-spares g c).After-bytes c.store.new.disk (c.store.ensures.finishing told)
 
 pub returns-in-Ok-clause-acked : goal.returns-in-Ok-clause-acked
 returns-in-Ok-clause-acked g c told =
