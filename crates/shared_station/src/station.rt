@@ -16,39 +16,30 @@ use reel_disk::{Disk, DiskFault, Start};
 use reel_writer::{Hashed, Reel};
 use render_board::{Board, Claim, Turn, Why};
 use std::marker::{Model, PhantomData};
-use std::sync::ledger::{Blank, Book, Ledger};
+use std::sync::ledger::{Blank, Book};
 
 /// How many stops of each why there were.
 #[derive(Drop)]
-struct Totals<A: Ledger, B: Ledger, C: Ledger, E: Ledger> {
-    source: Book<A>,
-    disk: Book<B>,
-    memory: Book<C>,
-    changed: Book<E>,
+struct Totals<C: Crewed> {
+    source: Book<C::SourceStops>,
+    disk: Book<C::DiskStops>,
+    memory: Book<C::MemoryStops>,
+    changed: Book<C::ChangeStops>,
 }
 
 /// The reel and the board of a run, as several workers share them. Each of its calls takes no memory, and is one step of
 /// the board or none.
 ///
 /// Contracts see the reel, the board's log, and the totals of stops.
-pub struct Station<
-    D: Disk,
-    N: Work + Start,
-    W: Crewed,
-    A: Ledger,
-    B: Ledger,
-    C: Ledger,
-    E: Ledger,
-> {
+pub struct Station<D: Disk, N: Work + Start, C: Crewed> {
     reel: Reel<D, N>,
     board: Board,
-    totals: Totals<A, B, C, E>,
+    totals: Totals<C>,
     of: PhantomData<N>,
-    crew: PhantomData<W>,
+    crew: PhantomData<C>,
 }
 
-impl<D: Disk, N: Work + Start, W: Crewed, A: Ledger, B: Ledger, C: Ledger, E: Ledger> Model
-    for Station<D, N, W, A, B, C, E> {
+impl<D: Disk, N: Work + Start, C: Crewed> Model for Station<D, N, C> {
     ghost use Rattle.std.specs.Prelude.{◌≡◌};
     ghost use Rattle.std.specs.Coded.{codes};
     ghost use Rattle.reel_writer.specs.View.{reel_code};
@@ -63,18 +54,10 @@ impl<D: Disk, N: Work + Start, W: Crewed, A: Ledger, B: Ledger, C: Ledger, E: Le
     ghost invariant = { λ s.
         IsStation N.job N.files N.start D.tells D.history D.faults
         (station_of s.reel s.board s.totals.source.total s.totals.disk.total s.totals.memory.total s.totals.changed.total)
-        × (s.board.workers ≡ W.workers) × (D.loans s.reel.disk ≡ N.loans) };
+        × (s.board.workers ≡ C.workers) × (D.loans s.reel.disk ≡ N.loans) };
 }
 
-impl<D: Disk, N: Work + Start, W: Crewed, A: Ledger, B: Ledger, C: Ledger, E: Ledger> Station<
-    D,
-    N,
-    W,
-    A,
-    B,
-    C,
-    E,
-> {
+impl<D: Disk, N: Work + Start, C: Crewed> Station<D, N, C> {
     /// The station of a reel that was just opened, and of a board whose done frames are those that it acknowledges. The
     /// marks have every part of each total.
     pub fn new(
@@ -84,25 +67,25 @@ impl<D: Disk, N: Work + Start, W: Crewed, A: Ledger, B: Ledger, C: Ledger, E: Le
         disk: Blank,
         memory: Blank,
         changed: Blank,
-    ) -> (Station<D, N, W, A, B, C, E>, Marks<A, B, C, E>)
-        requires source { IsBlankOf A.name A.parts source.name source.parts }
-        requires disk { IsBlankOf B.name B.parts disk.name disk.parts }
-        requires memory { IsBlankOf C.name C.parts memory.name memory.parts }
-        requires changed { IsBlankOf E.name E.parts changed.name changed.parts }
+    ) -> (Station<D, N, C>, Marks<C>)
+        requires source { IsBlankOf C.SourceStops.name C.SourceStops.parts source.name source.parts }
+        requires disk { IsBlankOf C.DiskStops.name C.DiskStops.parts disk.name disk.parts }
+        requires memory { IsBlankOf C.MemoryStops.name C.MemoryStops.parts memory.name memory.parts }
+        requires changed { IsBlankOf C.ChangeStops.name C.ChangeStops.parts changed.name changed.parts }
         requires beginning { IsBeginning N.job N.files N.start D.tells D.history D.faults reel board }
-        requires workers { board.workers ≡ W.workers }
+        requires workers { board.workers ≡ C.workers }
         requires lent { D.loans reel.disk ≡ N.loans }
         ensures reel { result.0.reel ≡ reel }
         ensures log { result.0.log ≡ board }
-        ensures source { (result.1.source.parts ≡ A.parts) × (result.1.source.amount ≡ 0) }
-        ensures disk { (result.1.disk.parts ≡ B.parts) × (result.1.disk.amount ≡ 0) }
-        ensures memory { (result.1.memory.parts ≡ C.parts) × (result.1.memory.amount ≡ 0) }
-        ensures changed { (result.1.changed.parts ≡ E.parts) × (result.1.changed.amount ≡ 0) }
+        ensures source { (result.1.source.parts ≡ C.SourceStops.parts) × (result.1.source.amount ≡ 0) }
+        ensures disk { (result.1.disk.parts ≡ C.DiskStops.parts) × (result.1.disk.amount ≡ 0) }
+        ensures memory { (result.1.memory.parts ≡ C.MemoryStops.parts) × (result.1.memory.amount ≡ 0) }
+        ensures changed { (result.1.changed.parts ≡ C.ChangeStops.parts) × (result.1.changed.amount ≡ 0) }
     {
-        let (source_book, source_share) = source.open::<A>();
-        let (disk_book, disk_share) = disk.open::<B>();
-        let (memory_book, memory_share) = memory.open::<C>();
-        let (changed_book, changed_share) = changed.open::<E>();
+        let (source_book, source_share) = source.open::<C::SourceStops>();
+        let (disk_book, disk_share) = disk.open::<C::DiskStops>();
+        let (memory_book, memory_share) = memory.open::<C::MemoryStops>();
+        let (changed_book, changed_share) = changed.open::<C::ChangeStops>();
         let station = Station {
             reel,
             board,
@@ -141,7 +124,7 @@ impl<D: Disk, N: Work + Start, W: Crewed, A: Ledger, B: Ledger, C: Ledger, E: Le
         &mut self,
         worker: u16,
         frame: &Hashed<N>,
-        marks: &mut Marks<A, B, C, E>,
+        marks: &mut Marks<C>,
     ) -> Result<(), DiskFault>
         requires is_open { self.old.reel.ledger.closed ≡ false }
         requires worker { worker < self.old.log.workers }
@@ -178,7 +161,7 @@ impl<D: Disk, N: Work + Start, W: Crewed, A: Ledger, B: Ledger, C: Ledger, E: Le
     }
 
     /// The worker does no more, for another reason than the disk. A frame that it holds stays claimed.
-    pub fn stop(&mut self, worker: u16, why: Why, marks: &mut Marks<A, B, C, E>)
+    pub fn stop(&mut self, worker: u16, why: Why, marks: &mut Marks<C>)
         requires worker { worker < self.old.log.workers }
         requires running { turn_of self.old.log worker ≢ turns.Stopped }
         requires why { MayStop N.job N.files why }
@@ -207,7 +190,7 @@ impl<D: Disk, N: Work + Start, W: Crewed, A: Ledger, B: Ledger, C: Ledger, E: Le
         ensures workers { result ≡ self.now.log.workers }
         ensures some { 1 ≤ result }
         ensures most { result ≤ 16 }
-        ensures named { self.now.log.workers ≡ W.workers }
+        ensures named { self.now.log.workers ≡ C.workers }
         ensures lent { D.loans self.now.reel.disk ≡ N.loans }
         ensures kept { IsStation N.job N.files N.start D.tells D.history D.faults self.now }
     {
@@ -218,7 +201,7 @@ impl<D: Disk, N: Work + Start, W: Crewed, A: Ledger, B: Ledger, C: Ledger, E: Le
     pub fn recall(&self)
         ensures some { 1 ≤ self.now.log.workers }
         ensures most { self.now.log.workers ≤ 16 }
-        ensures named { self.now.log.workers ≡ W.workers }
+        ensures named { self.now.log.workers ≡ C.workers }
         ensures lent { D.loans self.now.reel.disk ≡ N.loans }
         ensures kept { IsStation N.job N.files N.start D.tells D.history D.faults self.now }
     {
@@ -233,11 +216,11 @@ impl<D: Disk, N: Work + Start, W: Crewed, A: Ledger, B: Ledger, C: Ledger, E: Le
     }
 
     /// Shows that the amounts of marks that have every part are the numbers of stops.
-    pub fn settle(&mut self, marks: &mut Marks<A, B, C, E>)
-        requires source { marks.old.source.parts ≡ A.parts }
-        requires disk { marks.old.disk.parts ≡ B.parts }
-        requires memory { marks.old.memory.parts ≡ C.parts }
-        requires changed { marks.old.changed.parts ≡ E.parts }
+    pub fn settle(&mut self, marks: &mut Marks<C>)
+        requires source { marks.old.source.parts ≡ C.SourceStops.parts }
+        requires disk { marks.old.disk.parts ≡ C.DiskStops.parts }
+        requires memory { marks.old.memory.parts ≡ C.MemoryStops.parts }
+        requires changed { marks.old.changed.parts ≡ C.ChangeStops.parts }
         ensures same { self.new ≡ self.old }
         ensures marks { marks.new ≡ marks.old }
         ensures settled { IsSettled self.old.log.steps marks.old }
@@ -252,7 +235,7 @@ impl<D: Disk, N: Work + Start, W: Crewed, A: Ledger, B: Ledger, C: Ledger, E: Le
     pub fn into_parts(self) -> (Reel<D, N>, Board)
         ensures reel { result.0 ≡ self.reel }
         ensures log { result.1 ≡ self.log }
-        ensures named { self.log.workers ≡ W.workers }
+        ensures named { self.log.workers ≡ C.workers }
         ensures lent { D.loans self.reel.disk ≡ N.loans }
         ensures kept { IsStation N.job N.files N.start D.tells D.history D.faults self }
     {

@@ -27,7 +27,8 @@ use Rattle.reel_writer.specs.Reel.{frames_of, IsReelRun}
 use Rattle.single_run.specs.declared.run_end.Report.{Report}
 use Rattle.single_run.specs.declared.run_end.RunEnd.{RunEnd}
 use Rattle.single_run.specs.declared.run_end.RunEnd.TheVariants.{Done, NoMemory}
-use Rattle.station.specs.Crews.{AreShared, IsClosedStation, TookSteps, WasUnmade, end_by}
+use Rattle.station.specs.Crews.{AreShared, IsClosedStation, TookNoSteps, TookSteps, WasRunByCrew, WasUnmade, end_by}
+use Rattle.station.specs.declared.crew.Crew.{Crew}
 use Rattle.single_run.specs.Ends.{IsEnd}
 use Rattle.single_run.specs.Run.{AreAllAcked}
 use Rattle.shared_station.specs.Station.{IsStation, StationView, HasChanges, IsCrewFile, MayCrewWrite, ShowsDone}
@@ -195,6 +196,12 @@ module _ {D : Type 0} (job : JobData) (told : Option World) (start : Option Mome
       still : (b : Bool) → (b ≡ true → 1 ≤ stops_of is_disk v.log.steps) → b ≡ false
       still true some = absurd (true≢false (sym (closed_has_stop v.log.steps (some refl)) ∙ none))
       still false some = refl
+
+-- a crew without steps
+pub stepless : {S D : Type 0} (job : JobData) (told : Option World) (workers : ℕ) (tells : Bool) (old new : History) (crew : Crew S D) → crew.history ≡ None
+    → TookNoSteps job tells old new crew.end crew.report crew.log → WasRunByCrew job told workers tells old new crew
+stepless job told workers tells old new crew none why =
+    subst (λ (o : Option (List Step)). MatchOption o (TookNoSteps job tells old new crew.end crew.report crew.log) (λ steps. TookSteps job told workers tells old new steps crew.end crew.report crew.log)) (sym none) why
 
 -- no memory was left once the folder was open
 pub was_unmade : (job : JobData) (tells : Bool) (old new : History) (ledger : LedgerState) (end : RunEnd) (report : Report) (log : List ShareStep)

@@ -56,19 +56,19 @@ mapped_at f R xs ys k s same lt each =
     subst (λ (a : _). R a (get_or (map f ys) k s)) (sym (get_or-map f xs k d s lt))
     (subst (λ (b : _). R (f (get_or xs k d)) b) (sym (get_or-map f ys k d s (omega (arith, lt, same)))) (each d))
 
-module _ {S N A B C E F : Type 0} (told : Option World) (world : S → Option World) (faults loads : S → ℕ) (same : S → S → Type 0) (xs ys : List (Seat S N A B C E F)) (threads most : ℕ) (size : length ys ≡ length xs)
+module _ {S N C A B D E F : Type 0} (told : Option World) (world : S → Option World) (faults loads : S → ℕ) (same : S → S → Type 0) (xs ys : List (Seat S N C A B D E F)) (threads most : ℕ) (size : length ys ≡ length xs)
     (worked : EachBecame (length xs) (HasWorked told world faults loads same most) xs ys) (idle : All (λ x. IsFresh x) xs) where
-  abbrev scan_of : Seat S N A B C E F → S
+  abbrev scan_of : Seat S N C A B D E F → S
   scan_of x = x.scan
 
-  abbrev loads_of : Seat S N A B C E F → ℕ
+  abbrev loads_of : Seat S N C A B D E F → ℕ
   loads_of x = x.loads
 
-  abbrev failed_of : Seat S N A B C E F → Bool
+  abbrev failed_of : Seat S N C A B D E F → Bool
   failed_of x = x.has_failed
 
   -- a stop for a source file was counted at a seat whose load failed
-  source_seat : 1 ≤ sum_by (λ x. x.marks.source.amount) ys → (k : ℕ) × (k < length xs) × ((d : Seat S N A B C E F) → (get_or ys k d).has_failed ≡ true)
+  source_seat : 1 ≤ sum_by (λ x. x.marks.source.amount) ys → (k : ℕ) × (k < length xs) × ((d : Seat S N C A B D E F) → (get_or ys k d).has_failed ≡ true)
   source_seat some =
       let found = some_item (λ x. x.marks.source.amount) ys some in
       let within : found.0 < length xs = omega (arith, found.1, size) in (
@@ -93,7 +93,7 @@ module _ {S N A B C E F : Type 0} (told : Option World) (world : S → Option Wo
   IsScannedAt k a b = IsScanned world faults loads (get_or (map loads_of ys) k 0) (get_or (map failed_of ys) k false ≡ true) a b
 
   pub gathered : (before after : List S) (all : ℕ) (Failed : Type 0) → map scan_of xs ≡ before → after ≡ map scan_of ys → all ≡ sum_by loads_of ys
-      → ((k : ℕ) (d : Seat S N A B C E F) → threads ≤ k → get_or ys k d ≡ get_or xs k d)
+      → ((k : ℕ) (d : Seat S N C A B D E F) → threads ≤ k → get_or ys k d ≡ get_or xs k d)
       → (Failed → 1 ≤ sum_by (λ x. x.marks.source.amount) ys)
       → AreWorked world faults loads same threads all Failed before after
   gathered before after all Failed first last total unused fails =
@@ -114,7 +114,7 @@ module _ {S N A B C E F : Type 0} (told : Option World) (world : S → Option Wo
             (found.0, omega (arith, found.1, length-map xs scan_of), get_or-map failed_of ys found.0 d false (omega (arith, found.1, size)) ∙ found.2 d);
       }))
     where
-      at_seat : (k : ℕ) (d : Seat S N A B C E F) → k < length xs → IsScannedAt k ((get_or xs k d).scan) ((get_or ys k d).scan)
+      at_seat : (k : ℕ) (d : Seat S N C A B D E F) → k < length xs → IsScannedAt k ((get_or xs k d).scan) ((get_or ys k d).scan)
       at_seat k d within =
           subst (λ (n : ℕ). IsScanned world faults loads n (get_or (map failed_of ys) k false ≡ true) ((get_or xs k d).scan) ((get_or ys k d).scan)) (sym (get_or-map loads_of ys k d 0 (omega (arith, within, size))))
           (subst (λ (b : Bool). IsScanned world faults loads ((get_or ys k d).loads) (b ≡ true) ((get_or xs k d).scan) ((get_or ys k d).scan)) (sym (get_or-map failed_of ys k d false (omega (arith, within, size))))

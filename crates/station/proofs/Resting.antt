@@ -171,15 +171,15 @@ module _ (told : Option World) {T : Type 0} (made : Result T RunEnd) (before now
   marked_left Is leaves.Stopped (why, is, same) each = each why is same
   marked_left Is (leaves.Away reason) same each = marked_none same
 
-module _ {S N A B C E F : Type 0} (told : Option World) (world : S → Option World) (faults loads : S → ℕ) (same : S → S → Type 0) where
-  abbrev Stepped : ℕ → Seat S N A B C E F → Seat S N A B C E F → Type 0
+module _ {S N C A B D E F : Type 0} (told : Option World) (world : S → Option World) (faults loads : S → ℕ) (same : S → S → Type 0) where
+  abbrev Stepped : ℕ → Seat S N C A B D E F → Seat S N C A B D E F → Type 0
   Stepped most old new = HasStepped told world faults loads same most old new
 
-  abbrev Worked : ℕ → Seat S N A B C E F → Seat S N A B C E F → Type 0
+  abbrev Worked : ℕ → Seat S N C A B D E F → Seat S N C A B D E F → Type 0
   Worked most old new = HasWorked told world faults loads same most old new
 
   -- nothing was loaded, and a stop may be counted that is not for a source file
-  pub stepped_marked : ((s : S) → same s s) → (most : ℕ) (old new : Seat S N A B C E F) → new.scan ≡ old.scan → new.units ≡ old.units → new.loads ≡ old.loads → new.has_failed ≡ old.has_failed → HasCauses told 0 false old.marks new.marks → Stepped most old new
+  pub stepped_marked : ((s : S) → same s s) → (most : ℕ) (old new : Seat S N C A B D E F) → new.scan ≡ old.scan → new.units ≡ old.units → new.loads ≡ old.loads → new.has_failed ≡ old.has_failed → HasCauses told 0 false old.marks new.marks → Stepped most old new
   stepped_marked itself most old new scan units count has causes = record {
     more = 0;
     failed = false;
@@ -192,11 +192,11 @@ module _ {S N A B C E F : Type 0} (told : Option World) (world : S → Option Wo
     causes = causes;
   }
 
-  pub stepped_itself : ((s : S) → same s s) → (most : ℕ) (seat : Seat S N A B C E F) → Stepped most seat seat
+  pub stepped_itself : ((s : S) → same s s) → (most : ℕ) (seat : Seat S N C A B D E F) → Stepped most seat seat
   stepped_itself itself most seat = stepped_marked itself most seat seat refl refl refl refl (causes_none told seat.marks seat.marks 0 false (record { source = refl; disk = refl; memory = refl; changed = refl }) (record { source = refl; changed = refl }))
 
   -- the worker has stopped for want of memory, or was turned away
-  pub stepped_left : ((s : S) → same s s) → (most : ℕ) (old new : Seat S N A B C E F) (leave : Leave) → new.scan ≡ old.scan → new.units ≡ old.units → new.loads ≡ old.loads → new.has_failed ≡ old.has_failed
+  pub stepped_left : ((s : S) → same s s) → (most : ℕ) (old new : Seat S N C A B D E F) (leave : Leave) → new.scan ≡ old.scan → new.units ≡ old.units → new.loads ≡ old.loads → new.has_failed ≡ old.has_failed
       → HasLeft (λ why. why ≡ Memory) old.marks new.marks leave → Stepped most old new
   stepped_left itself most old new leave scan units count has left =
       stepped_marked itself most old new scan units count has (by leave left)
@@ -205,7 +205,7 @@ module _ {S N A B C E F : Type 0} (told : Option World) (world : S → Option Wo
       by leaves.Stopped (why, is, raised) = subst (HasCauses told 0 false old.marks) (sym (raised ∙ ap (λ (w : Why). raised_by w old.marks) is)) (quiet_causes told Memory 0 false old.marks tt)
       by (leaves.Away reason) still = subst (HasCauses told 0 false old.marks) (sym still) (causes_none told old.marks old.marks 0 false (record { source = refl; disk = refl; memory = refl; changed = refl }) (record { source = refl; changed = refl }))
 
-  pub stepped_along : ((a b c : S) → same a b → same b c → same a c) → (n m most : ℕ) (old mid new : Seat S N A B C E F) → n + m ≤ most → Stepped n old mid → Stepped m mid new → Stepped most old new
+  pub stepped_along : ((a b c : S) → same a b → same b c → same a c) → (n m most : ℕ) (old mid new : Seat S N C A B D E F) → n + m ≤ most → Stepped n old mid → Stepped m mid new → Stepped most old new
   stepped_along along n m most old mid new le first second = record {
     more = first.more + second.more;
     failed = first.failed || second.failed;
@@ -218,11 +218,11 @@ module _ {S N A B C E F : Type 0} (told : Option World) (world : S → Option Wo
     causes = both_cause told world faults loads old.marks mid.marks new.marks first.more second.more first.failed second.failed first.causes second.causes;
   }
 
-  pub stepped_within : (most more : ℕ) (old new : Seat S N A B C E F) → most ≤ more → Stepped most old new → Stepped more old new
+  pub stepped_within : (most more : ℕ) (old new : Seat S N C A B D E F) → most ≤ more → Stepped most old new → Stepped more old new
   stepped_within most more old new le step = record { more = step.more; failed = step.failed; few = let few = step.few in omega (arith, few, le); counts = step.counts; fails = step.fails; units = step.units; scanned = step.scanned; lent = step.lent; causes = step.causes }
 
   -- a frame was made or could not be, and its stop was counted
-  pub stepped_made : {T : Type 0} (most : ℕ) (old new : Seat S N A B C E F) (made : Result T RunEnd) (fault : Bool) → (fault ≡ true) ↔ (made ≡ Err SourceFault) → new.has_failed ≡ (old.has_failed || fault)
+  pub stepped_made : {T : Type 0} (most : ℕ) (old new : Seat S N C A B D E F) (made : Result T RunEnd) (fault : Bool) → (fault ≡ true) ↔ (made ≡ Err SourceFault) → new.has_failed ≡ (old.has_failed || fault)
       → HasLoaded most old.loads new.loads old.units new.units → IsScanned world faults loads (new.loads - old.loads) (made ≡ Err SourceFault) old.scan new.scan → same old.scan new.scan
       → IfErr made (λ end. IsChange end → old.loads < new.loads) → HasMarked told made old.marks new.marks → Stepped most old new
   stepped_made {T = T} most old new made fault is has counted scanned lent changed marked = record {
@@ -242,7 +242,7 @@ module _ {S N A B C E F : Type 0} (told : Option World) (world : S → Option Wo
       loaded (Err end) more = λ change. let lt = more change in omega (arith, lt)
 
   -- from nothing on, the steps are all that the worker did
-  pub worked_first : (most more : ℕ) (old new : Seat S N A B C E F) → most ≤ more → old.loads ≡ 0 → old.has_failed ≡ false → Stepped most old new → Worked more old new
+  pub worked_first : (most more : ℕ) (old new : Seat S N C A B D E F) → most ≤ more → old.loads ≡ 0 → old.has_failed ≡ false → Stepped most old new → Worked more old new
   worked_first most more old new le none unfailed step =
       let count : new.loads ≡ step.more = omega (arith, step.counts, none) in
       let has : new.has_failed ≡ step.failed = step.fails ∙ ap (λ (b : Bool). b || step.failed) unfailed in
@@ -254,7 +254,7 @@ module _ {S N A B C E F : Type 0} (told : Option World) (world : S → Option Wo
         causes = subst (λ (n : ℕ). HasCauses told n new.has_failed old.marks new.marks) (sym count) (subst (λ (b : Bool). HasCauses told step.more b old.marks new.marks) (sym has) step.causes);
       }
 
-  pub worked_on : ((a b c : S) → same a b → same b c → same a c) → (n m most : ℕ) (old mid new : Seat S N A B C E F) → n + m ≤ most → Worked n old mid → Stepped m mid new → Worked most old new
+  pub worked_on : ((a b c : S) → same a b → same b c → same a c) → (n m most : ℕ) (old mid new : Seat S N C A B D E F) → n + m ≤ most → Worked n old mid → Stepped m mid new → Worked most old new
   worked_on along n m most old mid new le first second =
       let count = second.counts in
       record {
@@ -321,31 +321,31 @@ pub round_over : (old mid new : Log) (i : ℕ) → IsNext old (Claim 0 i) → mi
 round_over old mid new i next first second idle =
     subst (IsRoundOver old) (sym (second ∙ ap (λ (l : Log). with_step l (Finish 0 i)) first)) (record { idle = idle_again old i idle; fewer = fewer_free old i next })
 
-module _ {S N A B C E F : Type 0} (told : Option World) (world : S → Option World) (faults loads : S → ℕ) (same : S → S → Type 0) (itself : (s : S) → same s s) (along : (a b c : S) → same a b → same b c → same a c)
-    (xs ys : List (Seat S N A B C E F)) (s : Seat S N A B C E F) (threads n m most : ℕ) (some : 0 < threads) (le : n + m ≤ most) (size : length ys ≡ length xs) (ready : All (λ x. IsReady told world x) xs)
-    (worked : EachBecame threads (HasWorked told world faults loads same n) xs ys) (others : (k : ℕ) (d : Seat S N A B C E F) → threads ≤ k → get_or ys k d ≡ get_or xs k d) where
-  abbrev Became : Seat S N A B C E F → Seat S N A B C E F → Type 0
+module _ {S N C A B D E F : Type 0} (told : Option World) (world : S → Option World) (faults loads : S → ℕ) (same : S → S → Type 0) (itself : (s : S) → same s s) (along : (a b c : S) → same a b → same b c → same a c)
+    (xs ys : List (Seat S N C A B D E F)) (s : Seat S N C A B D E F) (threads n m most : ℕ) (some : 0 < threads) (le : n + m ≤ most) (size : length ys ≡ length xs) (ready : All (λ x. IsReady told world x) xs)
+    (worked : EachBecame threads (HasWorked told world faults loads same n) xs ys) (others : (k : ℕ) (d : Seat S N C A B D E F) → threads ≤ k → get_or ys k d ≡ get_or xs k d) where
+  abbrev Became : Seat S N C A B D E F → Seat S N C A B D E F → Type 0
   Became x y = HasWorked told world faults loads same most x y
 
-  first_most : (x y : Seat S N A B C E F) → HasWorked told world faults loads same n x y → Became x y
+  first_most : (x y : Seat S N C A B D E F) → HasWorked told world faults loads same n x y → Became x y
   first_most x y work = record { few = omega (arith, work.few, le); units = work.units; scanned = work.scanned; lent = work.lent; causes = work.causes }
 
-  worked_at : (k : ℕ) (d : Seat S N A B C E F) → k < length xs → Became (get_or xs k d) (get_or ys k d)
+  worked_at : (k : ℕ) (d : Seat S N C A B D E F) → k < length xs → Became (get_or xs k d) (get_or ys k d)
   worked_at k d lt = elim (cases_lt k threads) [
     | inl early ↦ first_most (get_or xs k d) (get_or ys k d) (worked k d early)
     | inr late ↦
-        subst (λ (y : Seat S N A B C E F). Became (get_or xs k d) y) (sym (others k d late))
+        subst (λ (y : Seat S N C A B D E F). Became (get_or xs k d) y) (sym (others k d late))
         (worked_first told world faults loads same 0 most (get_or xs k d) (get_or xs k d) (omega arith) (ready k d lt).none (ready k d lt).unfailed (stepped_itself told world faults loads same itself 0 (get_or xs k d)))
   ]
 
   -- each seat was worked in, or nothing was done to it; the first one may have gone on
-  pub worked_all : (e : Seat S N A B C E F) → HasStepped told world faults loads same m (get_or ys 0 e) s → EachBecame (length xs) (HasWorked told world faults loads same most) xs (set ys 0 s)
+  pub worked_all : (e : Seat S N C A B D E F) → HasStepped told world faults loads same m (get_or ys 0 e) s → EachBecame (length xs) (HasWorked told world faults loads same most) xs (set ys 0 s)
   worked_all e stepped k d lt = elim (cases_eq k 0) [
     | inl zero ↦
         let first : 0 < length ys = omega (arith, lt, size) in
         subst (λ (i : ℕ). Became (get_or xs i d) (get_or (set ys 0 s) i d)) (sym zero)
-        (subst (λ (y : Seat S N A B C E F). Became (get_or xs 0 d) y) (sym (get_or-set_same ys 0 s d first))
+        (subst (λ (y : Seat S N C A B D E F). Became (get_or xs 0 d) y) (sym (get_or-set_same ys 0 s d first))
         (worked_on told world faults loads same along n m most (get_or xs 0 d) (get_or ys 0 d) s le (worked 0 d some)
-        (subst (λ (y : Seat S N A B C E F). HasStepped told world faults loads same m y s) (get_or_default ys 0 e d first) stepped)))
-    | inr other ↦ subst (λ (y : Seat S N A B C E F). Became (get_or xs k d) y) (sym (get_or-set_other ys 0 k s d other)) (worked_at k d lt)
+        (subst (λ (y : Seat S N C A B D E F). HasStepped told world faults loads same m y s) (get_or_default ys 0 e d first) stepped)))
+    | inr other ↦ subst (λ (y : Seat S N C A B D E F). Became (get_or xs k d) y) (sym (get_or-set_other ys 0 k s d other)) (worked_at k d lt)
   ]

@@ -104,7 +104,7 @@ pub units_closed : (before now out : Tally) → units_joined now out ≡ before 
 units_closed before now out joins none = let pending = ap (λ (u : Tally). u.pending) joins in omega (arith, pending, none)
 
 -- a seat that was worked in from its first state on is to be handed in
-pub was_counted : {S N A B C E F : Type 0} (told : Option World) (world : S → Option World) (faults loads : S → ℕ) (same : S → S → Type 0) (old new : Seat S N A B C E F)
+pub was_counted : {S N C A B D E F : Type 0} (told : Option World) (world : S → Option World) (faults loads : S → ℕ) (same : S → S → Type 0) (old new : Seat S N C A B D E F)
     → IsFresh old → HasWorked told world faults loads same 2097152 old new → WasCounted new
 was_counted told world faults loads same old new is work = record {
   few = work.few;

@@ -14,10 +14,10 @@ use Rattle.station.specs.Seats.{IsOnePart}
 use Rattle.station.specs.Worked.{HasCauses, HasCounted}
 use Rattle.station.specs.declared.seat.Seat.{Seat}
 
-module _ {S N A B C E F : Type 0} where
+module _ {S N C A B D E F : Type 0} where
   -- So many loads at most were made, each counted at the seat and as a miss of its units. One of them may have failed, and each
   -- stop for a source file has its cause in them. The scan is the same loan.
-  pub record HasStepped (told : Option World) (world : S → Option World) (faults loads : S → ℕ) (same : S → S → Type 0) (most : ℕ) (old new : Seat S N A B C E F) : Type 0 where
+  pub record HasStepped (told : Option World) (world : S → Option World) (faults loads : S → ℕ) (same : S → S → Type 0) (most : ℕ) (old new : Seat S N C A B D E F) : Type 0 where
     pub more : ℕ
     pub failed : Bool
     pub few : more ≤ most
@@ -29,14 +29,14 @@ module _ {S N A B C E F : Type 0} where
     pub causes : HasCauses told more failed old.marks new.marks
 
   -- it has one part of each total, and nothing was counted
-  pub record IsFresh (seat : Seat S N A B C E F) : Type 0 where
+  pub record IsFresh (seat : Seat S N C A B D E F) : Type 0 where
     pub marks : seat.marks ≡ fresh
     pub units : seat.units ≡ unasked
     pub none : seat.loads ≡ 0
     pub unfailed : seat.has_failed ≡ false
 
   -- a worker may begin: its scan tells the job's files, and nothing was loaded or asked for
-  pub record IsReady (told : Option World) (world : S → Option World) (seat : Seat S N A B C E F) : Type 0 where
+  pub record IsReady (told : Option World) (world : S → Option World) (seat : Seat S N C A B D E F) : Type 0 where
     pub tells : Tells told (world seat.scan)
     pub none : seat.loads ≡ 0
     pub unfailed : seat.has_failed ≡ false
@@ -44,7 +44,7 @@ module _ {S N A B C E F : Type 0} where
 
   -- What a worker did from its start on: so many loads at most, each counted as a miss, and the cause of each stop for a source
   -- file among them. The scan is the same loan.
-  pub record HasWorked (told : Option World) (world : S → Option World) (faults loads : S → ℕ) (same : S → S → Type 0) (most : ℕ) (old new : Seat S N A B C E F) : Type 0 where
+  pub record HasWorked (told : Option World) (world : S → Option World) (faults loads : S → ℕ) (same : S → S → Type 0) (most : ℕ) (old new : Seat S N C A B D E F) : Type 0 where
     pub few : new.loads ≤ most
     pub units : HasCounted old.units new.loads new.units
     pub scanned : IsScanned world faults loads new.loads (new.has_failed ≡ true) old.scan new.scan
@@ -52,7 +52,7 @@ module _ {S N A B C E F : Type 0} where
     pub causes : HasCauses told new.loads new.has_failed old.marks new.marks
 
   -- A seat to hand in: one part of each total of stops and one of the misses, which are as many as its loads.
-  pub record WasCounted (seat : Seat S N A B C E F) : Type 0 where
+  pub record WasCounted (seat : Seat S N C A B D E F) : Type 0 where
     pub few : seat.loads ≤ 2097152
     pub marks : IsOnePart seat.marks
     pub parts : seat.units.parts ≡ 1

@@ -1,5 +1,5 @@
 //! A crew: a worker for each of several scans over one reel, and what is known once all have returned.
-ghost use Rattle.std.specs.Prelude.{◌≡◌, ◌<◌, ◌≤◌, All, [], true, length, vec_len, vec_capacity, min, is_some, IfSome, Some, None};
+ghost use Rattle.std.specs.Prelude.{◌≡◌, ◌<◌, ◌≤◌, All, [], true, length, vec_len, vec_capacity, min, is_some, IfErr, IfOk, IfSome, Some, None};
 ghost use Rattle.cf_base.specs.Count.{HasCause};
 ghost use Rattle.conform_job.specs.Answers.{AreInfosOf};
 ghost use Rattle.conform_job.specs.Names.{Tells};
@@ -13,7 +13,7 @@ ghost use Rattle.resume_ledger.specs.Sound.{WritesOnly};
 ghost use Rattle.scan_source.specs.World.{World};
 ghost use Rattle.frame_share.specs.Share.{IsBlankOf as IsCounterOf};
 ghost use Rattle.frame_share.specs.Units.{whole};
-ghost use Rattle.station.specs.Crews.{AreShared, HasClosedStation, HasDiskFailed, HasScansBack, IsClosedStation, WasRunByCrew, end_by};
+ghost use Rattle.station.specs.Crews.{AreShared, HasClosedStation, HasDiskFailed, HasScansBack, IsClosedStation, WasRunByCrew, end_by, log_of};
 ghost use Rattle.station.specs.Left.{HasFinished};
 ghost use Rattle.single_run.specs.Ends.{IsChange};
 ghost use Rattle.shared_station.specs.Marks.{IsBlankOf};
@@ -29,7 +29,7 @@ use reel_disk::{Disk, Start};
 use reel_writer::Reel;
 use render_board::{Board, History, Step, Why};
 use scan_source::Scans;
-use shared_station::{Crewed, Station};
+use shared_station::{Crewed, Named, Station, Workers};
 use single_run::{Report, RunEnd, end_of_opening, report_of};
 use std::alloc::Global;
 use std::marker::Brand;
@@ -132,21 +132,21 @@ fn board_of<D: Disk, N: Work>(
 }
 
 /// What a crew needs beside its reel.
-struct Ready<S: Scans, N: Work, A: Ledger, B: Ledger, C: Ledger, E: Ledger, F: Ledger> {
+struct Ready<S: Scans, N: Work, C: Crewed> {
     /// Who renders which frame.
     board: Board,
     /// The source frames that are shared.
-    share: Share<N, F>,
+    share: Share<N, C::Misses>,
     /// All units of the share.
-    units: Units<F>,
+    units: Units<C::Misses>,
     /// Room for the seats.
-    room: Vec<Seat<S, N, A, B, C, E, F>>,
+    room: Vec<Seat<S, N, C>>,
     /// Room for the scans that are handed back.
     back: Vec<S>,
 }
 
 /// Makes what a crew of so many workers needs beside its reel, with room for so many scans. None where memory ran out.
-fn make_ready<S: Scans, D: Disk, N: Work, A: Ledger, B: Ledger, C: Ledger, E: Ledger, F: Ledger>(
+fn make_ready<S: Scans, D: Disk, N: Work, C: Crewed>(
     alloc: Global,
     job: &Job,
     reel: &Reel<D, N>,
@@ -154,15 +154,15 @@ fn make_ready<S: Scans, D: Disk, N: Work, A: Ledger, B: Ledger, C: Ledger, E: Le
     scans: usize,
     share_cap: u32,
     misses: Blank,
-) -> Option<Ready<S, N, A, B, C, E, F>>
+) -> Option<Ready<S, N, C>>
     requires job { job.now ≡ N.job }
     requires size { length reel.now.ledger.gates ≡ frames_of N.job }
     requires workers { (1 ≤ workers) × (workers ≤ 16) }
     requires share { (1 ≤ share_cap) × (share_cap ≤ 16) }
-    requires misses { IsCounterOf F.name F.parts misses.name misses.parts }
+    requires misses { IsCounterOf C.Misses.name C.Misses.parts misses.name misses.parts }
     ensures board { IfSome result (λ made. made.board ≡ record { start = reel.now.ledger.gates; workers = workers; steps = [] }) }
     ensures share { IfSome result (λ made. made.share.steps ≡ []) }
-    ensures units { IfSome result (λ made. made.units ≡ whole F.parts) }
+    ensures units { IfSome result (λ made. made.units ≡ whole C.Misses.parts) }
     ensures room { IfSome result (λ made. (made.room.items ≡ []) × (scans ≤ vec_capacity made.room)) }
     ensures back { IfSome result (λ made. (made.back.items ≡ []) × (scans ≤ vec_capacity made.back)) }
 {
@@ -176,7 +176,7 @@ fn make_ready<S: Scans, D: Disk, N: Work, A: Ledger, B: Ledger, C: Ledger, E: Le
         Some(board) => board,
         None => return None,
     };
-    match Share::<N, F>::new(alloc, share_cap, misses) {
+    match Share::<N, C::Misses>::new(alloc, share_cap, misses) {
         Ok((share, units)) => Some(Ready {
             board,
             share,
@@ -189,18 +189,9 @@ fn make_ready<S: Scans, D: Disk, N: Work, A: Ledger, B: Ledger, C: Ledger, E: Le
 }
 
 /// What is known of a station that nobody shares any more.
-fn closing<
-    N: Work + Start,
-    W: Crewed,
-    A: Ledger,
-    B: Ledger,
-    C: Ledger,
-    E: Ledger,
-    S: Scans,
-    D: Disk,
->(
+fn closing<N: Work + Start, C: Crewed, S: Scans, D: Disk>(
     job: &Job,
-    station: Station<D, N, W, A, B, C, E>,
+    station: Station<D, N, C>,
     log: ShareLog,
     scans: Vec<S>,
     loads: u64,
@@ -212,7 +203,7 @@ fn closing<
     ensures end { result.end ≡ end_by (first_why station.log.steps) }
     ensures steps { result.history ≡ Some station.log.steps }
     ensures log { result.log ≡ log }
-    ensures made { IsClosedStation N.job N.files W.workers N.start D.tells D.history D.faults station.log.steps
+    ensures made { IsClosedStation N.job N.files C.workers N.start D.tells D.history D.faults station.log.steps
         result.end result.report result.disk }
     ensures acked { result.end ≡ RunEnd.Done → D.tells ≡ true → AreAllAcked N.job (moment_of (D.history result.disk)) }
     ensures lent { D.loans result.disk ≡ N.loans }
@@ -231,80 +222,11 @@ fn closing<
     }
 }
 
-/// The run of a crew over a reel that was opened, and its board.
+/// The run of a crew over a reel that was opened. Where no memory is left to begin with, the scans and the reel are handed back
+/// as they were.
 fn run_opened<
     N: Work + Start + Send + Sync,
-    W: Crewed + Send + Sync,
-    A: Ledger + Send + Sync,
-    B: Ledger + Send + Sync,
-    C: Ledger + Send + Sync,
-    E: Ledger + Send + Sync,
-    F: Ledger + Send + Sync,
-    S: Scans + Send,
-    D: Disk + Send,
-    R: Threads + Wait + Sync,
->(
-    rt: &R,
-    alloc: Global,
-    job: &Job,
-    reel: Reel<D, N>,
-    board: Board,
-    source: Blank,
-    failed: Blank,
-    memory: Blank,
-    changed: Blank,
-    share: Share<N, F>,
-    units: Units<F>,
-    threads: usize,
-    scans: Vec<S>,
-    room: Vec<Seat<S, N, A, B, C, E, F>>,
-    back: Vec<S>,
-) -> Crew<S, D>
-    requires source { IsBlankOf A.name A.parts source.name source.parts × (source.parts ≡ 17) }
-    requires failed { IsBlankOf B.name B.parts failed.name failed.parts × (failed.parts ≡ 17) }
-    requires memory { IsBlankOf C.name C.parts memory.name memory.parts × (memory.parts ≡ 17) }
-    requires changed { IsBlankOf E.name E.parts changed.name changed.parts × (changed.parts ≡ 17) }
-    requires parts { F.parts ≡ 17 }
-    requires unasked { share.steps ≡ [] }
-    requires units { units ≡ whole F.parts }
-    requires job { job.now ≡ N.job }
-    requires files { All (λ s. Tells N.files (S.world s)) scans.items }
-    requires infos { AreInfosOf N.job.parts N.files N.job.infos }
-    requires beginning { IsBeginning N.job N.files N.start D.tells D.history D.faults reel board }
-    requires crew { board.workers ≡ W.workers }
-    requires lent { D.loans reel.disk ≡ N.loans }
-    requires some { 0 < threads }
-    requires within { threads ≤ vec_len scans }
-    requires few { vec_len scans ≤ 16 }
-    requires room { (room.items ≡ []) × (vec_len scans ≤ vec_capacity room) }
-    requires back { (back.items ≡ []) × (vec_len scans ≤ vec_capacity back) }
-    ensures frames { result.report.frames ≡ frames_of N.job }
-    ensures misses { result.report.misses ≡ result.report.loads }
-    ensures shared { AreShared result.log result.report }
-    ensures some { is_some result.history ≡ true }
-    ensures acked { result.end ≡ RunEnd.Done → D.tells ≡ true → AreAllAcked N.job (moment_of (D.history result.disk)) }
-    ensures changed { IsChange result.end → 1 ≤ result.report.loads }
-    ensures made { HasClosedStation N.job N.files W.workers N.start D.tells D.history D.faults result }
-    ensures lent { D.loans result.disk ≡ N.loans }
-    ensures scans { HasScansBack S.world S.faults S.loads S.same threads scans.items result }
-{
-    let (station, mut marks) = Station::<D, N, W, A, B, C, E>::new(
-        reel, board, source, failed, memory, changed,
-    );
-    let mut units = units;
-    let each = threads_each(rt, threads);
-    let mut seats = seat_all(room, scans, each, &mut marks, &mut units);
-    let (mut station, mut share) = work_all(rt, alloc, job, &mut seats, threads, station, share);
-    let (scans, loads) = unseat(seats, back, &mut marks, &mut units);
-    station.settle(&mut marks);
-    share.settle(&mut units);
-    closing(job, station, share.into_log(), scans, loads)
-}
-
-/// A crew under names of its ledgers.
-fn crew_under<
-    N: Work + Start + Send + Sync,
-    W: Crewed + Send + Sync,
+    W: Workers + Send + Sync,
     A: Ledger + Send + Sync,
     B: Ledger + Send + Sync,
     C: Ledger + Send + Sync,
@@ -324,9 +246,9 @@ fn crew_under<
     misses: Blank,
     scans: Vec<S>,
     workers: u16,
-    disk: D,
+    reel: Reel<D, N>,
     share_cap: u32,
-) -> Crew<S, D>
+) -> Result<Crew<S, D>, (Vec<S>, Reel<D, N>)>
     requires source { IsBlankOf A.name A.parts source.name source.parts × (source.parts ≡ 17) }
     requires failed { IsBlankOf B.name B.parts failed.name failed.parts × (failed.parts ≡ 17) }
     requires memory { IsBlankOf C.name C.parts memory.name memory.parts × (memory.parts ≡ 17) }
@@ -336,50 +258,33 @@ fn crew_under<
     requires job { job.now ≡ N.job }
     requires files { All (λ s. Tells N.files (S.world s)) scans.items }
     requires infos { AreInfosOf N.job.parts N.files N.job.infos }
-    requires scans { (1 ≤ vec_len scans) × (vec_len scans ≤ 16) }
-    requires workers { (1 ≤ workers) × (workers ≤ 16) }
-    requires crew { W.workers ≡ min workers (vec_len scans) }
-    requires start { N.start ≡ start_of D.tells (D.history disk) }
-    requires lent { N.loans ≡ D.loans disk }
-    requires moment { D.tells ≡ true → (D.history disk).now ≡ 0 }
-    requires faults { D.faults disk ≡ 0 }
-    ensures frames { result.report.frames ≡ frames_of N.job }
-    ensures misses { result.report.misses ≡ result.report.loads }
-
-    // Which frames the opening kept, what the folder acknowledges now, and the steps by which it came; or why there are none.
-    // There are as many workers as were asked for, at most one a scan.
-    ensures ran { WasRunByCrew N.job N.files (min workers (vec_len scans)) D.tells (D.history disk) (D.history result.disk) result }
-
-    // At Done every image acknowledges every frame, and the folder has the whole reel: that of a run on one thread.
-    ensures acked { result.end ≡ RunEnd.Done → D.tells ≡ true → AreAllAcked N.job (moment_of (D.history result.disk)) }
-    ensures whole { result.end ≡ RunEnd.Done → D.tells ≡ true → HasWhole N.job N.files (D.history disk) (D.history result.disk) }
-
-    // A crash at any moment leaves only frames acknowledged that are the reel's. No acknowledgement is lost, where each frame
-    // that version 1 of the ledger acknowledged at the start had a file of a frame's length, as sound files have.
-    ensures run { D.tells ≡ true → IsReelRun N.job N.files (D.history disk) (D.history result.disk) }
-    ensures sound_has { (world : World) (files : Files) → IsSoundReel N.job world files → HasFrameFiles N.job files }
-
-    // No file is changed but the ledger's and those of frames that the opening didn't keep. Of the ledger's those of version 2
-    // alone are written.
-    ensures spares { D.tells ≡ true → Spares (D.history disk) (D.history result.disk) (IsOwnFile N.job (view_of (D.history disk))) }
-    ensures writes { D.tells ≡ true → WritesOnly (D.history disk) (D.history result.disk) (MayWrite N.job (view_of (D.history disk))) }
-
-    // Each scan is handed back in its place. A stop has its cause: a load failed, a loaded file has changed, the disk failed.
-    ensures scans { HasScansBack S.world S.faults S.loads S.same (min workers (vec_len scans)) scans.items result }
-    ensures changed { IsChange result.end → 1 ≤ result.report.loads }
-    ensures failed { result.end ≡ RunEnd.DiskFault → HasDiskFailed result.history result.end }
-    ensures cause { HasCause (D.faults disk) (D.faults result.disk) (HasDiskFailed result.history result.end) }
-    ensures steady { (HasDiskFailed result.history result.end → ⊥) → D.faults result.disk ≡ D.faults disk }
-    ensures same_disk { D.loans result.disk ≡ D.loans disk }
+    requires few { vec_len scans ≤ 16 }
+    requires workers { (1 ≤ workers) × (workers ≤ vec_len scans) }
+    requires crew { workers ≡ W.workers }
+    requires beginning { IsBeginning N.job N.files N.start D.tells D.history D.faults reel (log_of reel.ledger.gates workers []) }
+    requires lent { D.loans reel.disk ≡ N.loans }
+    ensures unmade { IfErr result (λ back. (back.0 ≡ scans) × (back.1 ≡ reel)) }
+    ensures frames { IfOk result (λ crew. crew.report.frames ≡ frames_of N.job) }
+    ensures misses { IfOk result (λ crew. crew.report.misses ≡ crew.report.loads) }
+    ensures shared { IfOk result (λ crew. AreShared crew.log crew.report) }
+    ensures some { IfOk result (λ crew. is_some crew.history ≡ true) }
+    ensures acked { IfOk result (λ crew. crew.end ≡ RunEnd.Done → D.tells ≡ true → AreAllAcked N.job (moment_of (D.history crew.disk))) }
+    ensures changed { IfOk result (λ crew. IsChange crew.end → 1 ≤ crew.report.loads) }
+    ensures made { IfOk result (HasClosedStation N.job N.files W.workers N.start D.tells D.history D.faults) }
+    ensures lent { IfOk result (λ crew. D.loans crew.disk ≡ N.loans) }
+    ensures scans { IfOk result (HasScansBack S.world S.faults S.loads S.same workers scans.items) }
 {
-    let reel = match Reel::<D, N>::begin(alloc, disk, job) {
-        Ok(reel) => reel,
-        Err((fault, disk)) => return unmade(alloc, job, end_of_opening(fault), scans, disk),
-    };
-    let threads = workers.min(scans.len() as u16);
-    let ready = match make_ready(alloc, job, &reel, threads, scans.len(), share_cap, misses) {
+    let ready = match make_ready::<S, D, N, Named<W, A, B, C, E, F>>(
+        alloc,
+        job,
+        &reel,
+        workers,
+        scans.len(),
+        share_cap,
+        misses,
+    ) {
         Some(ready) => ready,
-        None => return unmade(alloc, job, RunEnd::NoMemory, scans, reel.close()),
+        None => return Err((scans, reel)),
     };
     let Ready {
         board,
@@ -388,23 +293,18 @@ fn crew_under<
         room,
         back,
     } = ready;
-    run_opened::<N, W, A, B, C, E, F, S, D, R>(
-        rt,
-        alloc,
-        job,
-        reel,
-        board,
-        source,
-        failed,
-        memory,
-        changed,
-        share,
-        units,
-        usize::from(threads),
-        scans,
-        room,
-        back,
-    )
+    let (station, mut marks) = Station::<D, N, Named<W, A, B, C, E, F>>::new(
+        reel, board, source, failed, memory, changed,
+    );
+    let mut units = units;
+    let threads = usize::from(workers);
+    let each = threads_each(rt, threads);
+    let mut seats = seat_all(room, scans, each, &mut marks, &mut units);
+    let (mut station, mut share) = work_all(rt, alloc, job, &mut seats, threads, station, share);
+    let (scans, loads) = unseat(seats, back, &mut marks, &mut units);
+    station.settle(&mut marks);
+    share.settle(&mut units);
+    Ok(closing(job, station, share.into_log(), scans, loads))
 }
 
 /// Runs N's job with several workers over a disk that was never used, and hands back every scan and the disk.
@@ -465,7 +365,12 @@ pub fn run_crew<
     ensures steady { (HasDiskFailed result.history result.end → ⊥) → D.faults result.disk ≡ D.faults disk }
     ensures same_disk { D.loans result.disk ≡ D.loans disk }
 {
-    crew_under::<N, Brand, Brand, Brand, Brand, Brand, Brand, S, D, R>(
+    let reel = match Reel::<D, N>::begin(alloc, disk, job) {
+        Ok(reel) => reel,
+        Err((fault, disk)) => return unmade(alloc, job, end_of_opening(fault), scans, disk),
+    };
+    let workers = workers.min(scans.len() as u16);
+    match run_opened::<N, Brand, Brand, Brand, Brand, Brand, Brand, S, D, R>(
         rt,
         alloc,
         job,
@@ -476,7 +381,10 @@ pub fn run_crew<
         Blank::new(17),
         scans,
         workers,
-        disk,
+        reel,
         share_cap,
-    )
+    ) {
+        Ok(crew) => crew,
+        Err((scans, reel)) => unmade(alloc, job, RunEnd::NoMemory, scans, reel.close()),
+    }
 }

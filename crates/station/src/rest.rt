@@ -29,32 +29,14 @@ use std::alloc::Global;
 use std::sync::ledger::Ledger;
 
 /// What the workers of a run have left, when all have returned.
-pub(crate) struct Rest<
-    D: Disk,
-    N: Work + Start,
-    W: Crewed,
-    A: Ledger,
-    B: Ledger,
-    C: Ledger,
-    E: Ledger,
-    F: Ledger,
-> {
+pub(crate) struct Rest<D: Disk, N: Work + Start, C: Crewed> {
     /// The reel, and who renders which frame.
-    pub station: Station<D, N, W, A, B, C, E>,
+    pub station: Station<D, N, C>,
     /// The source frames that they shared.
-    pub share: Share<N, F>,
+    pub share: Share<N, C::Misses>,
 }
 
-impl<
-    D: Disk,
-    N: Work + Start,
-    W: Crewed,
-    A: Ledger,
-    B: Ledger,
-    C: Ledger,
-    E: Ledger,
-    F: Ledger,
-> Rest<D, N, W, A, B, C, E, F> {
+impl<D: Disk, N: Work + Start, C: Crewed> Rest<D, N, C> {
     /// Whether a worker has stopped.
     fn has_stopped(&self) -> bool
         ensures stopped { result ≡ has_stop self.now.station.log.steps }
@@ -72,7 +54,7 @@ impl<
         &mut self,
         worker: u16,
         made: Result<Rendered<N>, RunEnd>,
-        marks: &mut Marks<A, B, C, E>,
+        marks: &mut Marks<C>,
     ) -> bool
         requires worker { worker < self.old.station.log.workers }
         requires is_open { self.old.station.reel.ledger.closed ≡ false }
@@ -102,7 +84,7 @@ impl<
         &mut self,
         alloc: Global,
         job: &Job,
-        seat: &mut Seat<S, N, A, B, C, E, F>,
+        seat: &mut Seat<S, N, C>,
         worker: u16,
         i: u32,
     ) -> bool
@@ -124,7 +106,7 @@ impl<
         if self.station.is_closed() {
             return false;
         }
-        let made = make_apart::<N, F, S>(
+        let made = make_apart::<N, C::Misses, S>(
             alloc,
             job,
             &mut seat.scan,
@@ -142,7 +124,7 @@ impl<
         &mut self,
         alloc: Global,
         job: &Job,
-        seat: &mut Seat<S, N, A, B, C, E, F>,
+        seat: &mut Seat<S, N, C>,
         worker: u16,
     ) -> bool
         requires job { job.now ≡ N.job }
@@ -168,12 +150,7 @@ impl<
     }
 
     /// Finishes each frame that a worker holds. It says whether all are idle then; else a worker has stopped.
-    fn finish_held<S: Scans>(
-        &mut self,
-        alloc: Global,
-        job: &Job,
-        seat: &mut Seat<S, N, A, B, C, E, F>,
-    ) -> bool
+    fn finish_held<S: Scans>(&mut self, alloc: Global, job: &Job, seat: &mut Seat<S, N, C>) -> bool
         requires job { job.now ≡ N.job }
         requires files { Tells N.files (S.world seat.old.scan) }
         requires infos { AreInfosOf N.job.parts N.files N.job.infos }
@@ -209,12 +186,7 @@ impl<
     }
 
     /// Claims and finishes each free frame as worker 0.
-    fn finish_free<S: Scans>(
-        &mut self,
-        alloc: Global,
-        job: &Job,
-        seat: &mut Seat<S, N, A, B, C, E, F>,
-    )
+    fn finish_free<S: Scans>(&mut self, alloc: Global, job: &Job, seat: &mut Seat<S, N, C>)
         requires job { job.now ≡ N.job }
         requires files { Tells N.files (S.world seat.old.scan) }
         requires infos { AreInfosOf N.job.parts N.files N.job.infos }
@@ -237,7 +209,7 @@ impl<
     }
 
     /// Stops as worker 0, for want of memory, while no worker has stopped.
-    fn stop_first(&mut self, marks: &mut Marks<A, B, C, E>)
+    fn stop_first(&mut self, marks: &mut Marks<C>)
         requires none { has_stop self.old.station.log.steps ≡ false }
         ensures stopped { has_stop self.new.station.log.steps ≡ true }
         ensures marks { marks.new ≡ raised_by whys.Memory marks.old }
@@ -253,7 +225,7 @@ impl<
         &mut self,
         alloc: Global,
         job: &Job,
-        seat: &mut Seat<S, N, A, B, C, E, F>,
+        seat: &mut Seat<S, N, C>,
         all_put: bool,
     )
         requires job { job.now ≡ N.job }

@@ -24,7 +24,6 @@ use scan_source::Scans;
 use shared_station::{Away, Crewed, Held, Leave, Marks, Station};
 use single_run::RunEnd;
 use std::alloc::Global;
-use std::sync::ledger::Ledger;
 use std::sync::{Mutex, Wait};
 use std::thread::Threads;
 
@@ -52,18 +51,7 @@ pub(crate) fn why_of<N: Work>(end: RunEnd) -> Why
 
 /// What the workers of a run share.
 #[derive(Drop)]
-pub struct Shared<
-    'a,
-    D: Disk,
-    N: Work + Start,
-    W: Crewed,
-    A: Ledger,
-    B: Ledger,
-    C: Ledger,
-    E: Ledger,
-    F: Ledger,
-    R: Threads + Wait + Sync,
-> {
+pub struct Shared<'a, D: Disk, N: Work + Start, C: Crewed, R: Threads + Wait + Sync> {
     /// Threads, and waiting for a lock.
     pub rt: &'a R,
     /// Where memory comes from.
@@ -71,22 +59,12 @@ pub struct Shared<
     /// N's job.
     pub job: &'a Job,
     /// The reel, and who renders which frame.
-    pub station: &'a Mutex<Station<D, N, W, A, B, C, E>>,
+    pub station: &'a Mutex<Station<D, N, C>>,
     /// The source frames.
-    pub share: &'a SharedFrames<N, F>,
+    pub share: &'a SharedFrames<N, C::Misses>,
 }
 
-impl<
-    D: Disk,
-    N: Work + Start,
-    W: Crewed,
-    A: Ledger,
-    B: Ledger,
-    C: Ledger,
-    E: Ledger,
-    F: Ledger,
-    R: Threads + Wait + Sync,
-> Shared<'_, D, N, W, A, B, C, E, F, R> {
+impl<D: Disk, N: Work + Start, C: Crewed, R: Threads + Wait + Sync> Shared<'_, D, N, C, R> {
     /// Takes a frame, where there is one for the worker.
     fn take_frame(&self, number: u16) -> Result<Held, Away>
         ensures within { IfOk result (λ i. i < frames_of N.job) }
@@ -98,7 +76,7 @@ impl<
     fn hand_in(
         &self,
         number: u16,
-        marks: &mut Marks<A, B, C, E>,
+        marks: &mut Marks<C>,
         held: Held,
         frame: &Hashed<N>,
     ) -> Result<(), Leave>
@@ -112,13 +90,7 @@ impl<
     }
 
     /// Stops, where the worker has not stopped and the reel is open, with the frame that it took.
-    fn give_up(
-        &self,
-        number: u16,
-        marks: &mut Marks<A, B, C, E>,
-        held: Option<Held>,
-        why: Why,
-    ) -> Leave
+    fn give_up(&self, number: u16, marks: &mut Marks<C>, held: Option<Held>, why: Why) -> Leave
         requires why { MayStop N.job N.files why }
         ensures left { HasLeft (λ other. other ≡ why) marks.old marks.new result }
     {
@@ -129,7 +101,7 @@ impl<
     fn deliver(
         &self,
         number: u16,
-        marks: &mut Marks<A, B, C, E>,
+        marks: &mut Marks<C>,
         held: Held,
         made: Result<Rendered<N>, RunEnd>,
     ) -> Result<FrameBuf, Leave>
@@ -156,7 +128,7 @@ impl<
     /// was turned away.
     fn round<S: Scans>(
         &self,
-        seat: &mut Seat<S, N, A, B, C, E, F>,
+        seat: &mut Seat<S, N, C>,
         rooms: &mut Rooms<N>,
         room: FrameBuf,
     ) -> Result<FrameBuf, Leave>
@@ -178,7 +150,7 @@ impl<
             Ok(held) => held,
             Err(away) => return Err(Leave::Away(away)),
         };
-        let made = make_shared::<N, F, S, R>(
+        let made = make_shared::<N, C::Misses, S, R>(
             self.rt,
             self.alloc,
             self.job,
@@ -203,7 +175,7 @@ impl<
     /// It stops where a load failed, where memory ran out, where the disk failed in a finish, and where a source file isn't
     /// what it was when the job was planned. Each stop is counted in its marks. It leaves only where it has stopped or the station
     /// has turned it away: a frame that it took can't be let go, and a station alone says that it has no step for a worker.
-    pub fn worker<S: Scans>(&self, seat: &mut Seat<S, N, A, B, C, E, F>) -> Leave
+    pub fn worker<S: Scans>(&self, seat: &mut Seat<S, N, C>) -> Leave
         requires job { self.now.job.now ≡ N.job }
         requires files { Tells N.files (S.world seat.old.scan) }
         requires infos { AreInfosOf N.job.parts N.files N.job.infos }

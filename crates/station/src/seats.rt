@@ -8,9 +8,8 @@ use crate::seat::Seat;
 use conform_job::Work;
 use frame_share::Units;
 use scan_source::Scans;
-use shared_station::Marks;
+use shared_station::{Crewed, Marks};
 use std::marker::PhantomData;
-use std::sync::ledger::Ledger;
 use std::thread::{Threads, available_parallelism};
 
 /// In how many threads each of so many workers renders a frame: as many as there are processors for it, as far as the system
@@ -26,13 +25,13 @@ pub(crate) fn threads_each<R: Threads>(rt: &R, workers: usize) -> u32
 }
 
 /// A seat for each scan, in their order, with so many threads each. Takes no memory.
-pub(crate) fn seat_all<S: Scans, N: Work, A: Ledger, B: Ledger, C: Ledger, E: Ledger, F: Ledger>(
-    room: Vec<Seat<S, N, A, B, C, E, F>>,
+pub(crate) fn seat_all<S: Scans, N: Work, C: Crewed>(
+    room: Vec<Seat<S, N, C>>,
     scans: Vec<S>,
     threads: u32,
-    marks: &mut Marks<A, B, C, E>,
-    units: &mut Units<F>,
-) -> Vec<Seat<S, N, A, B, C, E, F>>
+    marks: &mut Marks<C>,
+    units: &mut Units<C::Misses>,
+) -> Vec<Seat<S, N, C>>
     requires empty { room.items ≡ [] }
     requires room { vec_len scans ≤ vec_capacity room }
     requires few { vec_len scans ≤ 16 }
@@ -68,11 +67,11 @@ pub(crate) fn seat_all<S: Scans, N: Work, A: Ledger, B: Ledger, C: Ledger, E: Le
 
 /// The scans, in their order, and how many loads the seats counted; all marks are in one, and so are all units. Takes no
 /// memory.
-pub(crate) fn unseat<S: Scans, N: Work, A: Ledger, B: Ledger, C: Ledger, E: Ledger, F: Ledger>(
-    seats: Vec<Seat<S, N, A, B, C, E, F>>,
+pub(crate) fn unseat<S: Scans, N: Work, C: Crewed>(
+    seats: Vec<Seat<S, N, C>>,
     room: Vec<S>,
-    marks: &mut Marks<A, B, C, E>,
-    units: &mut Units<F>,
+    marks: &mut Marks<C>,
+    units: &mut Units<C::Misses>,
 ) -> (Vec<S>, u64)
     requires empty { room.items ≡ [] }
     requires room { vec_len seats ≤ vec_capacity room }

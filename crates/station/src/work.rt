@@ -16,22 +16,11 @@ use reel_disk::{Disk, Start};
 use scan_source::Scans;
 use shared_station::{Crewed, Station};
 use std::alloc::Global;
-use std::sync::ledger::Ledger;
 use std::sync::{Mutex, Wait};
 use std::thread::Threads;
 
-impl<
-    S: Scans,
-    D: Disk,
-    N: Work + Start,
-    W: Crewed,
-    A: Ledger,
-    B: Ledger,
-    C: Ledger,
-    E: Ledger,
-    F: Ledger,
-    R: Threads + Wait + Sync,
-> Works<Seat<S, N, A, B, C, E, F>> for Shared<'_, D, N, W, A, B, C, E, F, R> {
+impl<S: Scans, D: Disk, N: Work + Start, C: Crewed, R: Threads + Wait + Sync> Works<Seat<S, N, C>>
+    for Shared<'_, D, N, C, R> {
     ghost use Rattle.std.specs.Prelude.{◌≡◌};
     ghost use denote.Param.Send.{IsSync};
     ghost use Rattle.conform_job.specs.Answers.{AreInfosOf};
@@ -42,7 +31,7 @@ impl<
 
     ghost has = { λ shared old new. HasWorked N.files S.world S.faults S.loads S.same 524288 old new };
 
-    fn work(&self, seat: &mut Seat<S, N, A, B, C, E, F>) {
+    fn work(&self, seat: &mut Seat<S, N, C>) {
         drop(self.worker(seat));
     }
 }
@@ -52,18 +41,15 @@ fn work_in_first<
     S: Scans + Send,
     D: Disk + Send,
     N: Work + Start + Send + Sync,
-    W: Crewed + Send + Sync,
-    A: Ledger + Send + Sync,
-    B: Ledger + Send + Sync,
-    C: Ledger + Send + Sync,
-    E: Ledger + Send + Sync,
-    F: Ledger + Send + Sync,
+    C: Crewed + Send + Sync,
     R: Threads + Wait + Sync,
->(
-    shared: &Shared<'_, D, N, W, A, B, C, E, F, R>,
-    seats: &mut [Seat<S, N, A, B, C, E, F>],
-    threads: usize,
-)
+>(shared: &Shared<'_, D, N, C, R>, seats: &mut [Seat<S, N, C>], threads: usize)
+where
+    C::SourceStops: Send + Sync,
+    C::DiskStops: Send + Sync,
+    C::MemoryStops: Send + Sync,
+    C::ChangeStops: Send + Sync,
+    C::Misses: Send + Sync,
     requires some { 0 < threads }
     requires within { threads ≤ length seats.old }
     requires job { shared.now.job.now ≡ N.job }
@@ -77,9 +63,7 @@ fn work_in_first<
 }
 
 /// Whether each miss has had its put.
-fn are_put<S: Scans, N: Work, A: Ledger, B: Ledger, C: Ledger, E: Ledger, F: Ledger>(
-    seats: &[Seat<S, N, A, B, C, E, F>],
-) -> bool
+fn are_put<S: Scans, N: Work, C: Crewed>(seats: &[Seat<S, N, C>]) -> bool
     ensures { result ≡ true ↔ All (λ s. s.units.pending ≡ 0) seats.now }
 {
     seats.iter().all(|seat| !seat.units.is_open())
@@ -90,22 +74,23 @@ pub(crate) fn work_all<
     S: Scans + Send,
     D: Disk + Send,
     N: Work + Start + Send + Sync,
-    W: Crewed + Send + Sync,
-    A: Ledger + Send + Sync,
-    B: Ledger + Send + Sync,
-    C: Ledger + Send + Sync,
-    E: Ledger + Send + Sync,
-    F: Ledger + Send + Sync,
+    C: Crewed + Send + Sync,
     R: Threads + Wait + Sync,
 >(
     rt: &R,
     alloc: Global,
     job: &Job,
-    seats: &mut [Seat<S, N, A, B, C, E, F>],
+    seats: &mut [Seat<S, N, C>],
     threads: usize,
-    station: Station<D, N, W, A, B, C, E>,
-    share: Share<N, F>,
-) -> (Station<D, N, W, A, B, C, E>, Share<N, F>)
+    station: Station<D, N, C>,
+    share: Share<N, C::Misses>,
+) -> (Station<D, N, C>, Share<N, C::Misses>)
+where
+    C::SourceStops: Send + Sync,
+    C::DiskStops: Send + Sync,
+    C::MemoryStops: Send + Sync,
+    C::ChangeStops: Send + Sync,
+    C::Misses: Send + Sync,
     requires some { 0 < threads }
     requires within { threads ≤ length seats.old }
     requires job { job.now ≡ N.job }

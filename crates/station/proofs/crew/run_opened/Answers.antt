@@ -8,9 +8,14 @@ use Rattle.frame_share.specs.Share.{IsLegal, ShareView, misses_of}
 use Rattle.frame_share.specs.Units.{Tally}
 use Rattle.station.specs.Stepped.{IsFresh, WasCounted}
 use Rattle.shared_station.specs.Station.{StationView}
+use Rattle.shared_station.specs.StationSteps.{IsBeginning}
 use Rattle.station.proofs.Gathering.{changed_seat, end_changed, end_source, gathered}
 use Rattle.station.proofs.Seating.{all_after, all_at, refilled, was_counted}
 use Rattle.station.proofs.crew.run_opened.Goals as goal
+
+pub new-station-requires-clause-beginning : goal.new-station-requires-clause-beginning
+new-station-requires-clause-beginning g c =
+    subst (IsBeginning g.N.Work.job g.N.Work.files g.N.Start.start g.D.Disk.tells g.D.Disk.history g.D.Disk.faults c.args.reel) (sym c.in-Some.ensures.board) c.requires.beginning
 
 pub work_all-station-requires-clause-ready : goal.work_all-station-requires-clause-ready
 work_all-station-requires-clause-ready g c κs within =
@@ -44,7 +49,7 @@ returns-clause-changed g c change =
     let none = c.seat_all-seats.ensures.given.changed.1 ∙ c.new-station.ensures.changed.1 in
     let sum = ap (sum_by (λ s. s.marks.changed.amount)) back in
     let loaded = changed_seat g.N.Work.files g.S.Scans.world g.S.Scans.faults g.S.Scans.loads g.S.Scans.same
-    xs ys c.args.threads 2097152 c.work_all-station.ensures.size c.work_all-station.ensures.worked idle (omega (arith, stops, settled, counted, none, sum)) in
+    xs ys c.from-threads.result 2097152 c.work_all-station.ensures.size c.work_all-station.ensures.worked idle (omega (arith, stops, settled, counted, none, sum)) in
     let total = c.closing.ensures.loads.0 ∙ c.unseat-scans.ensures.loads ∙ ap (sum_by (λ s. s.loads)) back in
     omega (arith, loaded, total)
 
@@ -61,12 +66,12 @@ returns-clause-scans g c =
     let none = c.seat_all-seats.ensures.given.source.1 ∙ c.new-station.ensures.source.1 in
     let sum = ap (sum_by (λ s. s.marks.source.amount)) back in
     gathered g.N.Work.files g.S.Scans.world g.S.Scans.faults g.S.Scans.loads g.S.Scans.same
-    xs ys c.args.threads 2097152 c.work_all-station.ensures.size c.work_all-station.ensures.worked idle
+    xs ys c.args.workers 2097152 c.work_all-station.ensures.size c.work_all-station.ensures.worked idle
     c.args.scans.items c.closing.result.scans.items c.closing.result.report.loads _
     (search rules)
     (ap (λ (v : Vec _ Global). v.items) c.closing.ensures.scans ∙ c.unseat-scans.ensures.scans ∙ ap (map (λ s. s.scan)) back)
     (c.closing.ensures.loads.0 ∙ c.unseat-scans.ensures.loads ∙ ap (sum_by (λ s. s.loads)) back)
-    c.work_all-station.ensures.unused
+    (λ k d late. let is = c.from-threads.ensures in c.work_all-station.ensures.unused k d (omega (arith, is, late)))
     (λ failed. let stops = end_source steps (first_why steps) refl (sym c.closing.ensures.end ∙ failed) in omega (arith, stops, settled, counted, none, sum))
 
 pub returns-clause-shared : goal.returns-clause-shared
@@ -74,7 +79,7 @@ returns-clause-shared g c =
     let kept = c.into_log.ensures.kept in
     let steps : c.closing.result.log ≡ c.settle-2.new.self.steps = c.closing.ensures.log ∙ c.into_log.ensures.steps in
     let counted = c.unseat-scans.ensures.amount in
-    let none = c.seat_all-seats.ensures.amount ∙ ap (λ (u : Tally). u.amount) c.requires.units in
+    let none = c.seat_all-seats.ensures.amount ∙ ap (λ (u : Tally). u.amount) c.in-Some.ensures.units in
     let all : c.unseat-scans.result.1 ≡ c.unseat-scans.new.units.amount = omega (arith, counted, none) in
     record {
       capacity = c.settle-2.new.self.capacity;
