@@ -191,7 +191,8 @@ fn adopt_opened<N: Work, O: Work, D: Disk, E: Disk>(
     ensures part { IsPart N.job N.files E.tells E.history reel.ledger.gates reel.disk result.1 }
     ensures sealed { IfOk result.0 (λ done. E.tells ≡ true → IsInForce Version.Two (view_of (E.history result.1))) }
     ensures still { D.tells ≡ true → IsStill (D.history old.old) (D.history old.new) }
-    ensures disks { LeavesBoth D.faults D.loans E.faults E.loans (IsErrOf result.0 AdoptFault.DiskFault) old.old old.new reel.disk result.1 }
+    ensures disks { LeavesBoth D.faults D.loans E.faults E.loans (IsErrOf result.0 AdoptFault.DiskFault)
+        old.old old.new reel.disk result.1 }
 {
     let mut reel = reel;
     match adopt_alike::<N, O, D, E>(alloc, new_job, old_job, old, view, &mut reel) {

@@ -162,7 +162,8 @@ fn adopt_frames<N: Work, O: Work, D: Disk, E: Disk>(
     ensures end { IfErr result IsStop }
     ensures part { IsPart N.job N.files E.tells E.history reel.old.ledger.gates reel.old.disk reel.new.disk }
     ensures still { D.tells ≡ true → IsStill (D.history old.old) (D.history old.new) }
-    ensures disks { LeavesBoth D.faults D.loans E.faults E.loans (IsErrOf result AdoptFault.DiskFault) old.old old.new reel.old.disk reel.new.disk }
+    ensures disks { LeavesBoth D.faults D.loans E.faults E.loans (IsErrOf result AdoptFault.DiskFault)
+        old.old old.new reel.old.disk reel.new.disk }
 {
     let (mut room, mut file) = match room_for(alloc, new_job, old_job) {
         Ok(made) => made,
@@ -222,7 +223,8 @@ pub(crate) fn adopt_alike<N: Work, O: Work, D: Disk, E: Disk>(
     ensures end { IfErr result IsStop }
     ensures part { IsPart N.job N.files E.tells E.history reel.old.ledger.gates reel.old.disk reel.new.disk }
     ensures still { D.tells ≡ true → IsStill (D.history old.old) (D.history old.new) }
-    ensures disks { LeavesBoth D.faults D.loans E.faults E.loans (IsErrOf result AdoptFault.DiskFault) old.old old.new reel.old.disk reel.new.disk }
+    ensures disks { LeavesBoth D.faults D.loans E.faults E.loans (IsErrOf result AdoptFault.DiskFault)
+        old.old old.new reel.old.disk reel.new.disk }
 {
     if are_alike(new_job, old_job) {
         return match Donors::of(alloc, old_job, view) {
