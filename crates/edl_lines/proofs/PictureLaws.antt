@@ -1,17 +1,17 @@
--- A transition that lasts, read in two steps.
-use Rattle.std.proofs.Common.{◌≡◌, ℕ, inl, inr, false, List, ◌∷◌, drop, refl, ap, sym, ◌∙◌, Result, Option}
+-- A picture event, read in steps: a transition that lasts, its duration, and the times.
+use Rattle.std.proofs.Common.{◌≡◌, ℕ, ◌+◌, ◌-◌, ◌<◌, ◌≤◌, inl, inr, false, List, ◌∷◌, length, drop, slice_range, refl, ap, sym, ◌∙◌, arith, length-drop, length-take-le, Result, Option}
 use Rattle.std.specs.Prelude.{codes, Ok, Err, Some, None, option_and_then, slice_index, ◌==◌}
 use Rattle.std.proofs.lemmas.Bool.{cases_Bool}
 use Rattle.std.specs.Str.{bytes_eq}
 use Rattle.std.specs.Str.Parse.{digits_value}
 use Rattle.cf_base.specs.declared.event.Transition.{Transition}
-use Rattle.cf_base.specs.Tokens.{Token}
+use Rattle.cf_base.specs.Tokens.{Token, token_between}
 use Rattle.edl_lines.specs.declared.event.Shape.{Shape}
 use Rattle.edl_lines.specs.declared.event.Shape.TheVariants as shape
 use Rattle.edl_lines.specs.declared.LineFault.{LineFault}
 use Rattle.edl_lines.specs.declared.LineFault.TheVariants.{BadTransition, Key}
 use Rattle.edl_lines.specs.Numbers.{decimal}
-use Rattle.edl_lines.specs.Lines.{◌>>=◌, required, word, is_wipe, transition_of, token_count, timed_event, picture_of}
+use Rattle.edl_lines.specs.Lines.{◌>>=◌, required, word, is_wipe, transition_of, token_count, span_of, timed_event, picture_of}
 use Rattle.edl_lines.specs.Shapes.{lasting, shape_of, lasting_event}
 
 abbrev lasts : Option (List ℕ) → Shape → Result Transition LineFault
@@ -73,3 +73,15 @@ lasting_picture number reel t rest s no_cut e =
 pub faulty_picture : (number : ℕ) (reel : List ℕ) (t : Token) (rest : List Token) (fault : LineFault) → bytes_eq t.bytes (codes "C") ≡ false → shape_of t.bytes ≡ Err fault → Err fault ≡ picture_of number reel (t ∷ rest)
 faulty_picture number reel t rest fault no_cut e =
     ap (λ (r : Result Transition LineFault). r >>= λ transition. timed_event number reel transition (drop (token_count transition) (t ∷ rest))) (sym (transition_fault t.bytes (word rest 0) fault no_cut e))
+
+-- the same with its duration
+pub lasting_read : (number : ℕ) (reel : List ℕ) (s : Shape) (t : Token) (rest : List Token) (d : ℕ) → decimal 5 t.bytes ≡ Some d → timed_event number reel (lasting s d) rest ≡ lasting_event number reel s (t ∷ rest)
+lasting_read number reel s t rest d is = sym (ap (λ (o : Option ℕ). required BadTransition o >>= λ d. timed_event number reel (lasting s d) rest) is)
+
+-- a time reaches over its token
+pub span_read : (line : List ℕ) (at start «end» : ℕ)
+    → (at ≤ start) × (start < «end») × («end» ≤ length line) → record { start = start; end = «end» } ≡ span_of (token_between line start «end»)
+span_read line at start «end» within =
+    let long = length-take-le («end» - start) (drop start line) (omega (arith, length-drop start line, within.2)) in
+    let reach : «end» ≡ start + length (slice_range line start «end») = omega (arith, long, within.1) in
+    λ i. record { start = start; end = reach i }
