@@ -1,5 +1,6 @@
 mod Asking
 mod Cutting
+mod Digests
 mod Ending
 mod Growing
 pub mod Heads
