@@ -1,5 +1,5 @@
 -- The event table from its pieces.
-use Rattle.std.proofs.Common.{◌≡◌, ℕ, List, [], ◌∷◌, ◌++◌, length, codes, refl}
+use Rattle.std.proofs.Common.{◌≡◌, ℕ, List, [], ◌∷◌, ◌++◌, length, codes, refl, subst}
 use Rattle.std.specs.Prelude.{decimal}
 use Rattle.std.specs.List.{flat_map}
 use Rattle.std.proofs.lemmas.List.{append_assoc}
@@ -24,6 +24,10 @@ pub event_joined : (t : List ℕ) (rate : Rate) (mode : Mode) (e : EventRec)
     ≡ t ++ event_line rate mode e
 unfolding event_line
 event_joined t rate mode e = joined t (decimal e.line) e.reel _ _ _ _ (transition_word e.transition) (speed_word e.speed)
+
+-- the label that was put is that of this number
+pub label_put : (old new : List ℕ) (rate : Rate) (mode : Mode) (n m : ℕ) → new ≡ old ++ label_word rate mode n ++ 32 ∷ [] → n ≡ m → new ≡ old ++ label_word rate mode m ++ 32 ∷ []
+label_put old new rate mode n m put is = subst (λ k. new ≡ old ++ label_word rate mode k ++ 32 ∷ []) is put
 
 -- the number of the events closes the table
 closed : (head lines count : List ℕ) → head ++ lines ++ codes "events " ++ count ++ 10 ∷ [] ≡ head ++ lines ++ spaced_line (codes "events" ∷ count ∷ [])
