@@ -1,15 +1,22 @@
--- From the reply of a command that makes no call on a folder to its whole reply: both folders are as they were.
-use Rattle.std.proofs.Common.{◌≡◌, ℕ, List, Vec, Global, refl, sym, subst, arith}
-use Rattle.std.specs.Prelude.{Result, Ok, Err}
+-- From the reply of a command over the scan to its whole reply. Of one that makes no call on a folder both folders are as they
+-- were; what an adoption did to both is said by it.
+use Rattle.std.proofs.Common.{◌≡◌, ℕ, Bool, List, Vec, Global, refl, sym, subst, arith}
+use Rattle.std.specs.Prelude.{Option, Result, Ok, Err}
+use Rattle.scan_source.specs.World.{World}
+use Rattle.reel_disk.specs.Disk.{History}
+use Rattle.reel_disk.specs.Loan.{Loan}
+use Rattle.reconform.specs.Adopt.{LeavesDisks}
+use Rattle.project_adopt.specs.Adopt.{IsAdoptReply, OnDisks}
 use Rattle.command_words.specs.declared.command.Command.{Command}
 use Rattle.command_words.specs.declared.command.Command.TheVariants as commands
 use Rattle.outcome_line.specs.Output.{line_of}
 use Rattle.outcome_line.specs.declared.outcome.Outcome.{Outcome}
 use Rattle.outcome_line.specs.declared.outcome.Outcome.TheVariants as outcomes
-use Rattle.project_run.specs.Calls.{Replies}
+use Rattle.project_run.specs.Calls.{OverScan, Replies}
 use Rattle.command_answers.specs.Commands.{meaning_of}
 use Rattle.command_answers.specs.Reply.{IsKindOf, IsReplyOverScan, IsReplyOverFolders}
-use Rattle.command_answers.specs.States.{Folders, House, ScanState}
+use Rattle.command_answers.specs.States.{Folders, House, OnFolders, OnScan, ScanState}
+use Rattle.command_answers.proofs.Replies.{error_of, outcome_of}
 
 module _ (house : House) (kind : Command) (scan scan_after : ScanState) (folders : Folders) (no_disk : IsKindOf kind outcomes.DiskFault → ⊥)
     (leaves : (reached : Outcome) (output : List ℕ) → (meaning_of kind).UsesDisk house scan scan_after folders folders reached output) where
@@ -42,3 +49,41 @@ plan_replied house command path scan scan_after folders = replied_unmoved house 
 pub pull_replied : (house : House) (command : Command) (path : List ℕ) (margin : ℕ) (scan scan_after : ScanState) (folders : Folders) (result : Result (Vec ℕ Global) Outcome) → command ≡ commands.Pull path margin
     → Replies result (IsReplyOverScan (commands.Pull path margin) scan scan_after) → Replies result (IsReplyOverFolders house command scan scan_after folders folders)
 pull_replied house command path margin scan scan_after folders = replied_unmoved house (commands.Pull path margin) scan scan_after folders (λ none. none) (λ reached output. refl) command
+
+module _ {S D : Type 0} (house : House) (command : Command) (path old_path : List ℕ)
+    (world : S → Option World) (scan_faults loads heads : S → ℕ) (scan scan_after : S)
+    (tells : Bool) (history : D → History) (faults : D → ℕ) (loans : D → List Loan) (old old_after disk disk_after : D) where
+  adopted : (result : Result (Vec ℕ Global) Outcome)
+      → Replies result (OnScan world scan_faults loads heads scan scan_after (IsReplyOverScan (commands.Adopt path old_path)))
+      → Replies result (OnDisks tells history faults old old_after disk disk_after (OverScan world loads scan scan_after (IsAdoptReply path old_path)))
+      → LeavesDisks faults loans (result ≡ Err outcomes.DiskFault) old old_after disk disk_after
+      → Replies result (OnFolders tells history faults disk old disk_after old_after (OnScan world scan_faults loads heads scan scan_after (IsReplyOverFolders house (commands.Adopt path old_path))))
+  adopted (Ok text) reply made leaves = record {
+    reply = reply;
+    folder = made;
+    old_folder = λ none. absurd (none tt);
+    disk_fault = λ same. absurd (cc);
+    disk_steady = λ other. leaves.steady (λ same. cc);
+    old_steady = λ other. leaves.old_steady (λ same. cc);
+    disk_later = leaves.cause.later;
+    old_later = leaves.cause.old_later;
+  }
+  adopted (Err outcome) reply made leaves = record {
+    reply = reply;
+    folder = made;
+    old_folder = λ none. absurd (none tt);
+    disk_fault = λ same. leaves.cause.failed (error_of _ _ same);
+    disk_steady = λ other. leaves.steady (λ same. other (outcome_of _ _ same));
+    old_steady = λ other. leaves.old_steady (λ same. other (outcome_of _ _ same));
+    disk_later = leaves.cause.later;
+    old_later = leaves.cause.old_later;
+  }
+
+  -- an adoption, with what it did to both folders
+  pub adopt_replied : (result : Result (Vec ℕ Global) Outcome) → command ≡ commands.Adopt path old_path
+      → Replies result (OnScan world scan_faults loads heads scan scan_after (IsReplyOverScan (commands.Adopt path old_path)))
+      → Replies result (OnDisks tells history faults old old_after disk disk_after (OverScan world loads scan scan_after (IsAdoptReply path old_path)))
+      → LeavesDisks faults loans (result ≡ Err outcomes.DiskFault) old old_after disk disk_after
+      → Replies result (OnFolders tells history faults disk old disk_after old_after (OnScan world scan_faults loads heads scan scan_after (IsReplyOverFolders house command)))
+  adopt_replied result same reply made leaves =
+      subst (λ c. Replies result (OnFolders tells history faults disk old disk_after old_after (OnScan world scan_faults loads heads scan scan_after (IsReplyOverFolders house c)))) (sym same) (adopted result reply made leaves)

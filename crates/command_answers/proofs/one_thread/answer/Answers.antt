@@ -21,6 +21,10 @@ pub returns-clause-complete : goal.returns-clause-complete
 returns-clause-complete g c =
     answered_complete c.job_laws.ensures.job _ _ _ _ _ _ _ _ (c.answer_found.ensures.answered _ c.in-Ok.ensures.command)
 
+pub returns-in_default-clause-answered : goal.returns-in_default-clause-answered
+returns-in_default-clause-answered g c =
+    answered_unread {house = house_of (map (λ p. p.kind) c.args.probes.now) c.args.tone.now.table} _ (scan_state g.S.Scans.world g.S.Scans.faults g.S.Scans.loads g.S.Scans.heads c.args.scan.now) (folders_of g.D.Disk.tells g.D.Disk.history g.D.Disk.faults c.args.disk.now c.args.old.now) _ _ _ c.put_line.ensures.put
+
 pub returns-in_default-clause-headline : goal.returns-in_default-clause-headline
 returns-in_default-clause-headline g c =
     answered_promise {house = house_of (map (λ p. p.kind) c.args.probes.now) c.args.tone.now.table} c.job_laws.ensures.job _ _ _ _ _ _ _ _
