@@ -1,0 +1,5 @@
+-- The digest that is kept stands before the one that was wanted.
+use Rattle.outcome_line.proofs.line.made_line.Goals as goal
+
+pub returns-in-OtherJob : goal.returns-in-OtherJob
+returns-in-OtherJob c = rw c.in-OtherJob.is (tt, c.other_job_line.ensures)
