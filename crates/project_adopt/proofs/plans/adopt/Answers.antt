@@ -26,3 +26,6 @@ returns-in-Err-clause-kind g c = job_adopts _ c.in-Err.ensures.kind
 pub returns-clause-refused_heads : goal.returns-clause-refused_heads
 returns-clause-refused_heads g c =
     asked_onward _ _ c.in-Ok.job (g.S.Scans.world c.args.scan.now) (g.S.Scans.world c.planned.new.scan) c.args.path.now c.args.old_path.now _ _ _ _ _ _ _ _ line_of c.adopt_onto-reply.ensures.folders
+
+pub returns-in-Err-clause-refused_heads : goal.returns-in-Err-clause-refused_heads
+returns-in-Err-clause-refused_heads g c = c.in-Err.ensures.refused_heads

@@ -2,6 +2,8 @@
 use Rattle.std.proofs.Common.{◌≡◌, inr, ℕ, sym, ap, subst, ◌∙◌, arith}
 use Rattle.std.specs.Prelude.{Err}
 use Rattle.cf_base.specs.Count.{HasRisen}
+use Rattle.conform_job.specs.Answers.{AreInfosOf}
+use Rattle.conform_job.specs.Job.{JobData}
 use Rattle.reconform.specs.declared.adopting.AdoptFault.TheVariants as faults
 use Rattle.outcome_line.specs.declared.outcome.Outcome.TheVariants as outcomes
 use Rattle.scan_source.proofs.Leaving.{leaves_still}
@@ -10,6 +12,10 @@ use Rattle.project_run.proofs.Runs.{match_each}
 use Rattle.project_adopt.specs.Adopt.{IsOfAdopt, outcome_of_fault}
 use Rattle.project_adopt.proofs.Composing.{by_disk, fault_adopts, never_source, promised_no_further, promised_on, rest_of, run_adopts, went_no_further, went_on}
 use Rattle.project_adopt.proofs.reels.adopt_and_run.Goals as goal
+
+pub run_rest-requires : goal.run_rest-requires
+run_rest-requires g c =
+    record { infos = subst (λ (j : JobData). AreInfosOf j.parts (g.S.Scans.world c.args.scan.now) j.infos) (sym c.requires.job) c.requires.infos }
 
 pub returns-in-Ok-clause-went : goal.returns-in-Ok-clause-went
 returns-in-Ok-clause-went g c =
