@@ -1,5 +1,8 @@
 -- The project comes to its job, which is run in the folder.
-use Rattle.std.proofs.Common.{inr, refl}
+use Rattle.std.proofs.Common.{◌≡◌, inr, refl, subst, arith}
+use Rattle.scan_source.proofs.Leaving.{leaves_as}
+use Rattle.outcome_line.specs.declared.outcome.Outcome.TheVariants as outcomes
+use Rattle.project_job.specs.Jobs.{IsOfJob}
 use Rattle.project_run.proofs.Runs.{match_each, of_job, run_in}
 use Rattle.project_run.proofs.Leaving.{asked_by, left_by, run_unrefused}
 use Rattle.project_run.proofs.alone.run.Goals as goal
@@ -23,3 +26,23 @@ returns-clause-untouched g c = left_by _ _ _ _ _ c.run_job-reply.ensures.ran (λ
 
 pub returns-clause-refused_heads : goal.returns-clause-refused_heads
 returns-clause-refused_heads g c = asked_by _ _ _ (g.S.Scans.world c.args.scan.now) c.args.path.now _ _ c.run_job-reply.ensures.ran (λ reached was. run_unrefused _ _ _ _ _ _ _ _ was)
+
+pub returns-in-Err-clause-scan : goal.returns-in-Err-clause-scan
+returns-in-Err-clause-scan g c =
+    leaves_as g.S.Scans.world g.S.Scans.faults g.S.Scans.same c.args.scan.now c.planned.new.scan (λ is. cc) (λ is. cc) c.in-Err.ensures.scan
+
+-- no call was made on the disk
+pub returns-in-Err-clause-disk : goal.returns-in-Err-clause-disk
+returns-in-Err-clause-disk g c = record {
+  counts = record {
+    cause = record { later = omega arith; failed = λ is. absurd (let same : c.in-Err.outcome ≡ outcomes.DiskFault = cc in subst IsOfJob same c.in-Err.ensures.kind) };
+    steady = λ none. refl;
+  };
+  lent = refl;
+}
+
+pub returns-in-Err-clause-untouched : goal.returns-in-Err-clause-untouched
+returns-in-Err-clause-untouched g c = λ refused. refl
+
+pub returns-in-Err-clause-refused_heads : goal.returns-in-Err-clause-refused_heads
+returns-in-Err-clause-refused_heads g c = c.in-Err.ensures.refused_heads
