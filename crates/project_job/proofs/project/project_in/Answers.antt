@@ -45,3 +45,7 @@ returns-in-Err-Fault-clause-scan g c =
 pub returns-clause-scan : goal.returns-clause-scan
 returns-clause-scan g c =
     leaves_done g.S.Scans.world g.S.Scans.faults g.S.Scans.same _ _ (no_err _ _) memory_apart c.in-Ok.ensures.scan
+
+-- no file but the project's was loaded
+pub returns-in-Err-Fault-clause-loads : goal.returns-in-Err-Fault-clause-loads
+returns-in-Err-Fault-clause-loads g c = c.in-Ok.ensures.loads
