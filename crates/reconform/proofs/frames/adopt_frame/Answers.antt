@@ -70,3 +70,6 @@ returns-then-served-clause-disks g c =
     let old = c.read_donor.new.old in
     both_behind g.D.Disk.faults g.D.Disk.loans g.E.Disk.faults g.E.Disk.loans _ _ (λ is. is) (λ is. is) c.args.old.now old old c.args.reel.now.disk c.args.reel.now.disk c.finish_frame.new.reel.disk c.in-Ok.ensures.steady refl c.in-Ok.ensures.same refl
     (new_asked g.D.Disk.faults g.D.Disk.loans g.E.Disk.faults g.E.Disk.loans _ old c.args.reel.now.disk c.finish_frame.new.reel.disk done.cause (where_ok c.finish_frame.result _ done.steady) done.same)
+
+pub finish_frame-requires-clause-fresh : goal.finish_frame-requires-clause-fresh
+finish_frame-requires-clause-fresh g c = sym c.is_acked.ensures.acked ∙ c.if-is_acked.false

@@ -30,3 +30,6 @@ pub returns-in-Err-clause-part : goal.returns-in-Err-clause-part
 returns-in-Err-clause-part g c =
     part_finished g.N.Work.job g.N.Work.files g.E.Disk.tells g.E.Disk.history c.args.reel.now.ledger.gates c.args.i c.of-hashed.result.index (ap (λ (f : FrameBytes). f.index) c.of-hashed.ensures ∙ c.rehead.ensures.index) c.requires.index c.requires.fresh
     _ _ c.in-Err.ensures.run c.in-Err.ensures.none_lost c.in-Err.ensures.spares
+
+pub rehead-requires-clause-pixels : goal.rehead-requires-clause-pixels
+rehead-requires-clause-pixels g c = c.requires.pixels
