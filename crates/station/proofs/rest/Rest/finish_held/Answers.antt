@@ -28,7 +28,7 @@ loop-worker-preserved g c =
       few = search rules;
       start = c.finish_one.ensures.start ∙ inv.start;
       workers = c.finish_one.ensures.workers ∙ inv.workers;
-      idle = idle_next c.loop-worker.self.station.log c.finish_one.new.self.station.log c.loop-worker.worker (search rules) (search rules) inv.idle;
+      idle = idle_next c.loop-worker.self.station.log c.finish_one.new.self.station.log c.loop-worker.worker (c.finish_one.ensures.idle c.if-not-finish_one.false) (c.finish_one.ensures.others c.if-not-finish_one.false) inv.idle;
       closed = c.finish_one.ensures.closed c.if-not-finish_one.false;
       stepped = stepped_along g.N.Work.files g.S.Scans.world g.S.Scans.faults g.S.Scans.loads g.S.Scans.same g.met.S.Scans.same_trans (2 * c.loop-worker.worker) 2 (2 * (c.loop-worker.worker + 1)) c.args.seat.now c.loop-worker.seat c.finish_one.new.seat
           (omega arith) inv.stepped c.finish_one.ensures.stepped;
