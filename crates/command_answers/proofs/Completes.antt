@@ -24,8 +24,8 @@ use Rattle.reel_writer.specs.declared.damage.CheckFault.{CheckFault}
 use Rattle.reel_writer.specs.declared.damage.CheckFault.TheVariants as checks
 use Rattle.single_run.specs.Ends.{IsEnd}
 use Rattle.single_run.specs.Run.{IsWhyUnopened}
-use Rattle.single_run.specs.declared.run_end.RunEnd.{RunEnd}
-use Rattle.single_run.specs.declared.run_end.RunEnd.TheVariants as ends
+use Rattle.frame_fetch.specs.declared.run_end.RunEnd.{RunEnd}
+use Rattle.frame_fetch.specs.declared.run_end.RunEnd.TheVariants as ends
 use Rattle.project_job.specs.Jobs.{ComesTo, HasPlanned, IsOfJob}
 use Rattle.project_job.specs.Laws.{OneJob}
 use Rattle.project_run.specs.Calls.{DiskState}

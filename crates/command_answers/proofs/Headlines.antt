@@ -16,8 +16,8 @@ use Rattle.resume_ledger.specs.declared.layout.Version.{Version}
 use Rattle.resume_ledger.specs.declared.layout.Version.TheVariants.{One, Two}
 use Rattle.reel_writer.specs.Reel.{frames_of, HasAcked, IsSoundReel, HasFrameFiles, IsReelRun, KeepsReel}
 use Rattle.single_run.specs.Run.{AreAllAcked}
-use Rattle.single_run.specs.declared.run_end.RunEnd.{RunEnd}
-use Rattle.single_run.specs.declared.run_end.RunEnd.TheVariants as ends
+use Rattle.frame_fetch.specs.declared.run_end.RunEnd.{RunEnd}
+use Rattle.frame_fetch.specs.declared.run_end.RunEnd.TheVariants as ends
 use Rattle.project_job.specs.Jobs.{ComesTo, IsOfJob}
 use Rattle.project_job.specs.Laws.{OneJob}
 use Rattle.project_adopt.specs.Adopt.{GoesOn, IsAdoptReply, IsOldSound, of_old_project}

@@ -6,8 +6,8 @@ use Rattle.conform_job.specs.Job.{JobData}
 use Rattle.reel_disk.specs.Disk.{History, view_of}
 use Rattle.resume_ledger.specs.Ledger.{IsFit}
 use Rattle.reel_writer.specs.Reel.{frames_of}
-use Rattle.single_run.specs.declared.run_end.RunEnd.{RunEnd}
-use Rattle.single_run.specs.declared.run_end.RunEnd.TheVariants as ends
+use Rattle.frame_fetch.specs.declared.run_end.RunEnd.{RunEnd}
+use Rattle.frame_fetch.specs.declared.run_end.RunEnd.TheVariants as ends
 use Rattle.project_job.specs.Jobs.{ComesTo}
 use Rattle.project_job.specs.Laws.{OneJob}
 use Rattle.project_run.specs.Calls.{DiskState}
@@ -22,7 +22,7 @@ use Rattle.command_answers.specs.Headline.{KeepsItsPromise, HasEnded}
 use Rattle.frame_share.specs.declared.step.ShareStep.{ShareStep}
 use Rattle.render_board.specs.declared.step.Step.{Step}
 use Rattle.station.specs.Crews.{TookSteps, TookNoSteps}
-use Rattle.single_run.specs.declared.run_end.Report.{Report}
+use Rattle.single_run.specs.declared.report.Report.{Report}
 use Rattle.command_words.specs.declared.command.Command.{Command}
 use Rattle.command_answers.specs.ByFolder.{HasFitFolder}
 use Rattle.command_answers.specs.Meaning.{IsThrough}

@@ -9,9 +9,10 @@ ghost use Rattle.demo_run.specs.Whole.{IsWholeOn};
 use crate::scans::UnfailingScans;
 use cf_base::{Fail, Never};
 use conform_job::Job;
+use frame_fetch::RunEnd;
 use reel_disk::MemoryDisk;
 use scan_source::Scans;
-use single_run::{RunEnd, run_alone};
+use single_run::run_alone;
 use std::alloc::Global;
 use std::marker::Brand;
 

@@ -21,8 +21,8 @@ use Rattle.reconform.specs.declared.adopting.AdoptFault.{AdoptFault}
 use Rattle.reconform.specs.declared.adopting.AdoptFault.TheVariants as fault
 use Rattle.reel_writer.specs.Changes.{IsOwnFile, MayWrite}
 use Rattle.single_run.specs.Run.{AreAllAcked, HasWhole}
-use Rattle.single_run.specs.declared.run_end.Report.{Report}
-use Rattle.single_run.specs.declared.run_end.RunEnd.{RunEnd}
+use Rattle.single_run.specs.declared.report.Report.{Report}
+use Rattle.frame_fetch.specs.declared.run_end.RunEnd.{RunEnd}
 use Rattle.printed_text.specs.Text.{spaced_line}
 use Rattle.outcome_line.specs.declared.outcome.Outcome.{Outcome}
 use Rattle.outcome_line.specs.declared.outcome.Outcome.TheVariants as outcome

@@ -12,11 +12,11 @@ use Rattle.reel_writer.specs.Changes.{IsOwnFile, MayWrite}
 use Rattle.reel_writer.specs.Reel.{frames_of, HasFrameFiles, IsReelRun, IsSoundReel}
 use Rattle.render_board.specs.declared.step.Step.{Step}
 use Rattle.station.specs.Crews.{AreWorked, TookNoSteps, TookSteps}
-use Rattle.single_run.specs.Ends.{IsChange}
+use Rattle.frame_fetch.specs.Ends.{IsChange}
 use Rattle.single_run.specs.Run.{AreAllAcked, HasWhole}
-use Rattle.single_run.specs.declared.run_end.Report.{Report}
-use Rattle.single_run.specs.declared.run_end.RunEnd.{RunEnd}
-use Rattle.single_run.specs.declared.run_end.RunEnd.TheVariants as ends
+use Rattle.single_run.specs.declared.report.Report.{Report}
+use Rattle.frame_fetch.specs.declared.run_end.RunEnd.{RunEnd}
+use Rattle.frame_fetch.specs.declared.run_end.RunEnd.TheVariants as ends
 use Rattle.project_job.specs.Asked.{HasLoadedFor}
 use Rattle.project_job.specs.Jobs.{HasPlanned, IsOfJob, AreLoaded, cube_count}
 use Rattle.outcome_line.specs.declared.outcome.Outcome.{Outcome}

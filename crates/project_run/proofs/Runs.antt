@@ -9,9 +9,9 @@ use Rattle.conform_job.specs.Names.{Tells}
 use Rattle.reel_disk.specs.Disk.{History}
 use Rattle.single_run.specs.Ends.{IsEnd}
 use Rattle.single_run.specs.Run.{WasOpened, WasUnopened, IsWhyUnopened}
-use Rattle.single_run.specs.declared.run_end.Report.{Report}
-use Rattle.single_run.specs.declared.run_end.RunEnd.{RunEnd}
-use Rattle.single_run.specs.declared.run_end.RunEnd.TheVariants as ends
+use Rattle.single_run.specs.declared.report.Report.{Report}
+use Rattle.frame_fetch.specs.declared.run_end.RunEnd.{RunEnd}
+use Rattle.frame_fetch.specs.declared.run_end.RunEnd.TheVariants as ends
 use Rattle.project_job.specs.Jobs.{HasPlanned, IsOfJob, cube_count}
 use Rattle.project_run.specs.Calls.{DiskState}
 use Rattle.project_run.specs.Run.{IsKnown, IsOfRun, IsJobRun, IsRunReply}

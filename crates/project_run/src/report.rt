@@ -9,9 +9,10 @@ ghost use Rattle.project_run.specs.Calls.{Replies};
 use cf_base::Key;
 use conform_job::Job;
 use dpx_header::FrameInfo;
+use frame_fetch::RunEnd;
 use outcome_line::Outcome;
 use printed_text::{put_bytes, put_number};
-use single_run::{Report, RunEnd};
+use single_run::Report;
 use source_reels::Seen;
 use std::alloc::{AllocError, Global};
 

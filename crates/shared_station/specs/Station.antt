@@ -22,7 +22,7 @@ use Rattle.render_board.specs.declared.step.Why.TheVariants.{Changed}
 use Rattle.reel_writer.specs.Changes.{HasKept, IsRunFile}
 use Rattle.reel_writer.specs.Reel.{frames_of, HasAcked, IsReelRun}
 use Rattle.reel_writer.specs.View.{ReelView}
-use Rattle.single_run.specs.Ends.{IsChanged}
+use Rattle.frame_fetch.specs.Ends.{IsChanged}
 
 -- how many stops of each why were counted
 pub record Totals : Type 0 where

@@ -14,9 +14,9 @@ use Rattle.render_board.specs.declared.step.Why.TheVariants.{Source, Disk, Memor
 use Rattle.reel_writer.specs.Changes.{HasKept}
 use Rattle.reel_writer.specs.Reel.{frames_of, HasAcked, HasStored, IsReelRun, IsWrittenFile}
 use Rattle.reel_writer.specs.View.{ReelView, after_finish, after_fault}
-use Rattle.single_run.specs.Ends.{IsChanged}
-use Rattle.single_run.specs.declared.run_end.RunEnd.{RunEnd}
-use Rattle.single_run.specs.declared.run_end.RunEnd.TheVariants.{Done, OtherJob, BadLedger, Changed as IsNow, SourceFault, DiskFault, NoMemory}
+use Rattle.frame_fetch.specs.Ends.{IsChanged}
+use Rattle.frame_fetch.specs.declared.run_end.RunEnd.{RunEnd}
+use Rattle.frame_fetch.specs.declared.run_end.RunEnd.TheVariants.{Done, OtherJob, BadLedger, Changed as IsNow, SourceFault, DiskFault, NoMemory}
 use Rattle.shared_station.specs.Station.{StationView, Totals, IsCrewFile, MayCrewWrite}
 
 -- one more stop of this why

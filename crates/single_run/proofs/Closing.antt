@@ -24,9 +24,9 @@ use Rattle.single_run.specs.Ends.{refused_by}
 use Rattle.single_run.specs.Run.{AreAllAcked, IsWhyUnopened, HasWhole, IsWhole, WasUnopened}
 use Rattle.conform_job.specs.Answers.{count_after}
 use Rattle.single_run.specs.Ran.{WereFinished}
-use Rattle.single_run.specs.declared.run_end.Report.{Report}
-use Rattle.single_run.specs.declared.run_end.RunEnd.{RunEnd}
-use Rattle.single_run.specs.declared.run_end.RunEnd.TheVariants.{Done, OtherJob, BadLedger, Changed, SourceFault, DiskFault, NoMemory}
+use Rattle.single_run.specs.declared.report.Report.{Report}
+use Rattle.frame_fetch.specs.declared.run_end.RunEnd.{RunEnd}
+use Rattle.frame_fetch.specs.declared.run_end.RunEnd.TheVariants.{Done, OtherJob, BadLedger, Changed, SourceFault, DiskFault, NoMemory}
 use Rattle.single_run.proofs.Running.{taken}
 use Rattle.single_run.proofs.Stepping.{closed_has}
 

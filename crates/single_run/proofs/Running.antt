@@ -1,6 +1,6 @@
 -- What is known where a run over the frames ends.
 use Rattle.std.proofs.Common.{◌≡◌, ◌≢◌, inl, inr, ℕ, suc, ◌+◌, ◌-◌, ◌<◌, ◌≤◌, Bool, true, false, List, [], ◌∷◌, ◌++◌, length, take, drop, get_or, refl, sym, ◌∙◌, ap, subst, arith, length-append, append-nil}
-use Rattle.std.specs.Prelude.{nat_lt, Contains, ◌⊎◌, ◌↔◌, Option, Ok, Err, Result}
+use Rattle.std.specs.Prelude.{nat_lt, Contains, ◌⊎◌, ◌↔◌, Option}
 use Rattle.std.proofs.lemmas.Bool.{lt-ltb, ltb-true}
 use Rattle.std.proofs.lemmas.List.{append_assoc, take_at}
 use Rattle.cf_base.specs.declared.file.FileId.{FileId}
@@ -12,14 +12,16 @@ use Rattle.reel_writer.specs.Changes.{IsRunFile}
 use Rattle.reel_writer.specs.Reel.{frames_of}
 use Rattle.reel_writer.specs.View.{ReelView}
 use Rattle.reel_writer.proofs.Writing.{run_file_before}
+use Rattle.frame_fetch.specs.Ends.{IsUnrendered}
 use Rattle.single_run.specs.Ends.{IsStop}
-use Rattle.single_run.specs.Asks.{IsNext, closed_frames, asks_of_frames, frame_if_closed, keys_of_need}
+use Rattle.single_run.specs.Asks.{IsNext, closed_frames, asks_of_frames, frame_if_closed}
+use Rattle.frame_fetch.specs.Asks.{keys_of_need}
 use Rattle.single_run.specs.Ran.{IsUnfinished, ArePast, WereFinished}
-use Rattle.single_run.specs.Sharing.{HasTried, IsPaired, asks_of}
-use Rattle.single_run.specs.declared.run_end.RunEnd.{RunEnd}
-use Rattle.single_run.specs.declared.run_end.RunEnd.TheVariants.{Done}
+use Rattle.frame_fetch.specs.Sharing.{HasTried, IsPaired, asks_of}
+use Rattle.frame_fetch.specs.declared.run_end.RunEnd.{RunEnd}
+use Rattle.frame_fetch.specs.declared.run_end.RunEnd.TheVariants.{Done, OtherJob, BadLedger, Changed, SourceFault, DiskFault, NoMemory}
 use Rattle.single_run.proofs.Stepping.{or_either, or_here, or_true, closed_more, closed_none, closed_split, closed_has, closed_below, if_closed, asks_append, asks_none, asks_one}
-use Rattle.single_run.proofs.Logs.{asks_along, paired_along, paired_less}
+use Rattle.frame_fetch.proofs.Logs.{asks_along, paired_along, paired_less}
 
 -- what one frame more asks for
 pub asks_more : (job : JobData) (gates : List Bool) (i : ℕ) → asks_of_frames job (closed_frames gates (suc i)) ≡ asks_of_frames job (closed_frames gates i) ++ asks_of_frames job (frame_if_closed gates i)
@@ -48,6 +50,16 @@ module _ (gates : List Bool) (count i : ℕ) (within : i ≤ count) where
 
   pub no_more : length (closed_frames gates i) ≤ length (closed_frames gates count)
   no_more = let whole = ap length split.1 ∙ length-append (closed_frames gates i) split.0 in omega (arith, whole)
+
+-- an end of a frame that could not be rendered is an end of the run
+pub unrendered_stop : (job : JobData) (told : Option World) (end : RunEnd) → IsUnrendered job told end → IsStop job told end
+unrendered_stop job told Done stop = absurd stop
+unrendered_stop job told (OtherJob kept wanted) stop = absurd stop
+unrendered_stop job told (BadLedger len) stop = absurd stop
+unrendered_stop job told (Changed key was now) stop = stop
+unrendered_stop job told SourceFault stop = tt
+unrendered_stop job told DiskFault stop = absurd stop
+unrendered_stop job told NoMemory stop = tt
 
 pub not_done : (job : JobData) (told : Option World) (end : RunEnd) → IsStop job told end → end ≢ Done
 not_done job told end stop same = subst (IsStop job told) same stop
@@ -152,10 +164,3 @@ module _ {D : Type 0} (old mid : ReelView D) (i : ℕ) (none : old.acks ≡ []) 
 
     pub kept_then : new.kept ≡ old.kept
     kept_then = same.kept ∙ past.kept
-
-abbrev end_in : {A : Type 0} → RunEnd → Result A RunEnd → RunEnd
-end_in other (Ok value) = other
-end_in other (Err end) = end
-
-pub err_same : {A : Type 0} (a b : RunEnd) → ◌≡◌ {A = Result A RunEnd} (Err a) (Err b) → a ≡ b
-err_same a b is = ap (end_in a) is

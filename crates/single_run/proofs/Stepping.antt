@@ -9,7 +9,8 @@ use Rattle.std.proofs.lemmas.List.{get_or-set_same, get_or-set_other, append-nil
 use Rattle.std.proofs.lemmas.List.Elements.{filter-append, Contains-append_left, Contains-push, Contains-push_cases}
 use Rattle.conform_job.specs.Job.{JobData, need_at}
 use Rattle.reel_writer.specs.View.{ReelView, after_finish}
-use Rattle.single_run.specs.Asks.{closed_frames, asks_of_frames, frame_if_closed, keys_of_need}
+use Rattle.single_run.specs.Asks.{closed_frames, asks_of_frames, frame_if_closed}
+use Rattle.frame_fetch.specs.Asks.{keys_of_need}
 use Rattle.single_run.specs.Ran.{IsPast, ArePast}
 
 pub or_true : (b c : Bool) → b ≡ true → b ≡ (b || c)

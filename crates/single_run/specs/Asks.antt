@@ -2,26 +2,16 @@
 --     closed_frames gates count      the frames that are still to be finished
 --     asks_of_frames job frames      the keys that these frames ask for
 --     IsNext gates count finished k      the frame that comes behind the finished ones
-use Rattle.std.specs.Prelude.{ℕ, Bool, false, not, List, [], ◌∷◌, ◌++◌, Contains, drop, filter, flat_map, slice_index_or, take, Option, Some, None, if◌then◌else◌}
+use Rattle.std.specs.Prelude.{ℕ, Bool, false, not, List, [], ◌∷◌, Contains, drop, filter, flat_map, slice_index_or, take, if◌then◌else◌}
 use Rattle.std.specs.List.{range_with_len}
 use Rattle.cf_base.specs.declared.key.Key.{Key}
-use Rattle.dpx_header.specs.declared.info.FrameInfo.{FrameInfo}
 use Rattle.conform_job.specs.Job.{JobData, need_at}
-use Rattle.conform_job.specs.declared.need.Need.{Need}
+use Rattle.frame_fetch.specs.Asks.{keys_of_need}
 
 -- the frames below this count whose gate is closed, in order
 unfoldable pub closed_frames : List Bool → ℕ → List ℕ
 closed_frames gates count = filter (λ i. not (slice_index_or gates i false))
     (range_with_len 0 count)
-
--- the key of a side, where it is a source frame
-abbrev pub key_of_side : Option (Key × FrameInfo) → List Key
-key_of_side None = []
-key_of_side (Some need) = need.0 ∷ []
-
--- the keys of a need, the old side's before the new's
-abbrev pub keys_of_need : Need → List Key
-keys_of_need need = key_of_side need.old ++ key_of_side need.new
 
 -- what these frames ask for, one frame after another
 unfoldable pub asks_of_frames : JobData → List ℕ → List Key

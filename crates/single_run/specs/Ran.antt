@@ -6,9 +6,9 @@ use Rattle.frame_share.specs.declared.step.ShareStep.{ShareStep}
 use Rattle.reel_writer.specs.Reel.{frames_of}
 use Rattle.reel_writer.specs.View.{ReelView}
 use Rattle.single_run.specs.Asks.{closed_frames, asks_of_frames, frame_if_closed}
-use Rattle.single_run.specs.Sharing.{IsPaired, asks_of}
-use Rattle.single_run.specs.declared.run_end.RunEnd.{RunEnd}
-use Rattle.single_run.specs.declared.run_end.RunEnd.TheVariants.{Done}
+use Rattle.frame_fetch.specs.Sharing.{IsPaired, asks_of}
+use Rattle.frame_fetch.specs.declared.run_end.RunEnd.{RunEnd}
+use Rattle.frame_fetch.specs.declared.run_end.RunEnd.TheVariants.{Done}
 
 -- The frames whose gate was closed at the opening were finished in order, so many of them, and at
 -- Done all. The log has the asks of these, one frame after another, and then asks of the next one;

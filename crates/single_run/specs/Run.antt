@@ -19,9 +19,9 @@ use Rattle.single_run.specs.Asks.{IsNext, closed_frames}
 use Rattle.single_run.specs.Ends.{IsEnd}
 use Rattle.single_run.specs.Ran.{WereFinished}
 use Rattle.single_run.specs.Sharing.{WereShared}
-use Rattle.single_run.specs.declared.run_end.Report.{Report}
-use Rattle.single_run.specs.declared.run_end.RunEnd.{RunEnd}
-use Rattle.single_run.specs.declared.run_end.RunEnd.TheVariants.{Done, OtherJob, BadLedger, Changed, SourceFault, DiskFault, NoMemory}
+use Rattle.single_run.specs.declared.report.Report.{Report}
+use Rattle.frame_fetch.specs.declared.run_end.RunEnd.{RunEnd}
+use Rattle.frame_fetch.specs.declared.run_end.RunEnd.TheVariants.{Done, OtherJob, BadLedger, Changed, SourceFault, DiskFault, NoMemory}
 
 -- A gate is open just where it was before, or its frame is one of these.
 abbrev pub AreOpened : (before : List Bool) → (finished : List ℕ) → (after : List Bool) → Type 0

@@ -1,5 +1,5 @@
 //! A run on one thread.
-ghost use Rattle.std.specs.Prelude.{◌≡◌, ◌≢◌, ◌<◌, ◌≤◌, [], true, false, length, take};
+ghost use Rattle.std.specs.Prelude.{◌≡◌, ◌≢◌, ◌≤◌, [], true, false, length, take};
 ghost use Rattle.cf_base.specs.Count.{HasCause, HasRisen};
 ghost use Rattle.conform_job.specs.Answers.{AreInfosOf};
 ghost use Rattle.conform_job.specs.Names.{Tells};
@@ -10,17 +10,18 @@ ghost use Rattle.resume_ledger.specs.Sound.{WritesOnly};
 ghost use Rattle.reel_writer.specs.Changes.{IsOwnFile, IsRunFile, MayWrite};
 ghost use Rattle.reel_writer.specs.Reel.{frames_of, HasFrameFiles, IsReelRun, IsSoundReel};
 ghost use Rattle.scan_source.specs.World.{World};
-ghost use Rattle.reel_writer.specs.View.{IsReelOf};
 ghost use Rattle.single_run.specs.Asks.{closed_frames};
-ghost use Rattle.single_run.specs.Ends.{IsChange, IsEnd, refused_by};
+ghost use Rattle.frame_fetch.specs.Ends.{IsChange};
+ghost use Rattle.single_run.specs.Ends.{IsEnd, refused_by};
 ghost use Rattle.single_run.specs.Ran.{WereFinished};
 ghost use Rattle.single_run.specs.Run.{AcksAtExit, AcksButNext, AreAllAcked, AreOpened, HasWhole, WasRun};
-ghost use Rattle.single_run.specs.Scanned.{IsScanned};
+ghost use Rattle.frame_fetch.specs.Scanned.{IsScanned};
 ghost use Rattle.single_run.specs.Sharing.{IsDetermined, WereShared};
 
 use crate::frames::run_frames;
-use crate::{Report, RunEnd};
+use crate::report::{Report, report_of};
 use conform_job::{Job, Work};
+use frame_fetch::RunEnd;
 use frame_share::{Share, ShareLog};
 use reel_disk::Disk;
 use reel_writer::Reel;
@@ -29,28 +30,6 @@ use scan_source::Scans;
 use std::alloc::Global;
 use std::marker::Brand;
 use std::sync::ledger::{Blank, Ledger};
-
-/// What a run did to a reel.
-pub fn report_of<N: Work, D: Disk>(job: &Job, reel: &Reel<D, N>, loads: u64) -> Report
-    requires job { job.now ≡ N.job }
-    ensures report { result
-        ≡ record {
-          frames = frames_of N.job;
-          kept = reel.now.kept;
-          rendered = length reel.now.acks;
-          loads = loads;
-          misses = loads;
-        } }
-    ensures reel { IsReelOf N.job D.tells D.history reel.now }
-{
-    Report {
-        frames: job.count(),
-        kept: reel.kept(),
-        rendered: reel.acks().len() as u32,
-        loads,
-        misses: loads,
-    }
-}
 
 /// A run over the frames of a reel, with a share of its own, which hands out its log.
 fn run_shared<N: Work, L: Ledger, S: Scans, D: Disk>(

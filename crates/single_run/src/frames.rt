@@ -8,69 +8,24 @@ ghost use Rattle.frame_render.specs.Frame.{frame_size};
 ghost use Rattle.reel_disk.specs.Runs.{Spares};
 ghost use Rattle.reel_writer.specs.Changes.{IsRunFile};
 ghost use Rattle.reel_writer.specs.Reel.{frames_of, IsReelRun, KeepsReel};
-ghost use Rattle.single_run.specs.Asks.{asks_of_frames, closed_frames, frame_if_closed, keys_of_need};
-ghost use Rattle.single_run.specs.Ends.{IsChange, IsEnd, IsStop, IsUnrendered};
+ghost use Rattle.single_run.specs.Asks.{asks_of_frames, closed_frames, frame_if_closed};
+ghost use Rattle.frame_fetch.specs.Asks.{keys_of_need};
+ghost use Rattle.frame_fetch.specs.Ends.{IsChange};
+ghost use Rattle.single_run.specs.Ends.{IsEnd, IsStop};
 ghost use Rattle.single_run.specs.Ran.{IsPast, IsUnfinished, WereFinished};
 ghost use Rattle.single_run.specs.Run.{AcksButNext, AcksOpenBut, AreOpened};
-ghost use Rattle.single_run.specs.Scanned.{HasLoaded, IsScanned};
-ghost use Rattle.single_run.specs.Sharing.{HasAsked, HasTried};
+ghost use Rattle.frame_fetch.specs.Scanned.{HasLoaded, IsScanned};
+ghost use Rattle.frame_fetch.specs.Sharing.{HasAsked, HasTried};
 
-use crate::RunEnd;
-use crate::sharing::{lent, side_of};
 use conform_job::{Job, Work};
-use frame_render::{FrameBuf, Rendered, Rooms, render};
+use frame_fetch::{RunEnd, make_frame};
+use frame_render::{FrameBuf, Rooms};
 use frame_share::{Share, Units};
 use reel_disk::{Disk, DiskFault};
 use reel_writer::{Hashed, Reel};
 use scan_source::Scans;
 use std::alloc::Global;
 use std::sync::ledger::Ledger;
-
-/// Renders record frame `i` from the source frames that it needs, the old side's before the new
-/// side's. The loads are counted.
-pub fn make_frame<N: Work, L: Ledger, S: Scans>(
-    alloc: Global,
-    job: &Job,
-    scan: &mut S,
-    i: u32,
-    rooms: &mut Rooms<N>,
-    room: FrameBuf,
-    share: &mut Share<N, L>,
-    units: &mut Units<L>,
-    loads: &mut u64,
-) -> Result<Rendered<N>, RunEnd>
-    requires job { job.now ≡ N.job }
-    requires files { Tells N.files (S.world scan.old) }
-    requires infos { AreInfosOf N.job.parts N.files N.job.infos }
-    requires index { i < frames_of N.job }
-    requires room { length room ≡ frame_size N.job }
-    requires closed { units.old.pending ≡ 0 }
-    requires few { loads.old + 2 < 2 ^ 64 }
-    ensures index { IfOk result (λ frame. frame.index ≡ i) }
-    ensures stop { IfErr result (IsUnrendered N.job N.files) }
-    ensures asked { OnOk result (HasAsked share.old share.new (keys_of_need (need_at N.job i))) }
-    ensures tried { OnErr result (HasTried share.old share.new (keys_of_need (need_at N.job i))) }
-    ensures closed { OnOk result (units.new.pending ≡ 0) }
-    ensures loads { HasLoaded 2 loads.old loads.new units.old units.new }
-    ensures changed { IfErr result (λ end. IsChange end → loads.old < loads.new) }
-    ensures scan { IsScanned S.world S.faults S.loads (loads.new - loads.old) (result
-        ≡ Err RunEnd.SourceFault) scan.old scan.new }
-    ensures same { S.same scan.old scan.new }
-{
-    let need = job.need(i);
-    let old = match side_of(alloc, job, scan, need.old, rooms, share, units, loads) {
-        Ok(old) => old,
-        Err(end) => return Err(end),
-    };
-    let new = match side_of(alloc, job, scan, need.new, rooms, share, units, loads) {
-        Ok(new) => new,
-        Err(end) => return Err(end),
-    };
-    let frame = render(job, i, lent(&old), lent(&new), room);
-    rooms.spare.keep(old);
-    rooms.spare.keep(new);
-    Ok(frame)
-}
 
 /// Renders record frame `i` and finishes it, unless it is acknowledged. The room is handed back for
 /// another frame.

@@ -24,9 +24,9 @@ use Rattle.render_board.specs.declared.step.Why.{Why}
 use Rattle.render_board.specs.declared.step.Why.TheVariants.{Source, Disk, Memory, Changed}
 use Rattle.reel_writer.specs.Changes.{HasKept, IsOwnFile, MayWrite}
 use Rattle.reel_writer.specs.Reel.{frames_of, IsReelRun}
-use Rattle.single_run.specs.declared.run_end.Report.{Report}
-use Rattle.single_run.specs.declared.run_end.RunEnd.{RunEnd}
-use Rattle.single_run.specs.declared.run_end.RunEnd.TheVariants.{Done, NoMemory}
+use Rattle.single_run.specs.declared.report.Report.{Report}
+use Rattle.frame_fetch.specs.declared.run_end.RunEnd.{RunEnd}
+use Rattle.frame_fetch.specs.declared.run_end.RunEnd.TheVariants.{Done, NoMemory}
 use Rattle.station.specs.Crews.{AreShared, IsClosedStation, TookNoSteps, TookSteps, WasRunByCrew, WasUnmade, end_by}
 use Rattle.station.specs.declared.crew.Crew.{Crew}
 use Rattle.single_run.specs.Ends.{IsEnd}
@@ -37,7 +37,7 @@ use Rattle.reel_writer.proofs.Writing.{own_file, own_written, writes_wider}
 use Rattle.single_run.proofs.Closing.{images_acked}
 use Rattle.station.proofs.Gathering.{end_done, no_first}
 use Rattle.shared_station.proofs.Opening.{opened_acks, run_back, start_at}
-use Rattle.station.proofs.Resting.{closed_has_stop}
+use Rattle.crew_rest.proofs.Resting.{closed_has_stop}
 use Rattle.shared_station.proofs.StationKeeps.{open_shows}
 
 -- where the first stop stands

@@ -1,10 +1,10 @@
 -- What the workers did, gathered from their seats.
-use Rattle.std.proofs.Common.{◌≡◌, inl, inr, cond, ℕ, zero, suc, ◌+◌, ◌<◌, ◌≤◌, Bool, true, false, List, [], ◌∷◌, All, length, get_or, map, refl, sym, ◌∙◌, ap, subst, arith}
+use Rattle.std.proofs.Common.{◌≡◌, inl, inr, cond, ℕ, zero, suc, ◌+◌, ◌<◌, ◌≤◌, Bool, true, false, List, [], ◌∷◌, All, length, get_or, map, refl, sym, ◌∙◌, ap, subst, arith, set}
 use Rattle.std.specs.Prelude.{◌⊎◌, Option, None, Some, sum_by}
 use Rattle.std.proofs.lemmas.Option.{same_Some}
-use Rattle.std.proofs.lemmas.List.{get_or-map, get_or_past, length-map}
+use Rattle.std.proofs.lemmas.List.{get_or-map, get_or_past, length-map, get_or-set_other, get_or-set_same, get_or_default}
 use Rattle.std.proofs.lemmas.List.Sums.{sum_by-cons}
-use Rattle.std.proofs.lemmas.Bool.{cases_lt, true≢false}
+use Rattle.std.proofs.lemmas.Bool.{cases_lt, true≢false, cases_eq}
 use Rattle.scan_source.specs.World.{World}
 use Rattle.render_board.specs.declared.step.Step.{Step}
 use Rattle.render_board.specs.declared.step.Step.TheVariants.{Claim, Finish, Stop}
@@ -12,15 +12,16 @@ use Rattle.render_board.specs.declared.step.Why.{Why}
 use Rattle.render_board.specs.declared.step.Why.TheVariants.{Source, Disk, Memory, Changed}
 use Rattle.render_board.specs.History.{first_why, is_changed, is_disk, is_source, is_stop_by, stops_of}
 use Rattle.render_board.specs.Board.{has_stop}
-use Rattle.single_run.specs.declared.run_end.RunEnd.TheVariants.{Done, SourceFault, DiskFault}
+use Rattle.frame_fetch.specs.declared.run_end.RunEnd.TheVariants.{Done, SourceFault, DiskFault}
 use Rattle.station.specs.Crews.{AreWorked, end_by}
 use Rattle.station.specs.Each.{EachBecame}
-use Rattle.station.specs.Stepped.{HasWorked, IsFresh}
-use Rattle.station.specs.declared.seat.Seat.{Seat}
-use Rattle.single_run.specs.Ends.{IsChange}
+use Rattle.crew_seat.specs.Stepped.{HasWorked, IsFresh, HasStepped, IsReady}
+use Rattle.crew_seat.specs.declared.seat.Seat.{Seat}
+use Rattle.frame_fetch.specs.Ends.{IsChange}
 use Rattle.shared_station.specs.Marks.{Tallies}
-use Rattle.single_run.specs.Scanned.{IsScanned}
-use Rattle.single_run.proofs.Scanning.{scanned_itself}
+use Rattle.frame_fetch.specs.Scanned.{IsScanned}
+use Rattle.frame_fetch.proofs.Scanning.{scanned_itself}
+use Rattle.crew_seat.proofs.Stepping.{stepped_itself, worked_first, worked_on}
 
 module _ {X : Type 0} (f : X → ℕ) where
   -- a sum that is not 0 has an item that is not 0
@@ -194,3 +195,32 @@ end_done steps (Some Source) first is = cc
 end_done steps (Some Disk) first is = cc
 end_done steps (Some Memory) first is = cc
 end_done steps (Some (Changed key was now)) first is = cc
+
+module _ {S N C A B D E F : Type 0} (told : Option World) (world : S → Option World) (faults loads : S → ℕ) (same : S → S → Type 0) (itself : (s : S) → same s s) (along : (a b c : S) → same a b → same b c → same a c)
+    (xs ys : List (Seat S N C A B D E F)) (s : Seat S N C A B D E F) (threads n m most : ℕ) (some : 0 < threads) (le : n + m ≤ most) (size : length ys ≡ length xs) (ready : All (λ x. IsReady told world x) xs)
+    (worked : EachBecame threads (HasWorked told world faults loads same n) xs ys) (others : (k : ℕ) (d : Seat S N C A B D E F) → threads ≤ k → get_or ys k d ≡ get_or xs k d) where
+  abbrev Became : Seat S N C A B D E F → Seat S N C A B D E F → Type 0
+  Became x y = HasWorked told world faults loads same most x y
+
+  first_most : (x y : Seat S N C A B D E F) → HasWorked told world faults loads same n x y → Became x y
+  first_most x y work = record { few = omega (arith, work.few, le); units = work.units; scanned = work.scanned; lent = work.lent; causes = work.causes }
+
+  worked_at : (k : ℕ) (d : Seat S N C A B D E F) → k < length xs → Became (get_or xs k d) (get_or ys k d)
+  worked_at k d lt = elim (cases_lt k threads) [
+    | inl early ↦ first_most (get_or xs k d) (get_or ys k d) (worked k d early)
+    | inr late ↦
+        subst (λ (y : Seat S N C A B D E F). Became (get_or xs k d) y) (sym (others k d late))
+        (worked_first told world faults loads same 0 most (get_or xs k d) (get_or xs k d) (omega arith) (ready k d lt).none (ready k d lt).unfailed (stepped_itself told world faults loads same itself 0 (get_or xs k d)))
+  ]
+
+  -- each seat was worked in, or nothing was done to it; the first one may have gone on
+  pub worked_all : (e : Seat S N C A B D E F) → HasStepped told world faults loads same m (get_or ys 0 e) s → EachBecame (length xs) (HasWorked told world faults loads same most) xs (set ys 0 s)
+  worked_all e stepped k d lt = elim (cases_eq k 0) [
+    | inl front ↦
+        let first : 0 < length ys = omega (arith, lt, size) in
+        subst (λ (i : ℕ). Became (get_or xs i d) (get_or (set ys 0 s) i d)) (sym front)
+        (subst (λ (y : Seat S N C A B D E F). Became (get_or xs 0 d) y) (sym (get_or-set_same ys 0 s d first))
+        (worked_on told world faults loads same along n m most (get_or xs 0 d) (get_or ys 0 d) s le (worked 0 d some)
+        (subst (λ (y : Seat S N C A B D E F). HasStepped told world faults loads same m y s) (get_or_default ys 0 e d first) stepped)))
+    | inr other ↦ subst (λ (y : Seat S N C A B D E F). Became (get_or xs k d) y) (sym (get_or-set_other ys 0 k s d other)) (worked_at k d lt)
+  ]

@@ -1,5 +1,2 @@
 pub mod Crewing
 pub mod Gathering
-pub mod Resting
-pub mod Seating
-pub mod Working

@@ -18,12 +18,12 @@ use Rattle.render_board.specs.declared.step.Why.TheVariants.{Source, Disk, Memor
 use Rattle.resume_ledger.specs.Ledger.{IsFit}
 use Rattle.reel_writer.specs.Changes.{HasKept}
 use Rattle.reel_writer.specs.Reel.{frames_of, HasAcked}
-use Rattle.single_run.specs.declared.run_end.Report.{Report}
-use Rattle.single_run.specs.declared.run_end.RunEnd.{RunEnd}
-use Rattle.single_run.specs.declared.run_end.RunEnd.TheVariants.{Done, Changed as IsNow, SourceFault, DiskFault, NoMemory}
+use Rattle.single_run.specs.declared.report.Report.{Report}
+use Rattle.frame_fetch.specs.declared.run_end.RunEnd.{RunEnd}
+use Rattle.frame_fetch.specs.declared.run_end.RunEnd.TheVariants.{Done, Changed as IsNow, SourceFault, DiskFault, NoMemory}
 use Rattle.single_run.specs.Ends.{IsEnd}
 use Rattle.single_run.specs.Run.{WasUnopened}
-use Rattle.single_run.specs.Scanned.{IsScanned}
+use Rattle.frame_fetch.specs.Scanned.{IsScanned}
 use Rattle.shared_station.specs.Station.{StationView, IsStation, ShowsDone}
 use Rattle.station.specs.declared.crew.Crew.{Crew}
 

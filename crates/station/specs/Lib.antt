@@ -1,6 +1,2 @@
 pub mod Crews
 pub mod Each
-pub mod Left
-pub mod Seats
-pub mod Stepped
-pub mod Worked

@@ -1,5 +1,5 @@
 //! A crew: a worker for each of several scans over one reel, and what is known once all have returned.
-ghost use Rattle.std.specs.Prelude.{◌≡◌, ◌<◌, ◌≤◌, All, [], true, length, vec_len, vec_capacity, min, is_some, IfErr, IfOk, IfSome, Some, None};
+ghost use Rattle.std.specs.Prelude.{◌≡◌, ◌≤◌, All, [], true, length, vec_len, vec_capacity, min, is_some, IfErr, IfOk, IfSome, Some, None};
 ghost use Rattle.cf_base.specs.Count.{HasCause};
 ghost use Rattle.conform_job.specs.Answers.{AreInfosOf};
 ghost use Rattle.conform_job.specs.Names.{Tells};
@@ -14,23 +14,23 @@ ghost use Rattle.scan_source.specs.World.{World};
 ghost use Rattle.frame_share.specs.Share.{IsBlankOf as IsCounterOf};
 ghost use Rattle.frame_share.specs.Units.{whole};
 ghost use Rattle.station.specs.Crews.{AreShared, HasClosedStation, HasDiskFailed, HasScansBack, IsClosedStation, WasRunByCrew, end_by, log_of};
-ghost use Rattle.station.specs.Left.{HasFinished};
-ghost use Rattle.single_run.specs.Ends.{IsChange};
+ghost use Rattle.crew_rest.specs.Left.{HasFinished};
+ghost use Rattle.frame_fetch.specs.Ends.{IsChange};
 ghost use Rattle.shared_station.specs.Marks.{IsBlankOf};
 ghost use Rattle.single_run.specs.Run.{AreAllAcked, HasWhole};
 ghost use Rattle.shared_station.specs.StationSteps.{IsBeginning};
 
-use crate::seat::Seat;
-use crate::seats::{push_within, seat_all, threads_each, unseat};
 use crate::work::work_all;
 use conform_job::{Job, Work};
+use crew_seat::{Seat, push_within, seat_all, threads_each, unseat};
+use frame_fetch::RunEnd;
 use frame_share::{Share, ShareLog, Units};
 use reel_disk::{Disk, Start};
 use reel_writer::Reel;
 use render_board::{Board, History, Step, Why};
 use scan_source::Scans;
 use shared_station::{Crewed, Named, Station, Workers};
-use single_run::{Report, RunEnd, end_of_opening, report_of};
+use single_run::{Report, end_of_opening, report_of};
 use std::alloc::Global;
 use std::marker::Brand;
 use std::sync::Wait;

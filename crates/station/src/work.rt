@@ -2,15 +2,14 @@
 ghost use Rattle.std.specs.Prelude.{◌≡◌, ◌↔◌, ◌<◌, ◌≤◌, ℕ, All, true, length, slice_index_or};
 ghost use Rattle.conform_job.specs.Answers.{AreInfosOf};
 ghost use Rattle.station.specs.Each.{EachBecame};
-ghost use Rattle.station.specs.Left.{HasFinished};
-ghost use Rattle.station.specs.Stepped.{HasWorked, IsReady};
+ghost use Rattle.crew_rest.specs.Left.{HasFinished};
+ghost use Rattle.crew_seat.specs.Stepped.{HasWorked, IsReady};
 
 use crate::each::{Works, work_on_each};
-use crate::rest::Rest;
-use crate::rounds::Shared;
-use crate::seat::Seat;
-use crate::shared_frames::SharedFrames;
 use conform_job::{Job, Work};
+use crew_rest::Rest;
+use crew_seat::Seat;
+use crew_worker::{Shared, SharedFrames};
 use frame_share::Share;
 use reel_disk::{Disk, Start};
 use scan_source::Scans;
@@ -24,7 +23,7 @@ impl<S: Scans, D: Disk, N: Work + Start, C: Crewed, R: Threads + Wait + Sync> Wo
     ghost use Rattle.std.specs.Prelude.{◌≡◌};
     ghost use denote.Param.Send.{IsSync};
     ghost use Rattle.conform_job.specs.Answers.{AreInfosOf};
-    ghost use Rattle.station.specs.Stepped.{HasWorked, IsReady};
+    ghost use Rattle.crew_seat.specs.Stepped.{HasWorked, IsReady};
 
     ghost may = { λ shared seat. IsSync R.row × (shared.job.now ≡ N.job) × AreInfosOf N.job.parts N.files N.job.infos
         × IsReady N.files S.world seat };

@@ -1,5 +1,5 @@
 -- The key of a file that the job has is of a reel in the table.
-use Rattle.single_run.proofs.Asking.{needed_of_info}
+use Rattle.frame_fetch.proofs.Asking.{needed_of_info}
 use Rattle.project_run.proofs.report.changed.Goals as goal
 
 pub name_of-requires : goal.name_of-requires

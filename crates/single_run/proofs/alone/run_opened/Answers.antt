@@ -5,9 +5,9 @@ use Rattle.reel_writer.specs.Reel.{frames_of, HasAcked}
 use Rattle.single_run.specs.Asks.{IsNext, closed_frames}
 use Rattle.single_run.specs.Ran.{WereFinished}
 use Rattle.single_run.specs.Run.{AreAllAcked}
-use Rattle.single_run.specs.declared.run_end.Report.{Report}
-use Rattle.single_run.specs.declared.run_end.RunEnd.{RunEnd}
-use Rattle.single_run.specs.declared.run_end.RunEnd.TheVariants as run_end
+use Rattle.single_run.specs.declared.report.Report.{Report}
+use Rattle.frame_fetch.specs.declared.run_end.RunEnd.{RunEnd}
+use Rattle.frame_fetch.specs.declared.run_end.RunEnd.TheVariants as run_end
 use Rattle.single_run.proofs.Closing.{rose_by, images_acked, exit_of, all_done}
 use Rattle.single_run.proofs.alone.run_opened.Goals as goal
 

@@ -9,7 +9,7 @@ use Rattle.reel_writer.specs.Changes.{IsOwnFile, IsRunFile, MayWrite}
 use Rattle.reel_writer.proofs.ReelLaws.{reel_run_along}
 use Rattle.reel_writer.proofs.Writing.{opened_has, own_file, own_written, writes_wider}
 use Rattle.single_run.specs.Ends.{refused_by}
-use Rattle.single_run.specs.declared.run_end.RunEnd.TheVariants as run_end
+use Rattle.frame_fetch.specs.declared.run_end.RunEnd.TheVariants as run_end
 use Rattle.single_run.proofs.Closing.{rest_of, was_refused, whole_reel}
 use Rattle.single_run.proofs.alone.run_owned.Goals as goal
 

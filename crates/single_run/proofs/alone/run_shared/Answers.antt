@@ -4,8 +4,8 @@ use Rattle.frame_share.specs.Share.{IsLegal, ShareView}
 use Rattle.frame_share.specs.Units.{Tally}
 use Rattle.reel_writer.proofs.ReelLaws.{reel_run_itself}
 use Rattle.single_run.specs.Ran.{WereFinished}
-use Rattle.single_run.specs.Sharing.{IsPaired}
-use Rattle.single_run.specs.declared.run_end.RunEnd.TheVariants as end
+use Rattle.frame_fetch.specs.Sharing.{IsPaired}
+use Rattle.frame_fetch.specs.declared.run_end.RunEnd.TheVariants as end
 use Rattle.single_run.proofs.Determined.{determined}
 use Rattle.single_run.proofs.Running.{unbegun}
 use Rattle.single_run.proofs.alone.run_shared.Goals as goal

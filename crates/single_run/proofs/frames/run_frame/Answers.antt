@@ -8,12 +8,13 @@ use Rattle.reel_writer.specs.Reel.{IsWrittenFile}
 use Rattle.reel_writer.proofs.ReelLaws.{reel_run_itself}
 use Rattle.reel_writer.specs.View.{ReelView, after_finish}
 use Rattle.reel_writer.proofs.Writing.{kept_itself, run_file}
-use Rattle.single_run.specs.Asks.{keys_of_need}
+use Rattle.frame_fetch.specs.Asks.{keys_of_need}
 use Rattle.single_run.specs.Ran.{IsPast}
-use Rattle.single_run.specs.Sharing.{HasAsked}
+use Rattle.frame_fetch.specs.Sharing.{HasAsked}
 use Rattle.single_run.proofs.Closing.{others_acked}
-use Rattle.single_run.proofs.Counting.{loaded_none, unrendered_stop}
-use Rattle.single_run.proofs.Logs.{asked_is_tried, asked_none}
+use Rattle.frame_fetch.proofs.Counting.{loaded_none}
+use Rattle.single_run.proofs.Running.{unrendered_stop}
+use Rattle.frame_fetch.proofs.Logs.{asked_is_tried, asked_none}
 use Rattle.single_run.proofs.Stepping.{past_finish, past_itself, asks_if_open, asks_if_closed}
 use Rattle.single_run.proofs.frames.run_frame.Goals as goal
 

@@ -7,11 +7,12 @@ use Rattle.reel_writer.specs.Reel.{frames_of}
 use Rattle.reel_writer.proofs.ReelLaws.{reel_run_itself, reel_run_along}
 use Rattle.single_run.specs.Asks.{IsNext, asks_of_frames, closed_frames}
 use Rattle.single_run.specs.Ran.{ArePast, WereFinished}
-use Rattle.single_run.specs.Sharing.{IsPaired, asks_of}
-use Rattle.single_run.specs.declared.run_end.RunEnd.TheVariants as end
-use Rattle.single_run.proofs.Logs.{asks_along, paired_along}
-use Rattle.single_run.proofs.Running.{acked_then, acks_are, is_next, all_finished, asks_more, asks_first, taken, stopped, unbegun, gates_are, run_file_along, acks_then, gates_then, kept_then, err_same, not_done}
-use Rattle.single_run.proofs.Scanning.{scanned_itself, scanned_as, scanned_along}
+use Rattle.frame_fetch.specs.Sharing.{IsPaired, asks_of}
+use Rattle.frame_fetch.specs.declared.run_end.RunEnd.TheVariants as end
+use Rattle.frame_fetch.proofs.Logs.{asks_along, paired_along}
+use Rattle.single_run.proofs.Running.{acked_then, acks_are, is_next, all_finished, asks_more, asks_first, taken, stopped, unbegun, gates_are, run_file_along, acks_then, gates_then, kept_then, not_done}
+use Rattle.frame_fetch.proofs.Counting.{err_same}
+use Rattle.frame_fetch.proofs.Scanning.{scanned_itself, scanned_as, scanned_along}
 use Rattle.single_run.proofs.Stepping.{past_none, past_more, gate_still, if_still}
 use Rattle.single_run.proofs.frames.run_frames.Goals as goal
 

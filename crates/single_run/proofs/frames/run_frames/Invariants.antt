@@ -5,8 +5,8 @@ use Rattle.reel_writer.specs.Changes.{IsRunFile}
 use Rattle.reel_writer.specs.Reel.{frames_of, IsReelRun}
 use Rattle.single_run.specs.Asks.{asks_of_frames, closed_frames}
 use Rattle.single_run.specs.Ran.{ArePast}
-use Rattle.single_run.specs.Scanned.{IsScanned}
-use Rattle.single_run.specs.Sharing.{IsPaired, asks_of}
+use Rattle.frame_fetch.specs.Scanned.{IsScanned}
+use Rattle.frame_fetch.specs.Sharing.{IsPaired, asks_of}
 use Rattle.single_run.proofs.frames.run_frames.Given as goal
 
 -- the frames below i are finished, and nothing failed

@@ -11,7 +11,7 @@ use Rattle.reel_writer.specs.Changes.{IsOwnFile, MayWrite}
 use Rattle.reel_writer.specs.View.{ReelView}
 use Rattle.reel_writer.proofs.Writing.{writes_wider}
 use Rattle.single_run.specs.Run.{WasUnopened}
-use Rattle.single_run.specs.declared.run_end.RunEnd.TheVariants as ends
+use Rattle.frame_fetch.specs.declared.run_end.RunEnd.TheVariants as ends
 use Rattle.single_run.proofs.Closing.{was_refused, whole_reel}
 use Rattle.station.proofs.Crewing.{by_steps, crew_run, crew_spares, crew_writes, crewed, stepless, was_unmade, with_steps}
 use Rattle.station.proofs.Gathering.{end_disk, unworked}

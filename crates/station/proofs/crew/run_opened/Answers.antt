@@ -3,14 +3,14 @@ use Rattle.std.specs.declared.alloc.Global.{Global}
 use Rattle.conform_job.specs.Names.{Tells}
 use Rattle.render_board.specs.Board.{has_stop, is_done}
 use Rattle.render_board.specs.History.{first_why, is_changed, is_source, stops_of}
-use Rattle.single_run.specs.Ends.{IsChange}
+use Rattle.frame_fetch.specs.Ends.{IsChange}
 use Rattle.frame_share.specs.Share.{IsLegal, ShareView, misses_of}
 use Rattle.frame_share.specs.Units.{Tally}
-use Rattle.station.specs.Stepped.{IsFresh, WasCounted}
+use Rattle.crew_seat.specs.Stepped.{IsFresh, WasCounted}
 use Rattle.shared_station.specs.Station.{StationView}
 use Rattle.shared_station.specs.StationSteps.{IsBeginning}
 use Rattle.station.proofs.Gathering.{changed_seat, end_changed, end_source, gathered}
-use Rattle.station.proofs.Seating.{all_after, all_at, refilled, was_counted}
+use Rattle.crew_seat.proofs.Seating.{all_after, all_at, refilled, was_counted}
 use Rattle.station.proofs.crew.run_opened.Goals as goal
 
 pub new-station-requires-clause-beginning : goal.new-station-requires-clause-beginning

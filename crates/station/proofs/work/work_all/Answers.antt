@@ -1,7 +1,7 @@
 use Rattle.std.proofs.Common.{sym, ◌∙◌, subst, arith}
 use Rattle.std.proofs.lemmas.List.{get_or-set_other}
 use Rattle.conform_job.specs.Names.{Tells}
-use Rattle.station.proofs.Resting.{worked_all}
+use Rattle.station.proofs.Gathering.{worked_all}
 use Rattle.station.proofs.work.work_all.Goals as goal
 
 pub finish_rest-requires-clause-files : goal.finish_rest-requires-clause-files

@@ -1,0 +1,218 @@
+-- How steps that are made from a seat add up.
+use Rattle.std.proofs.Common.{◌≡◌, inl, inr, ℕ, ◌+◌, ◌-◌, ◌<◌, ◌≤◌, Bool, true, false, ◌||◌, refl, sym, ◌∙◌, ap, subst, arith}
+use Rattle.std.specs.Prelude.{◌↔◌, Option, Result, Ok, Err, IfErr, OnErr, OnOk}
+use Rattle.std.proofs.lemmas.Bool.{true≢false, cases_lt}
+use Rattle.cf_base.specs.Count.{HasRisen}
+use Rattle.scan_source.specs.World.{World}
+use Rattle.render_board.specs.declared.step.Why.{Why}
+use Rattle.render_board.specs.declared.step.Why.TheVariants.{Source, Disk, Memory, Changed}
+use Rattle.conform_job.specs.Job.{JobData}
+use Rattle.frame_share.specs.Units.{Tally}
+use Rattle.frame_fetch.specs.Ends.{IsChange, IsUnrendered}
+use Rattle.frame_fetch.specs.declared.run_end.RunEnd.{RunEnd}
+use Rattle.frame_fetch.specs.declared.run_end.RunEnd.TheVariants.{Done, OtherJob, BadLedger, Changed as IsNow, SourceFault, DiskFault, NoMemory}
+use Rattle.reel_disk.specs.declared.disk.DiskFault.{DiskFault as DiskFailed}
+use Rattle.shared_station.specs.Leaving.{HasLeft}
+use Rattle.shared_station.specs.Marks.{Tallies, raised_by}
+use Rattle.shared_station.specs.declared.leaving.Leave.{Leave}
+use Rattle.shared_station.specs.declared.leaving.Leave.TheVariants as leaves
+use Rattle.shared_station.specs.StationSteps.{why_by}
+use Rattle.conform_job.specs.Answers.{count_after}
+use Rattle.frame_fetch.specs.Scanned.{HasLoaded, IsScanned}
+use Rattle.crew_seat.specs.Stepped.{HasStepped, HasWorked}
+use Rattle.crew_seat.specs.Worked.{HasCauses, HasMarked}
+use Rattle.crew_seat.specs.declared.seat.Seat.{Seat}
+use Rattle.frame_fetch.proofs.Scanning.{loads_along, scanned_as, scanned_itself}
+use Rattle.crew_seat.proofs.Working.{parts_along, causes_none}
+
+or_left : (a b : Bool) → a ≡ true → (a || b) ≡ true
+or_left true b is = refl
+or_left false b is = absurd (true≢false (sym is))
+
+or_right : (a b : Bool) → b ≡ true → (a || b) ≡ true
+or_right true b is = refl
+or_right false b is = is
+
+or_same : (a b c : Bool) → ((a || b) || c) ≡ (a || (b || c))
+or_same true b c = refl
+or_same false b c = refl
+
+or_none : (a : Bool) → a ≡ (a || false)
+or_none true = refl
+or_none false = refl
+
+-- a failure, where there was none before
+pub failed_alone : (had failed : Bool) → had ≡ false → failed ≡ (had || failed)
+failed_alone true failed none = absurd (true≢false none)
+failed_alone false failed none = refl
+
+module _ {S : Type 0} (told : Option World) (world : S → Option World) (faults loads : S → ℕ) where
+  both_scanned : (old mid new : S) (n m : ℕ) (a b : Bool) → IsScanned world faults loads n (a ≡ true) old mid → IsScanned world faults loads m (b ≡ true) mid new → IsScanned world faults loads (n + m) ((a || b) ≡ true) old new
+  both_scanned old mid new n m a b first second = record {
+    asked = second.asked ∙ ap (count_after m) first.asked ∙ loads_along n m (loads old);
+    later = omega (arith, first.later, second.later);
+    failed = rose a b first second;
+    steady = λ never. second.steady (λ is. never (or_right a b is)) ∙ first.steady (λ is. never (or_left a b is));
+    told = second.told ∙ first.told;
+  }
+    where
+      rose : (a b : Bool) → IsScanned world faults loads n (a ≡ true) old mid → IsScanned world faults loads m (b ≡ true) mid new → (a || b) ≡ true → HasRisen (faults old) (faults new)
+      rose true b first second is = let up = first.failed refl in let on = second.later in omega (arith, up, on)
+      rose false b first second is = let still = first.steady (λ e. true≢false (sym e)) in subst (λ (k : ℕ). HasRisen k (faults new)) still (second.failed is)
+
+  both_cause : (a b c : Tallies) (n m : ℕ) (f g : Bool) → HasCauses told n f a b → HasCauses told m g b c → HasCauses told (n + m) (f || g) a c
+  both_cause a b c n m f g first second = record {
+    parts = parts_along a b c first.parts second.parts;
+    source = λ rose. elim (cases_lt a.source.amount b.source.amount) [
+      | inl early ↦ or_left f g (first.source early)
+      | inr none ↦ or_right f g (second.source (omega (arith, none, rose)))
+    ];
+    changed = λ rose. elim (cases_lt a.changed.amount b.changed.amount) [
+      | inl early ↦ let cause = first.changed early in (omega (arith, cause.0), cause.1)
+      | inr none ↦ let cause = second.changed (omega (arith, none, rose)) in (omega (arith, cause.0), cause.1)
+    ];
+  }
+
+-- a stop that is not for a source file
+abbrev IsQuiet : Why → Type 0
+IsQuiet Source = ⊥
+IsQuiet Disk = Unit {0}
+IsQuiet Memory = Unit {0}
+IsQuiet (Changed key was now) = ⊥
+
+quiet_causes : (told : Option World) (why : Why) (more : ℕ) (failed : Bool) (before : Tallies) → IsQuiet why → HasCauses told more failed before (raised_by why before)
+quiet_causes told Source more failed before quiet = absurd quiet
+quiet_causes told Disk more failed before quiet = record { parts = record { source = refl; disk = refl; memory = refl; changed = refl }; source = λ rose. absurd (omega (arith, rose)); changed = λ rose. absurd (omega (arith, rose)) }
+quiet_causes told Memory more failed before quiet = record { parts = record { source = refl; disk = refl; memory = refl; changed = refl }; source = λ rose. absurd (omega (arith, rose)); changed = λ rose. absurd (omega (arith, rose)) }
+quiet_causes told (Changed key was now) more failed before quiet = absurd quiet
+
+-- a stop has the cause of the end that it stands for
+stop_causes : (job : JobData) (told : Option World) (end : RunEnd) (more : ℕ) (failed : Bool) (before : Tallies) → IsUnrendered job told end → (end ≡ SourceFault → failed ≡ true) → (IsChange end → 1 ≤ more) → HasCauses told more failed before (raised_by (why_by end) before)
+stop_causes job told Done more failed before stop fails loaded = absurd stop
+stop_causes job told (OtherJob kept wanted) more failed before stop fails loaded = absurd stop
+stop_causes job told (BadLedger len) more failed before stop fails loaded = absurd stop
+stop_causes job told (IsNow key was now) more failed before stop fails loaded = record { parts = record { source = refl; disk = refl; memory = refl; changed = refl }; source = λ rose. absurd (omega (arith, rose)); changed = λ rose. (loaded (key, was, now, refl), stop.untold) }
+stop_causes job told SourceFault more failed before stop fails loaded = record { parts = record { source = refl; disk = refl; memory = refl; changed = refl }; source = λ rose. fails refl; changed = λ rose. absurd (omega (arith, rose)) }
+stop_causes job told DiskFault more failed before stop fails loaded = absurd stop
+stop_causes job told NoMemory more failed before stop fails loaded = quiet_causes told Memory more failed before tt
+
+module _ (told : Option World) {T : Type 0} (made : Result T RunEnd) (before now : Tallies) where
+  pub marked_none : now ≡ before → HasMarked told made before now
+  marked_none same loads failed fails loaded =
+      subst (HasCauses told loads failed before) (sym same) (causes_none told before before loads failed (record { source = refl; disk = refl; memory = refl; changed = refl }) (record { source = refl; changed = refl }))
+
+  pub marked_disk : now ≡ raised_by Disk before → HasMarked told made before now
+  marked_disk same loads failed fails loaded = subst (HasCauses told loads failed before) (sym same) (quiet_causes told Disk loads failed before tt)
+
+  pub marked_end : (job : JobData) (end : RunEnd) (why : Why) → made ≡ Err end → IfErr made (IsUnrendered job told) → why ≡ why_by end → now ≡ raised_by why before → HasMarked told made before now
+  marked_end job end why is stop by same loads failed fails loaded =
+      subst (HasCauses told loads failed before) (sym (same ∙ ap (λ (w : Why). raised_by w before) by))
+      (stop_causes job told end loads failed before (subst (λ (r : Result T RunEnd). IfErr r (IsUnrendered job told)) is stop) (λ fault. fails (is ∙ ap Err fault)) (subst (λ (r : Result T RunEnd). IfErr r (λ e. IsChange e → 1 ≤ loads)) is loaded))
+
+  -- a finish that may have failed
+  pub marked_finish : (result : Result (Unit {0}) DiskFailed) → OnOk result (now ≡ before) → OnErr result (now ≡ raised_by Disk before) → HasMarked told made before now
+  marked_finish (Ok done) same raised = marked_none same
+  marked_finish (Err fault) same raised = marked_disk raised
+
+  -- a stop, or none where the worker was turned away
+  pub marked_left : (Is : Why → Type 0) (leave : Leave) → HasLeft Is before now leave → ((why : Why) → Is why → now ≡ raised_by why before → HasMarked told made before now) → HasMarked told made before now
+  marked_left Is leaves.Stopped (why, is, same) each = each why is same
+  marked_left Is (leaves.Away reason) same each = marked_none same
+
+module _ {S N C A B D E F : Type 0} (told : Option World) (world : S → Option World) (faults loads : S → ℕ) (same : S → S → Type 0) where
+  abbrev Stepped : ℕ → Seat S N C A B D E F → Seat S N C A B D E F → Type 0
+  Stepped most old new = HasStepped told world faults loads same most old new
+
+  abbrev Worked : ℕ → Seat S N C A B D E F → Seat S N C A B D E F → Type 0
+  Worked most old new = HasWorked told world faults loads same most old new
+
+  -- nothing was loaded, and a stop may be counted that is not for a source file
+  pub stepped_marked : ((s : S) → same s s) → (most : ℕ) (old new : Seat S N C A B D E F) → new.scan ≡ old.scan → new.units ≡ old.units → new.loads ≡ old.loads → new.has_failed ≡ old.has_failed → HasCauses told 0 false old.marks new.marks → Stepped most old new
+  stepped_marked itself most old new scan units count has causes = record {
+    more = 0;
+    failed = false;
+    few = omega arith;
+    counts = omega (arith, count);
+    fails = has ∙ or_none old.has_failed;
+    units = record { parts = ap (λ (u : Tally). u.parts) units; amount = let amount = ap (λ (u : Tally). u.amount) units in omega (arith, amount) };
+    scanned = subst (λ (s : S). IsScanned world faults loads 0 (false ≡ true) old.scan s) (sym scan) (scanned_itself world faults loads (false ≡ true) (λ e. true≢false (sym e)) old.scan);
+    lent = subst (λ (s : S). same old.scan s) (sym scan) (itself old.scan);
+    causes = causes;
+  }
+
+  pub stepped_itself : ((s : S) → same s s) → (most : ℕ) (seat : Seat S N C A B D E F) → Stepped most seat seat
+  stepped_itself itself most seat = stepped_marked itself most seat seat refl refl refl refl (causes_none told seat.marks seat.marks 0 false (record { source = refl; disk = refl; memory = refl; changed = refl }) (record { source = refl; changed = refl }))
+
+  -- the worker has stopped for want of memory, or was turned away
+  pub stepped_left : ((s : S) → same s s) → (most : ℕ) (old new : Seat S N C A B D E F) (leave : Leave) → new.scan ≡ old.scan → new.units ≡ old.units → new.loads ≡ old.loads → new.has_failed ≡ old.has_failed
+      → HasLeft (λ why. why ≡ Memory) old.marks new.marks leave → Stepped most old new
+  stepped_left itself most old new leave scan units count has left =
+      stepped_marked itself most old new scan units count has (by leave left)
+    where
+      by : (leave : Leave) → HasLeft (λ why. why ≡ Memory) old.marks new.marks leave → HasCauses told 0 false old.marks new.marks
+      by leaves.Stopped (why, is, raised) = subst (HasCauses told 0 false old.marks) (sym (raised ∙ ap (λ (w : Why). raised_by w old.marks) is)) (quiet_causes told Memory 0 false old.marks tt)
+      by (leaves.Away reason) still = subst (HasCauses told 0 false old.marks) (sym still) (causes_none told old.marks old.marks 0 false (record { source = refl; disk = refl; memory = refl; changed = refl }) (record { source = refl; changed = refl }))
+
+  pub stepped_along : ((a b c : S) → same a b → same b c → same a c) → (n m most : ℕ) (old mid new : Seat S N C A B D E F) → n + m ≤ most → Stepped n old mid → Stepped m mid new → Stepped most old new
+  stepped_along along n m most old mid new le first second = record {
+    more = first.more + second.more;
+    failed = first.failed || second.failed;
+    few = let p = first.few in let q = second.few in omega (arith, p, q, le);
+    counts = let p = first.counts in let q = second.counts in omega (arith, p, q);
+    fails = second.fails ∙ ap (λ (o : Bool). o || second.failed) first.fails ∙ or_same old.has_failed first.failed second.failed;
+    units = record { parts = second.units.parts ∙ first.units.parts; amount = let p = first.units.amount in let q = second.units.amount in omega (arith, p, q) };
+    scanned = both_scanned told world faults loads old.scan mid.scan new.scan first.more second.more first.failed second.failed first.scanned second.scanned;
+    lent = along old.scan mid.scan new.scan first.lent second.lent;
+    causes = both_cause told world faults loads old.marks mid.marks new.marks first.more second.more first.failed second.failed first.causes second.causes;
+  }
+
+  pub stepped_within : (most more : ℕ) (old new : Seat S N C A B D E F) → most ≤ more → Stepped most old new → Stepped more old new
+  stepped_within most more old new le step = record { more = step.more; failed = step.failed; few = let few = step.few in omega (arith, few, le); counts = step.counts; fails = step.fails; units = step.units; scanned = step.scanned; lent = step.lent; causes = step.causes }
+
+  -- a frame was made or could not be, and its stop was counted
+  pub stepped_made : {T : Type 0} (most : ℕ) (old new : Seat S N C A B D E F) (made : Result T RunEnd) (fault : Bool) → (fault ≡ true) ↔ (made ≡ Err SourceFault) → new.has_failed ≡ (old.has_failed || fault)
+      → HasLoaded most old.loads new.loads old.units new.units → IsScanned world faults loads (new.loads - old.loads) (made ≡ Err SourceFault) old.scan new.scan → same old.scan new.scan
+      → IfErr made (λ end. IsChange end → old.loads < new.loads) → HasMarked told made old.marks new.marks → Stepped most old new
+  stepped_made {T = T} most old new made fault is has counted scanned lent changed marked = record {
+    more = new.loads - old.loads;
+    failed = fault;
+    few = omega (arith, counted.few, counted.later);
+    counts = omega (arith, counted.later);
+    fails = has;
+    units = record { parts = counted.parts; amount = omega (arith, counted.misses, counted.later) };
+    scanned = scanned_as world faults loads old.scan new.scan _ _ _ (fault ≡ true) refl is.0 is.1 scanned;
+    lent = lent;
+    causes = marked (new.loads - old.loads) fault is.1 (loaded made changed);
+  }
+    where
+      loaded : (made : Result T RunEnd) → IfErr made (λ end. IsChange end → old.loads < new.loads) → IfErr made (λ end. IsChange end → 1 ≤ new.loads - old.loads)
+      loaded (Ok frame) more = tt
+      loaded (Err end) more = λ change. let lt = more change in omega (arith, lt)
+
+  -- from nothing on, the steps are all that the worker did
+  pub worked_first : (most more : ℕ) (old new : Seat S N C A B D E F) → most ≤ more → old.loads ≡ 0 → old.has_failed ≡ false → Stepped most old new → Worked more old new
+  worked_first most more old new le none unfailed step =
+      let count : new.loads ≡ step.more = omega (arith, step.counts, none) in
+      let has : new.has_failed ≡ step.failed = step.fails ∙ ap (λ (b : Bool). b || step.failed) unfailed in
+      record {
+        few = omega (arith, step.few, count, le);
+        units = record { parts = step.units.parts; amount = omega (arith, step.units.amount, count) };
+        scanned = subst (λ (n : ℕ). IsScanned world faults loads n (new.has_failed ≡ true) old.scan new.scan) (sym count) (subst (λ (b : Bool). IsScanned world faults loads step.more (b ≡ true) old.scan new.scan) (sym has) step.scanned);
+        lent = step.lent;
+        causes = subst (λ (n : ℕ). HasCauses told n new.has_failed old.marks new.marks) (sym count) (subst (λ (b : Bool). HasCauses told step.more b old.marks new.marks) (sym has) step.causes);
+      }
+
+  pub worked_on : ((a b c : S) → same a b → same b c → same a c) → (n m most : ℕ) (old mid new : Seat S N C A B D E F) → n + m ≤ most → Worked n old mid → Stepped m mid new → Worked most old new
+  worked_on along n m most old mid new le first second =
+      let count = second.counts in
+      record {
+        few = omega (arith, first.few, second.few, count, le);
+        units = record { parts = second.units.parts ∙ first.units.parts; amount = let p = first.units.amount in let q = second.units.amount in omega (arith, p, q, count) };
+        scanned = subst (λ (n : ℕ). IsScanned world faults loads n (new.has_failed ≡ true) old.scan new.scan) (sym count)
+            (subst (λ (b : Bool). IsScanned world faults loads (mid.loads + second.more) (b ≡ true) old.scan new.scan) (sym second.fails)
+            (both_scanned told world faults loads old.scan mid.scan new.scan mid.loads second.more mid.has_failed second.failed first.scanned second.scanned));
+        lent = along old.scan mid.scan new.scan first.lent second.lent;
+        causes = subst (λ (n : ℕ). HasCauses told n new.has_failed old.marks new.marks) (sym count)
+            (subst (λ (b : Bool). HasCauses told (mid.loads + second.more) b old.marks new.marks) (sym second.fails)
+            (both_cause told world faults loads old.marks mid.marks new.marks mid.loads second.more mid.has_failed second.failed first.causes second.causes));
+      }

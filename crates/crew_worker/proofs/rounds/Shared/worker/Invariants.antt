@@ -1,0 +1,19 @@
+use Rattle.std.proofs.Common.{◌≡◌, ◌*◌, ◌≤◌, false, length}
+use Rattle.frame_render.specs.Frame.{frame_size}
+use Rattle.reel_writer.specs.Reel.{frames_of}
+use Rattle.crew_seat.specs.Stepped.{HasStepped}
+use Rattle.crew_worker.proofs.rounds.Shared.worker.Given as goal
+
+-- no round has stopped
+abbrev pub invariant-loop : goal.invariant-loop
+invariant-loop g l = record {
+  within : l.counter ≤ frames_of g.N.Work.job;
+  ending : l.end ≡ frames_of g.N.Work.job;
+  short : l.end ≤ 262144;
+  number : l.seat.number ≡ l.fn.seat.number;
+  closed : l.seat.units.pending ≡ 0;
+  room : length l.room ≡ frame_size g.N.Work.job;
+  unfailed : l.seat.has_failed ≡ false;
+  marks : l.seat.marks ≡ l.fn.seat.marks;
+  stepped : HasStepped g.N.Work.files g.S.Scans.world g.S.Scans.faults g.S.Scans.loads g.S.Scans.same (2 * l.counter) l.fn.seat l.seat;
+}

@@ -1,0 +1,184 @@
+//! A worker's rounds: a claim under the station's lock, then loads, rendering and the file's digest outside it, then a finish
+//! or a stop under it.
+ghost use Rattle.std.specs.Prelude.{◌≡◌, ◌+◌, ◌<◌, ◌^◌, true, false, Err, length, IfOk, IfErr, IsOk, OnOk};
+ghost use Rattle.conform_job.specs.Answers.{AreInfosOf};
+ghost use Rattle.conform_job.specs.Names.{Tells};
+ghost use Rattle.frame_render.specs.Frame.{frame_size};
+ghost use Rattle.render_board.specs.declared.step.Why.TheVariants as whys;
+ghost use Rattle.reel_writer.specs.Reel.{frames_of};
+ghost use Rattle.frame_fetch.specs.Ends.{IsUnrendered};
+ghost use Rattle.shared_station.specs.Leaving.{HasLeft};
+ghost use Rattle.shared_station.specs.StationSteps.{MayStop};
+ghost use Rattle.crew_seat.specs.Stepped.{HasStepped, HasWorked};
+ghost use Rattle.crew_seat.specs.Worked.{HasMarked};
+
+use crate::shared_frames::SharedFrames;
+use crate::sharing::make_shared;
+use conform_job::{Job, Work};
+use crew_seat::{Seat, is_source_fault, why_of};
+use frame_fetch::RunEnd;
+use frame_render::{FrameBuf, Rendered, Rooms};
+use reel_disk::{Disk, Start};
+use reel_writer::Hashed;
+use render_board::Why;
+use scan_source::Scans;
+use shared_station::{Away, Crewed, Held, Leave, Marks, Station};
+use std::alloc::Global;
+use std::sync::{Mutex, Wait};
+use std::thread::Threads;
+
+/// What the workers of a run share.
+#[derive(Drop)]
+pub struct Shared<'a, D: Disk, N: Work + Start, C: Crewed, R: Threads + Wait + Sync> {
+    /// Threads, and waiting for a lock.
+    pub rt: &'a R,
+    /// Where memory comes from.
+    pub alloc: Global,
+    /// N's job.
+    pub job: &'a Job,
+    /// The reel, and who renders which frame.
+    pub station: &'a Mutex<Station<D, N, C>>,
+    /// The source frames.
+    pub share: &'a SharedFrames<N, C::Misses>,
+}
+
+impl<D: Disk, N: Work + Start, C: Crewed, R: Threads + Wait + Sync> Shared<'_, D, N, C, R> {
+    /// Takes a frame, where there is one for the worker.
+    fn take_frame(&self, number: u16) -> Result<Held, Away>
+        ensures within { IfOk result (λ i. i < frames_of N.job) }
+    {
+        self.station.lock(self.rt).take(number)
+    }
+
+    /// Finishes a frame that the worker took, where it still holds it and the reel is open.
+    fn hand_in(
+        &self,
+        number: u16,
+        marks: &mut Marks<C>,
+        held: Held,
+        frame: &Hashed<N>,
+    ) -> Result<(), Leave>
+        requires index { frame.now.index ≡ held }
+        ensures unmarked { OnOk result (marks.new ≡ marks.old) }
+        ensures left { IfErr result (HasLeft (λ why. why ≡ whys.Disk) marks.old marks.new) }
+    {
+        self.station
+            .lock(self.rt)
+            .hand_in(number, held, frame, marks)
+    }
+
+    /// Stops, where the worker has not stopped and the reel is open, with the frame that it took.
+    fn give_up(&self, number: u16, marks: &mut Marks<C>, held: Option<Held>, why: Why) -> Leave
+        requires why { MayStop N.job N.files why }
+        ensures left { HasLeft (λ other. other ≡ why) marks.old marks.new result }
+    {
+        self.station.lock(self.rt).give_up(number, held, why, marks)
+    }
+
+    /// Hands in the frame that was made for a worker, or stops where none was. The room is handed back where the worker goes on.
+    fn deliver(
+        &self,
+        number: u16,
+        marks: &mut Marks<C>,
+        held: Held,
+        made: Result<Rendered<N>, RunEnd>,
+    ) -> Result<FrameBuf, Leave>
+        requires index { IfOk made (λ frame. frame.index ≡ held) }
+        requires stop { IfErr made (IsUnrendered N.job N.files) }
+        ensures room { IfOk result (λ back. length back ≡ frame_size N.job) }
+        ensures goes_on { OnOk result ((marks.new ≡ marks.old) × IsOk made) }
+        ensures marks { HasMarked N.files made marks.old marks.new }
+        ensures left { IfErr result (HasLeft (λ why. made ≡ Err RunEnd.SourceFault → why ≡ whys.Source) marks.old marks.new) }
+    {
+        match made {
+            Ok(frame) => {
+                let hashed = Hashed::of(frame);
+                match self.hand_in(number, marks, held, &hashed) {
+                    Ok(()) => Ok(hashed.into_frame().into_buf()),
+                    Err(leave) => Err(leave),
+                }
+            }
+            Err(end) => Err(self.give_up(number, marks, Some(held), why_of::<N>(end))),
+        }
+    }
+
+    /// One round: takes a frame, makes it and finishes it. The room is handed back where the worker goes on; else it has stopped, or
+    /// was turned away.
+    fn round<S: Scans>(
+        &self,
+        seat: &mut Seat<S, N, C>,
+        rooms: &mut Rooms<N>,
+        room: FrameBuf,
+    ) -> Result<FrameBuf, Leave>
+        requires job { self.now.job.now ≡ N.job }
+        requires files { Tells N.files (S.world seat.old.scan) }
+        requires infos { AreInfosOf N.job.parts N.files N.job.infos }
+        requires room { length room ≡ frame_size N.job }
+        requires few { seat.old.loads + 2 < 2 ^ 64 }
+        requires unfailed { seat.old.has_failed ≡ false }
+        requires closed { seat.old.units.pending ≡ 0 }
+        ensures number { seat.new.number ≡ seat.old.number }
+        ensures stepped { HasStepped N.files S.world S.faults S.loads S.same 2 seat.old seat.new }
+        ensures closed { OnOk result (seat.new.units.pending ≡ 0) }
+        ensures room { IfOk result (λ back. length back ≡ frame_size N.job) }
+        ensures goes_on { OnOk result ((seat.new.marks ≡ seat.old.marks) × (seat.new.has_failed ≡ false)) }
+        ensures left { IfErr result (HasLeft (λ why. seat.new.has_failed ≡ true → why ≡ whys.Source) seat.old.marks seat.new.marks) }
+    {
+        let held = match self.take_frame(seat.number) {
+            Ok(held) => held,
+            Err(away) => return Err(Leave::Away(away)),
+        };
+        let made = make_shared::<N, C::Misses, S, R>(
+            self.rt,
+            self.alloc,
+            self.job,
+            &mut seat.scan,
+            seat.number,
+            held.frame(),
+            rooms,
+            room,
+            seat.threads,
+            self.share,
+            &mut seat.units,
+            &mut seat.loads,
+        );
+        seat.has_failed = is_source_fault(&made);
+        self.deliver(seat.number, &mut seat.marks, held, made)
+    }
+
+    /// A worker's part of a run: it claims, makes and finishes frames until none is left, or somebody stops. It loads, renders
+    /// and hashes outside both locks, holds one of them at a time, and waits for them alone. A frame is rendered in as many threads
+    /// as its seat says.
+    ///
+    /// It stops where a load failed, where memory ran out, where the disk failed in a finish, and where a source file isn't
+    /// what it was when the job was planned. Each stop is counted in its marks. It leaves only where it has stopped or the station
+    /// has turned it away: a frame that it took can't be let go, and a station alone says that it has no step for a worker.
+    pub fn worker<S: Scans>(&self, seat: &mut Seat<S, N, C>) -> Leave
+        requires job { self.now.job.now ≡ N.job }
+        requires files { Tells N.files (S.world seat.old.scan) }
+        requires infos { AreInfosOf N.job.parts N.files N.job.infos }
+        requires none { seat.old.loads ≡ 0 }
+        requires unfailed { seat.old.has_failed ≡ false }
+        requires closed { seat.old.units.pending ≡ 0 }
+        ensures number { seat.new.number ≡ seat.old.number }
+        ensures worked { HasWorked N.files S.world S.faults S.loads S.same 524288 seat.old seat.new }
+        ensures left { HasLeft (λ why. seat.new.has_failed ≡ true → why ≡ whys.Source) seat.old.marks seat.new.marks result }
+    {
+        let mut room = match FrameBuf::new(self.alloc, self.job) {
+            Ok(room) => room,
+            Err(_) => return self.give_up(seat.number, &mut seat.marks, None, Why::Memory),
+        };
+        let mut rooms = Rooms::new(self.alloc);
+        for _ in 0..self.job.timeline().count() {
+            match self.round(seat, &mut rooms, room) {
+                Ok(back) => room = back,
+                Err(leave) => return leave,
+            }
+        }
+        // So many finishes leave no frame, and the station says so.
+        match self.take_frame(seat.number) {
+            Err(away) => Leave::Away(away),
+            Ok(held) => self.give_up(seat.number, &mut seat.marks, Some(held), Why::Memory),
+        }
+    }
+}

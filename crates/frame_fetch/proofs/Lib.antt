@@ -1,0 +1,6 @@
+pub mod Asking
+pub mod Counting
+pub mod Fetching
+mod Heads
+pub mod Logs
+pub mod Scanning

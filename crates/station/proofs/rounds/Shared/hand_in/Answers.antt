@@ -1,5 +1,0 @@
--- The worker leaves just where the station says so.
-use Rattle.station.proofs.rounds.Shared.hand_in.Goals as goal
-
-pub returns-clause-left : goal.returns-clause-left
-returns-clause-left g c = c.hand_in.ensures.left

@@ -1,5 +1,0 @@
-use Rattle.std.proofs.Common.{rules}
-use Rattle.station.proofs.shared_frames.SharedFrames.put.Goals as goal
-
-pub returns : goal.returns
-returns g c = search rules
