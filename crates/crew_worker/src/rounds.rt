@@ -146,6 +146,34 @@ impl<D: Disk, N: Work + Start, C: Crewed, R: Threads + Wait + Sync> Shared<'_, D
         self.deliver(seat.number, &mut seat.marks, held, made)
     }
 
+    /// Rounds, from the first one on, in this room, until the worker stops or is turned away.
+    fn rounds<S: Scans>(&self, seat: &mut Seat<S, N, C>, room: FrameBuf) -> Leave
+        requires job { self.now.job.now ≡ N.job }
+        requires files { Tells N.files (S.world seat.old.scan) }
+        requires infos { AreInfosOf N.job.parts N.files N.job.infos }
+        requires room { length room ≡ frame_size N.job }
+        requires none { seat.old.loads ≡ 0 }
+        requires unfailed { seat.old.has_failed ≡ false }
+        requires closed { seat.old.units.pending ≡ 0 }
+        ensures number { seat.new.number ≡ seat.old.number }
+        ensures worked { HasWorked N.files S.world S.faults S.loads S.same 524288 seat.old seat.new }
+        ensures left { HasLeft (λ why. seat.new.has_failed ≡ true → why ≡ whys.Source) seat.old.marks seat.new.marks result }
+    {
+        let mut room = room;
+        let mut rooms = Rooms::new(self.alloc);
+        for _ in 0..self.job.timeline().count() {
+            match self.round(seat, &mut rooms, room) {
+                Ok(back) => room = back,
+                Err(leave) => return leave,
+            }
+        }
+        // So many finishes leave no frame, and the station says so.
+        match self.take_frame(seat.number) {
+            Err(away) => Leave::Away(away),
+            Ok(held) => self.give_up(seat.number, &mut seat.marks, Some(held), Why::Memory),
+        }
+    }
+
     /// A worker's part of a run: it claims, makes and finishes frames until none is left, or somebody stops. It loads, renders
     /// and hashes outside both locks, holds one of them at a time, and waits for them alone. A frame is rendered in as many threads
     /// as its seat says.
@@ -164,21 +192,9 @@ impl<D: Disk, N: Work + Start, C: Crewed, R: Threads + Wait + Sync> Shared<'_, D
         ensures worked { HasWorked N.files S.world S.faults S.loads S.same 524288 seat.old seat.new }
         ensures left { HasLeft (λ why. seat.new.has_failed ≡ true → why ≡ whys.Source) seat.old.marks seat.new.marks result }
     {
-        let mut room = match FrameBuf::new(self.alloc, self.job) {
-            Ok(room) => room,
-            Err(_) => return self.give_up(seat.number, &mut seat.marks, None, Why::Memory),
-        };
-        let mut rooms = Rooms::new(self.alloc);
-        for _ in 0..self.job.timeline().count() {
-            match self.round(seat, &mut rooms, room) {
-                Ok(back) => room = back,
-                Err(leave) => return leave,
-            }
-        }
-        // So many finishes leave no frame, and the station says so.
-        match self.take_frame(seat.number) {
-            Err(away) => Leave::Away(away),
-            Ok(held) => self.give_up(seat.number, &mut seat.marks, Some(held), Why::Memory),
+        match FrameBuf::new(self.alloc, self.job) {
+            Ok(room) => self.rounds(seat, room),
+            Err(_) => self.give_up(seat.number, &mut seat.marks, None, Why::Memory),
         }
     }
 }

@@ -2,7 +2,7 @@ use Rattle.std.proofs.Common.{◌≡◌, ◌*◌, ◌≤◌, false, length}
 use Rattle.frame_render.specs.Frame.{frame_size}
 use Rattle.reel_writer.specs.Reel.{frames_of}
 use Rattle.crew_seat.specs.Stepped.{HasStepped}
-use Rattle.crew_worker.proofs.rounds.Shared.worker.Given as goal
+use Rattle.crew_worker.proofs.rounds.Shared.rounds.Given as goal
 
 -- no round has stopped
 abbrev pub invariant-loop : goal.invariant-loop
