@@ -1,6 +1,6 @@
 -- What the images are while a frame's file is written, and how the steps of a finish make it up.
 use Rattle.std.proofs.Common.{◌≡◌, ◌≢◌, inl, inr, ℕ, true, false, List, ◌∷◌, length, get_or, refl, sym, ◌∙◌, ap, subst, arith}
-use Rattle.std.specs.Prelude.{Some, ◌↔◌}
+use Rattle.std.specs.Prelude.{Some, Ok, Err, Result, OnOk, ◌↔◌}
 use Rattle.cf_base.specs.declared.file.FileId.{FileId}
 use Rattle.cf_base.specs.declared.file.FileId.TheVariants.{Seal2, Body2}
 use Rattle.sha2.specs.Sha256.{sha256}
@@ -9,14 +9,14 @@ use Rattle.reel_disk.specs.Disk.{Files, IsImage, IsFirm, loosened, History, mome
 use Rattle.reel_disk.specs.Runs.{Extends, Surely, Spares}
 use Rattle.reel_disk.proofs.Images.{view_is_image, firm_besides, restored, with_file_other}
 use Rattle.reel_disk.proofs.Moments.{extends_along, leaves_along, keeps_along}
-use Rattle.reel_disk.proofs.Sparing.{spares_along, spares_wider}
+use Rattle.reel_disk.proofs.Sparing.{spared_image, spares_along, spares_wider}
 use Rattle.resume_ledger.specs.Ledger.{LedgerState, IsLedgerFile, IsWrittenLedgerFile, HasRecord, Acks, Agrees}
 use Rattle.resume_ledger.specs.Sound.{Reel, IsReel, IsFrameFile, IsSoundAt, IsSoundAndFit, IsStored, IsRun, KeepsAcks, AddsNothing, AddsAtMost}
 use Rattle.resume_ledger.specs.Steps.{IsPut}
 use Rattle.resume_ledger.proofs.LawProofs.{agrees_spared}
 use Rattle.resume_ledger.proofs.Versions.{frame_apart, agrees_shown, acks_as, fit_as}
 use Rattle.resume_ledger.proofs.Writing.{put_extends, put_leaves, put_keeps}
-use Rattle.reel_writer.specs.Reel.{HasFrame, IsWrittenFile, IsFinishing}
+use Rattle.reel_writer.specs.Reel.{HasFrame, HasStored, IsWrittenFile, IsFinishing}
 
 module _ (digest : List ℕ) (count i : ℕ) (file : FileId) (bytes : List ℕ) where
   -- one step, and then another
@@ -131,6 +131,18 @@ module _ (digest : List ℕ) (count i : ℕ) (file : FileId) (bytes : List ℕ) 
         noted = subst (λ (l : List ℕ). HasRecord i (sha256 l) (view_of old)) (sym has.holds) recorded;
       }
 
-  -- the frame's file is as it was
+-- a frame's file is as it was where the second body alone is written, and as firm
+module _ (file : FileId) (frame : IsFrameFile file) (old new : History) (past : Extends old new) (spares : Spares old new (λ q. q ≡ Body2)) where
+  is_spared : file ≡ Body2 → ⊥
+  is_spared body = frame_apart file frame (inr (inr (inr body)))
+
   pub shown_still : view_of new file ≡ view_of old file
-  shown_still = spares.files new.now past.later (omega arith) file (λ body. frame_apart file frame (inr (inr (inr body))))
+  shown_still = spares.files new.now past.later (omega arith) file is_spared
+
+  pub stored_still : (bytes : List ℕ) → view_of old file ≡ Some bytes → IsFirm (loose_of old) file → Surely (moment_of new) (HasStored file bytes)
+  stored_still bytes there firm files image = spared_image old new (λ q. q ≡ Body2) spares file is_spared firm new.now past.later (omega arith) files image ∙ there
+
+-- what holds whatever the answer is holds where it is Ok
+pub given_ok : {A E : Type 0} (r : Result A E) (P : Type 0) → P → OnOk r P
+given_ok (Ok a) P p = p
+given_ok (Err e) P p = tt

@@ -6,17 +6,18 @@
 use Rattle.std.specs.Prelude.{◌≡◌, ◌≢◌, ◌⊎◌, ℕ, ◌<◌, List, Option, Some, IfSome, Result}
 use Rattle.cf_base.specs.declared.file.FileId.{FileId}
 use Rattle.cf_base.specs.declared.file.FileId.TheVariants.{Body2}
+use Rattle.sha2.specs.Sha256.{sha256}
 use Rattle.scan_source.specs.World.{World, file_at}
 use Rattle.record_timeline.specs.Accepted.{frame_count}
 use Rattle.conform_job.specs.Job.{JobData, file_of}
 use Rattle.conform_job.specs.Refusals as sources
 use Rattle.frame_render.specs.Frame.{frame_file, frame_size}
-use Rattle.reel_disk.specs.Disk.{Files, History, view_of}
+use Rattle.reel_disk.specs.Disk.{Files, History, IsFirm, loose_of, view_of}
 use Rattle.reel_disk.specs.Runs.{Extends, NeverForgets, Spares, StaysSo}
 use Rattle.resume_ledger.specs.Attach.{HasAttached}
 use Rattle.resume_ledger.specs.Ledger.{Acks, LedgerState}
 use Rattle.resume_ledger.specs.declared.attach.OpenFault.{OpenFault}
-use Rattle.resume_ledger.specs.Sound.{Reel, IsReel, IsSoundAndFit, StaysSound, KeepsAcks, AddsAtMost, HasItsFiles}
+use Rattle.resume_ledger.specs.Sound.{Reel, IsFrameFile, IsReel, IsSoundAndFit, StaysSound, KeepsAcks, AddsAtMost, HasItsFiles}
 
 abbrev pub frames_of : JobData → ℕ
 frames_of job = frame_count job.parts.timeline.events
@@ -82,3 +83,9 @@ pub record IsFinishing (digest : List ℕ) (count i : ℕ) (file : FileId) (byte
       → StaysSound digest count reel old new
   pub others : AddsAtMost i digest count old new
   pub spares : Spares old new (IsWrittenFile file)
+
+-- The same for each frame file with this hash that is stored before the part begins.
+abbrev pub FinishesStored : List ℕ → ℕ → ℕ → List ℕ → History → History → Type 0
+FinishesStored digest count i hash old new = (file : FileId) (bytes : List ℕ) → IsFrameFile file
+    → hash ≡ sha256 bytes → view_of old file ≡ Some bytes → IsFirm (loose_of old) file
+    → IsFinishing digest count i file bytes old new

@@ -1,5 +1,5 @@
 -- What is known where a run over the frames ends.
-use Rattle.std.proofs.Common.{◌≡◌, ◌≢◌, inl, inr, ℕ, suc, ◌+◌, ◌-◌, ◌<◌, ◌≤◌, Bool, true, false, List, [], ◌∷◌, ◌++◌, length, take, drop, get_or, refl, sym, ◌∙◌, ap, subst, arith, length-append, append-nil}
+use Rattle.std.proofs.Common.{◌≡◌, ◌≢◌, inl, inr, ℕ, suc, ◌+◌, ◌-◌, ◌<◌, ◌≤◌, Bool, true, false, List, [], ◌∷◌, ◌++◌, length, take, drop, get_or, refl, rules, sym, ◌∙◌, ap, subst, arith, length-append, append-nil}
 use Rattle.std.specs.Prelude.{nat_lt, Contains, ◌⊎◌, ◌↔◌, Option}
 use Rattle.std.proofs.lemmas.Bool.{lt-ltb, ltb-true}
 use Rattle.std.proofs.lemmas.List.{append_assoc, take_at}
@@ -8,15 +8,20 @@ use Rattle.scan_source.specs.World.{World}
 use Rattle.conform_job.specs.Job.{JobData, need_at}
 use Rattle.frame_share.specs.declared.step.ShareStep.{ShareStep}
 use Rattle.frame_share.specs.Share.{ShareView}
+use Rattle.reel_disk.specs.Disk.{History}
+use Rattle.reel_disk.specs.Loan.{Loan}
+use Rattle.reel_disk.proofs.Sparing.{spares_itself}
 use Rattle.reel_writer.specs.Changes.{IsRunFile}
 use Rattle.reel_writer.specs.Reel.{frames_of}
 use Rattle.reel_writer.specs.View.{ReelView}
+use Rattle.reel_writer.proofs.ReelLaws.{reel_run_itself}
 use Rattle.reel_writer.proofs.Writing.{run_file_before}
 use Rattle.frame_fetch.specs.Ends.{IsUnrendered}
 use Rattle.single_run.specs.Ends.{IsStop}
 use Rattle.single_run.specs.Asks.{IsNext, closed_frames, asks_of_frames, frame_if_closed}
 use Rattle.frame_fetch.specs.Asks.{keys_of_need}
 use Rattle.single_run.specs.Ran.{IsUnfinished, ArePast, WereFinished}
+use Rattle.single_run.specs.Run.{AreOpened, HasRunOver}
 use Rattle.frame_fetch.specs.Sharing.{HasTried, IsPaired, asks_of}
 use Rattle.frame_fetch.specs.declared.run_end.RunEnd.{RunEnd}
 use Rattle.frame_fetch.specs.declared.run_end.RunEnd.TheVariants.{Done, OtherJob, BadLedger, Changed, SourceFault, DiskFault, NoMemory}
@@ -90,6 +95,22 @@ stopped job gates end i a b other within closed asks paired tried = record {
   first = ap (asks_of_frames job) (next_closed gates (frames_of job) i within closed) ∙ asks_one job i ∙ tried.asks;
   paired = subst (IsPaired (Unit {0})) (sym tried.steps) (paired_along (Unit {0}) a.steps tried.more paired tried.paired);
   exact = λ done. absurd (other done);
+}
+
+-- nothing was done yet
+pub not_begun : {D : Type 0} (job : JobData) (told : Option World) (tells : Bool) (history : D → History) (loans : D → List Loan) (faults : D → ℕ) (end : RunEnd) (reel : ReelView D)
+    → end ≢ DiskFault → reel.acks ≡ [] → reel.ledger.closed ≡ false → HasRunOver job told tells history loans faults end reel reel
+not_begun job told tells history loans faults end reel other none is_open = record {
+  acks = subst (λ (l : List ℕ). l ≡ take (length l) (closed_frames reel.ledger.gates (frames_of job))) (sym none) refl;
+  gates = subst (λ (l : List ℕ). AreOpened reel.ledger.gates l reel.ledger.gates) (sym none) (search rules);
+  kept = refl;
+  stays_open = λ _. is_open;
+  failed = λ _ failed. absurd (other failed);
+  run = λ _. reel_run_itself job told (history reel.disk);
+  spares = λ _. spares_itself (history reel.disk) (IsRunFile job reel.ledger.gates);
+  same = refl;
+  cause = record { later = omega arith; failed = λ failed. absurd (other failed) };
+  steady = λ _. refl;
 }
 
 -- a run that was stopped before its first frame

@@ -1,6 +1,6 @@
 -- How a run goes on from frame to frame.
 use Rattle.std.proofs.Common.{◌≡◌, inl, inr, ℕ, zero, suc, ◌+◌, ◌<◌, Bool, true, false, not, ◌==◌, ◌||◌, if◌then◌else◌, List, [], ◌∷◌, ◌++◌, length, get_or, set, refl, sym, ◌∙◌, ap, subst, arith, length-set}
-use Rattle.std.specs.Prelude.{filter, nat_lt, Contains, ◌⊎◌}
+use Rattle.std.specs.Prelude.{Ok, Err, Result, OnErr, filter, nat_lt, Contains, ◌⊎◌}
 use Rattle.std.specs.List.{range_with_len}
 use Rattle.std.proofs.lemmas.Bool.{cases_lt, cases_eq, lt-ltb, le-ltb}
 use Rattle.std.proofs.lemmas.Bool.Decides.{nat_tests}
@@ -185,3 +185,8 @@ module _ {D : Type 0} (old : ReelView D) where
                 sym (or_false (nat_lt k i) (k == i) here) ∙ first ∙ sym later
           ]
         ]
+
+-- what holds whatever the answer is holds where it is Err
+pub given_err : {A E : Type 0} (r : Result A E) (P : Type 0) → P → OnErr r P
+given_err (Ok a) P p = tt
+given_err (Err e) P p = p

@@ -1,20 +1,24 @@
 -- What a run on one thread promises. All of it is this project's own rule.
+--     HasRunOver      what a run over the frames of an open reel makes of it
 --     WasOpened      a run whose folder was opened: what it finished, asked for and left acknowledged
 --     WasUnopened      a run whose folder was not
 --     WasRun      one of both
 --     IsWhole      the folder has the whole reel
 use Rattle.std.specs.Prelude.{◌≡◌, ◌≢◌, ◌⊎◌, ◌↔◌, ℕ, ◌+◌, ◌<◌, Bool, true, false, List, [], length, take, count_by, Contains, slice_index_or, Option, Some, IfSome}
+use Rattle.cf_base.specs.Count.{HasCause}
 use Rattle.scan_source.specs.World.{World, file_at}
 use Rattle.conform_job.specs.Job.{JobData, file_of}
 use Rattle.frame_render.specs.Frame.{frame_file}
 use Rattle.reel_disk.specs.Disk.{Moment, History, moment_of, view_of}
-use Rattle.reel_disk.specs.Runs.{Surely}
+use Rattle.reel_disk.specs.Loan.{Loan}
+use Rattle.reel_disk.specs.Runs.{Spares, Surely}
 use Rattle.frame_share.specs.declared.step.ShareStep.{ShareStep}
 use Rattle.resume_ledger.specs.Ledger.{IsFit}
 use Rattle.resume_ledger.specs.Attach.{IsOtherJob, IsBadLedger, IsUnwritten}
 use Rattle.resume_ledger.specs.Sound.{AddsNone}
-use Rattle.reel_writer.specs.Changes.{HasKept}
-use Rattle.reel_writer.specs.Reel.{frames_of, HasAcked, IsSoundReel}
+use Rattle.reel_writer.specs.Changes.{HasKept, IsRunFile}
+use Rattle.reel_writer.specs.Reel.{frames_of, HasAcked, IsReelRun, IsSoundReel}
+use Rattle.reel_writer.specs.View.{ReelView}
 use Rattle.single_run.specs.Asks.{IsNext, closed_frames}
 use Rattle.single_run.specs.Ends.{IsEnd}
 use Rattle.single_run.specs.Ran.{WereFinished}
@@ -42,6 +46,23 @@ AcksButNext job gates finished new = (k : ℕ)
 abbrev pub AcksOpenBut : ℕ → JobData → (gates : List Bool) → History → Type 0
 AcksOpenBut i job gates new = (k : ℕ) → k ≢ i
     → HasAcked job k (view_of new) ↔ (slice_index_or gates k false ≡ true)
+
+-- What a run over the frames of an open reel makes of it, until it ends so. It finished so many of the
+-- frames whose gate was closed, in their order, and wrote no file but theirs and the ledger's.
+pub record HasRunOver {D : Type 0} (job : JobData) (told : Option World) (tells : Bool) (history : D → History)
+    (loans : D → List Loan) (faults : D → ℕ) (end : RunEnd) (old new : ReelView D) : Type 0 where
+  pub acks : new.acks ≡ take (length new.acks) (closed_frames old.ledger.gates (frames_of job))
+  pub gates : AreOpened old.ledger.gates new.acks new.ledger.gates
+  pub kept : new.kept ≡ old.kept
+  pub stays_open : end ≢ DiskFault → new.ledger.closed ≡ false
+  pub failed : tells ≡ true → end ≡ DiskFault
+      → AcksButNext job old.ledger.gates new.acks (history new.disk)
+  pub run : tells ≡ true → IsReelRun job told (history old.disk) (history new.disk)
+  pub spares : tells ≡ true
+      → Spares (history old.disk) (history new.disk) (IsRunFile job old.ledger.gates)
+  pub same : loans new.disk ≡ loans old.disk
+  pub cause : HasCause (faults old.disk) (faults new.disk) (end ≡ DiskFault)
+  pub steady : end ≢ DiskFault → faults new.disk ≡ faults old.disk
 
 -- When a run ends, the folder acknowledges just the frames whose gate was open and those that it
 -- finished, so many of the others in their order. Where the disk failed, that is so of all frames but

@@ -1,5 +1,5 @@
 //! A run on one thread.
-ghost use Rattle.std.specs.Prelude.{◌≡◌, ◌≢◌, ◌≤◌, [], true, false, length, take};
+ghost use Rattle.std.specs.Prelude.{◌≡◌, ◌≢◌, ◌≤◌, [], true, false, length};
 ghost use Rattle.cf_base.specs.Count.{HasCause, HasRisen};
 ghost use Rattle.conform_job.specs.Answers.{AreInfosOf};
 ghost use Rattle.conform_job.specs.Names.{Tells};
@@ -14,7 +14,7 @@ ghost use Rattle.single_run.specs.Asks.{closed_frames};
 ghost use Rattle.frame_fetch.specs.Ends.{IsChange};
 ghost use Rattle.single_run.specs.Ends.{IsEnd, refused_by};
 ghost use Rattle.single_run.specs.Ran.{WereFinished};
-ghost use Rattle.single_run.specs.Run.{AcksAtExit, AcksButNext, AreAllAcked, AreOpened, HasWhole, WasRun};
+ghost use Rattle.single_run.specs.Run.{AcksAtExit, AreAllAcked, HasRunOver, HasWhole, WasRun};
 ghost use Rattle.frame_fetch.specs.Scanned.{IsScanned};
 ghost use Rattle.single_run.specs.Sharing.{IsDetermined, WereShared};
 
@@ -57,27 +57,13 @@ fn run_shared<N: Work, L: Ledger, S: Scans, D: Disk>(
     ensures legal { IsLegal share_cap result.1 }
     ensures determined { IsDetermined share_cap result.1 }
     ensures misses { loads.new ≡ misses_of result.1 }
-    ensures acks { reel.new.acks
-        ≡ take (length reel.new.acks) (closed_frames reel.old.ledger.gates (frames_of N.job)) }
-    ensures gates { AreOpened reel.old.ledger.gates reel.new.acks reel.new.ledger.gates }
-    ensures kept { reel.new.kept ≡ reel.old.kept }
-    ensures stays_open { result.0 ≢ RunEnd.DiskFault → reel.new.ledger.closed ≡ false }
-    ensures failed { D.tells ≡ true → result.0 ≡ RunEnd.DiskFault
-        → AcksButNext N.job reel.old.ledger.gates reel.new.acks (D.history reel.new.disk) }
-    ensures run { D.tells ≡ true
-        → IsReelRun N.job N.files (D.history reel.old.disk) (D.history reel.new.disk) }
-    ensures spares { D.tells ≡ true
-        → Spares (D.history reel.old.disk) (D.history reel.new.disk)
-        (IsRunFile N.job reel.old.ledger.gates) }
+    ensures reel { HasRunOver N.job N.files D.tells D.history D.loans D.faults result.0 reel.old
+        reel.new }
 
     ensures changed { IsChange result.0 → 1 ≤ loads.new }
     ensures scan { IsScanned S.world S.faults S.loads loads.new (result.0
         ≡ RunEnd.SourceFault) scan.old scan.new }
     ensures same_scan { S.same scan.old scan.new }
-    ensures same_disk { D.loans reel.new.disk ≡ D.loans reel.old.disk }
-    ensures cause { HasCause (D.faults reel.old.disk) (D.faults reel.new.disk) (result.0
-        ≡ RunEnd.DiskFault) }
-    ensures steady { result.0 ≢ RunEnd.DiskFault → D.faults reel.new.disk ≡ D.faults reel.old.disk }
 {
     let (mut share, mut units) = match Share::<N, L>::new(alloc, share_cap, blank) {
         Ok(made) => made,

@@ -43,3 +43,6 @@ returns-clause-failed g c is =
 
 pub returns-clause-untouched : goal.returns-clause-untouched
 returns-clause-untouched g c = left_by _ _ _ _ _ c.run_job-ended.ensures.ran (λ reached ran. end_unrefused _ ran.how reached ran.reply.reached_is)
+
+pub returns-in-Err-clause-handed_back : goal.returns-in-Err-clause-handed_back
+returns-in-Err-clause-handed_back g c = search rules

@@ -17,11 +17,11 @@ returns-clause-exit g c told k other =
     let all = closed_frames c.args.reel.ledger.gates (frames_of g.N.Work.job) in
     let of = c.report_of-report.ensures.reel in
     let rendered = ap (λ (r : Report). r.rendered) c.report_of-report.ensures.report in
-    let listed = c.run_shared-end.ensures.acks ∙ ap (λ (n : ℕ). take n all) (sym rendered) in
+    let listed = c.run_shared-end.ensures.reel.acks ∙ ap (λ (n : ℕ). take n all) (sym rendered) in
     subst (λ d. HasAcked g.N.Work.job k (view_of (g.D.Disk.history d)) ↔ ((get_or c.args.reel.ledger.gates k false ≡ true) ⊎ Contains (take c.report_of-report.result.rendered all) k)) (sym c.close.ensures)
-    (exit_of g.N.Work.job g.D.Disk.tells g.D.Disk.history new of c.args.reel.ledger.gates c.run_shared-end.ensures.gates (take c.report_of-report.result.rendered all) listed k c.run_shared-end.result.0
-    (λ steady. of.agrees (c.run_shared-end.ensures.stays_open steady) told)
-    (λ failed. c.run_shared-end.ensures.failed told failed k (λ next. other failed (subst (λ n. IsNext c.args.reel.ledger.gates (frames_of g.N.Work.job) n k) (sym rendered) next))))
+    (exit_of g.N.Work.job g.D.Disk.tells g.D.Disk.history new of c.args.reel.ledger.gates c.run_shared-end.ensures.reel.gates (take c.report_of-report.result.rendered all) listed k c.run_shared-end.result.0
+    (λ steady. of.agrees (c.run_shared-end.ensures.reel.stays_open steady) told)
+    (λ failed. c.run_shared-end.ensures.reel.failed told failed k (λ next. other failed (subst (λ n. IsNext c.args.reel.ledger.gates (frames_of g.N.Work.job) n k) (sym rendered) next))))
 
 pub returns-clause-acked : goal.returns-clause-acked
 returns-clause-acked g c done told =
@@ -31,8 +31,8 @@ returns-clause-acked g c done told =
     let finished = subst (λ (e : RunEnd). WereFinished g.N.Work.job c.args.reel.ledger.gates e (length new.acks) c.run_shared-end.result.1) done c.run_shared-end.ensures.finished in
     subst (λ d. AreAllAcked g.N.Work.job (moment_of (g.D.Disk.history d))) (sym c.close.ensures) (record {
       each = λ i lt.
-          images_acked g.N.Work.job g.D.Disk.tells g.D.Disk.history new of (of.agrees (c.run_shared-end.ensures.stays_open steady) told) i
-          ((c.run_shared-end.ensures.gates i).1 (all_done g.N.Work.job c.args.reel.ledger.gates new.acks (length new.acks) c.run_shared-end.result.1 finished c.run_shared-end.ensures.acks i lt));
+          images_acked g.N.Work.job g.D.Disk.tells g.D.Disk.history new of (of.agrees (c.run_shared-end.ensures.reel.stays_open steady) told) i
+          ((c.run_shared-end.ensures.reel.gates i).1 (all_done g.N.Work.job c.args.reel.ledger.gates new.acks (length new.acks) c.run_shared-end.result.1 finished c.run_shared-end.ensures.reel.acks i lt));
     })
 
 pub returns-clause-changed : goal.returns-clause-changed

@@ -2,20 +2,19 @@ use Rattle.std.proofs.Common.{◌≡◌, List, length, sym, ◌∙◌, ap, subst
 use Rattle.frame_share.specs.declared.step.ShareStep.{ShareStep}
 use Rattle.frame_share.specs.Share.{IsLegal, ShareView}
 use Rattle.frame_share.specs.Units.{Tally}
-use Rattle.reel_writer.proofs.ReelLaws.{reel_run_itself}
 use Rattle.single_run.specs.Ran.{WereFinished}
 use Rattle.frame_fetch.specs.Sharing.{IsPaired}
 use Rattle.frame_fetch.specs.declared.run_end.RunEnd.TheVariants as end
 use Rattle.single_run.proofs.Determined.{determined}
-use Rattle.single_run.proofs.Running.{unbegun}
+use Rattle.single_run.proofs.Running.{not_begun, unbegun}
 use Rattle.single_run.proofs.alone.run_shared.Goals as goal
 
 -- no room for the share
 pub returns-in-Err-clause-finished : goal.returns-in-Err-clause-finished
 returns-in-Err-clause-finished g c = unbegun g.N.Work.job c.args.reel.now.ledger.gates end.NoMemory _ _ (λ same. cc) (ap length c.requires.none) c.empty.ensures
 
-pub returns-in-Err-clause-run : goal.returns-in-Err-clause-run
-returns-in-Err-clause-run g c told = reel_run_itself g.N.Work.job g.N.Work.files (g.D.Disk.history c.args.reel.now.disk)
+pub returns-in-Err-clause-reel : goal.returns-in-Err-clause-reel
+returns-in-Err-clause-reel g c = not_begun g.N.Work.job g.N.Work.files g.D.Disk.tells g.D.Disk.history g.D.Disk.loans g.D.Disk.faults end.NoMemory c.args.reel.now (λ same. cc) c.requires.none c.requires.is_open
 
 pub run_frames-end-requires-clause-files : goal.run_frames-end-requires-clause-files
 run_frames-end-requires-clause-files g c = c.requires.files
@@ -29,8 +28,8 @@ run_frames-end-requires-clause-unasked g c = ap (λ (s : ShareView). s.steps) c.
 pub settle-requires : goal.settle-requires
 settle-requires g c = record { all = c.run_frames-end.ensures.parts ∙ ap (λ (t : Tally). t.parts) c.in-Ok.ensures.units }
 
-pub returns-clause-failed : goal.returns-clause-failed
-returns-clause-failed g c = c.run_frames-end.ensures.failed
+pub returns-clause-reel : goal.returns-clause-reel
+returns-clause-reel g c = c.run_frames-end.ensures.reel
 
 pub returns-clause-scan : goal.returns-clause-scan
 returns-clause-scan g c = c.run_frames-end.ensures.scan

@@ -1,4 +1,4 @@
-use Rattle.std.proofs.Common.{◌≡◌, ℕ, suc, ◌+◌, ◌-◌, ◌<◌, List, ◌++◌, length, take, refl, sym, ◌∙◌, ap, subst, arith}
+use Rattle.std.proofs.Common.{◌≡◌, ℕ, suc, ◌+◌, ◌-◌, ◌<◌, List, ◌++◌, length, take, refl, rules, sym, ◌∙◌, ap, subst, arith}
 use Rattle.std.specs.Prelude.{Err}
 use Rattle.frame_render.specs.Frame.{frame_size}
 use Rattle.reel_disk.proofs.Sparing.{spares_itself, spares_along, spares_wider}
@@ -10,7 +10,7 @@ use Rattle.single_run.specs.Ran.{ArePast, WereFinished}
 use Rattle.frame_fetch.specs.Sharing.{IsPaired, asks_of}
 use Rattle.frame_fetch.specs.declared.run_end.RunEnd.TheVariants as end
 use Rattle.frame_fetch.proofs.Logs.{asks_along, paired_along}
-use Rattle.single_run.proofs.Running.{acked_then, acks_are, is_next, all_finished, asks_more, asks_first, taken, stopped, unbegun, gates_are, run_file_along, acks_then, gates_then, kept_then, not_done}
+use Rattle.single_run.proofs.Running.{acked_then, acks_are, is_next, all_finished, asks_more, asks_first, taken, stopped, not_begun, unbegun, gates_are, run_file_along, acks_then, gates_then, kept_then, not_done}
 use Rattle.frame_fetch.proofs.Counting.{err_same}
 use Rattle.frame_fetch.proofs.Scanning.{scanned_itself, scanned_as, scanned_along}
 use Rattle.single_run.proofs.Stepping.{past_none, past_more, gate_still, if_still}
@@ -73,8 +73,8 @@ loop-i-preserved g c =
 pub returns-in-Err-clause-finished : goal.returns-in-Err-clause-finished
 returns-in-Err-clause-finished g c = unbegun g.N.Work.job c.args.reel.now.ledger.gates end.NoMemory _ _ (λ same. cc) (ap length c.requires.none) c.requires.unasked
 
-pub returns-in-Err-clause-run : goal.returns-in-Err-clause-run
-returns-in-Err-clause-run g c told = reel_run_itself g.N.Work.job g.N.Work.files (g.D.Disk.history c.args.reel.now.disk)
+pub returns-in-Err-clause-reel : goal.returns-in-Err-clause-reel
+returns-in-Err-clause-reel g c = not_begun g.N.Work.job g.N.Work.files g.D.Disk.tells g.D.Disk.history g.D.Disk.loans g.D.Disk.faults end.NoMemory c.args.reel.now (λ same. cc) c.requires.none c.requires.is_open
 
 -- a frame could not be made or finished
 pub returns-in-Err-run_frame-clause-finished : goal.returns-in-Err-run_frame-clause-finished
@@ -86,38 +86,34 @@ returns-in-Err-run_frame-clause-finished g c =
     (stopped g.N.Work.job c.args.reel.now.ledger.gates c.in-Err-run_frame.end c.loop-i.i c.loop-i.share c.run_frame.new.share (not_done g.N.Work.job g.N.Work.files c.in-Err-run_frame.end c.in-Err-run_frame.ensures.stop) (omega (arith, lt, all))
     (sym (gate_still c.args.reel.now c.loop-i.reel c.loop-i.i inv.past) ∙ c.in-Err-run_frame.ensures.shut) inv.asked inv.paired c.in-Err-run_frame.ensures.tried)
 
-pub returns-in-Err-run_frame-clause-acks : goal.returns-in-Err-run_frame-clause-acks
-returns-in-Err-run_frame-clause-acks g c =
-    let inv = c.loop-i.invariant in
-    let all = inv.ending in
-    let within = inv.within in
-    let then_acks = acks_then c.args.reel.now c.loop-i.reel c.loop-i.i c.requires.none inv.past c.run_frame.new.reel c.in-Err-run_frame.ensures.unfinished in
-    then_acks ∙ sym (taken c.args.reel.now.ledger.gates (frames_of g.N.Work.job) c.loop-i.i within) ∙ ap (λ (l : List ℕ). take (length l) (closed_frames c.args.reel.now.ledger.gates (frames_of g.N.Work.job))) (sym then_acks)
-
-pub returns-in-Err-run_frame-clause-gates : goal.returns-in-Err-run_frame-clause-gates
-returns-in-Err-run_frame-clause-gates g c = gates_then c.args.reel.now c.loop-i.reel c.loop-i.i c.requires.none c.loop-i.invariant.past c.run_frame.new.reel c.in-Err-run_frame.ensures.unfinished
-
-pub returns-in-Err-run_frame-clause-failed : goal.returns-in-Err-run_frame-clause-failed
-returns-in-Err-run_frame-clause-failed g c told failed k other =
-    let inv = c.loop-i.invariant in
-    let lt : c.loop-i.i < c.count-i-end.result = c.loop-i-test.true in
-    let all = inv.ending in
-    let unfinished = c.in-Err-run_frame.ensures.unfinished in
-    let shut = sym (gate_still c.args.reel.now c.loop-i.reel c.loop-i.i inv.past) ∙ c.in-Err-run_frame.ensures.shut in
-    let next = is_next c.args.reel.now.ledger.gates (frames_of g.N.Work.job) c.loop-i.i (length c.run_frame.new.reel.acks) (omega (arith, lt, all)) shut (ap length (acks_then c.args.reel.now c.loop-i.reel c.loop-i.i c.requires.none inv.past c.run_frame.new.reel unfinished)) in
-    acked_then c.args.reel.now c.loop-i.reel c.loop-i.i c.requires.none inv.past c.run_frame.new.reel unfinished _ k
-    (c.in-Err-run_frame.ensures.failed told (ap Err failed) k (λ is. other (subst (λ n. IsNext c.args.reel.now.ledger.gates (frames_of g.N.Work.job) (length c.run_frame.new.reel.acks) n) (sym is) next)))
-
-pub returns-in-Err-run_frame-clause-kept : goal.returns-in-Err-run_frame-clause-kept
-returns-in-Err-run_frame-clause-kept g c = kept_then c.args.reel.now c.loop-i.reel c.loop-i.i c.requires.none c.loop-i.invariant.past c.run_frame.new.reel c.in-Err-run_frame.ensures.unfinished
-
-pub returns-in-Err-run_frame-clause-run : goal.returns-in-Err-run_frame-clause-run
-returns-in-Err-run_frame-clause-run g c told = reel_run_along g.N.Work.job g.N.Work.files _ _ _ (c.loop-i.invariant.run told) (c.run_frame.ensures.run told) (c.run_frame.ensures.none_lost told)
-
-pub returns-in-Err-run_frame-clause-spares : goal.returns-in-Err-run_frame-clause-spares
-returns-in-Err-run_frame-clause-spares g c told =
-    spares_along _ _ _ (IsRunFile g.N.Work.job c.args.reel.now.ledger.gates) (c.loop-i.invariant.run told).extends (c.run_frame.ensures.run told).extends (c.loop-i.invariant.spares told)
-    (spares_wider _ _ (IsRunFile g.N.Work.job c.loop-i.reel.ledger.gates) (IsRunFile g.N.Work.job c.args.reel.now.ledger.gates) (run_file_along c.args.reel.now c.loop-i.reel c.loop-i.i c.requires.none c.loop-i.invariant.past g.N.Work.job) (c.run_frame.ensures.spares told))
+pub returns-in-Err-run_frame-clause-reel : goal.returns-in-Err-run_frame-clause-reel
+returns-in-Err-run_frame-clause-reel g c = record {
+  acks =
+      let inv = c.loop-i.invariant in
+      let all = inv.ending in
+      let within = inv.within in
+      let then_acks = acks_then c.args.reel.now c.loop-i.reel c.loop-i.i c.requires.none inv.past c.run_frame.new.reel c.in-Err-run_frame.ensures.unfinished in
+      then_acks ∙ sym (taken c.args.reel.now.ledger.gates (frames_of g.N.Work.job) c.loop-i.i within) ∙ ap (λ (l : List ℕ). take (length l) (closed_frames c.args.reel.now.ledger.gates (frames_of g.N.Work.job))) (sym then_acks);
+  gates = gates_then c.args.reel.now c.loop-i.reel c.loop-i.i c.requires.none c.loop-i.invariant.past c.run_frame.new.reel c.in-Err-run_frame.ensures.unfinished;
+  kept = kept_then c.args.reel.now c.loop-i.reel c.loop-i.i c.requires.none c.loop-i.invariant.past c.run_frame.new.reel c.in-Err-run_frame.ensures.unfinished;
+  stays_open = c.in-Err-run_frame.ensures.stays_open;
+  failed = λ told failed k other.
+      let inv = c.loop-i.invariant in
+      let lt : c.loop-i.i < c.count-i-end.result = c.loop-i-test.true in
+      let all = inv.ending in
+      let unfinished = c.in-Err-run_frame.ensures.unfinished in
+      let shut = sym (gate_still c.args.reel.now c.loop-i.reel c.loop-i.i inv.past) ∙ c.in-Err-run_frame.ensures.shut in
+      let next = is_next c.args.reel.now.ledger.gates (frames_of g.N.Work.job) c.loop-i.i (length c.run_frame.new.reel.acks) (omega (arith, lt, all)) shut (ap length (acks_then c.args.reel.now c.loop-i.reel c.loop-i.i c.requires.none inv.past c.run_frame.new.reel unfinished)) in
+      acked_then c.args.reel.now c.loop-i.reel c.loop-i.i c.requires.none inv.past c.run_frame.new.reel unfinished _ k
+      (c.in-Err-run_frame.ensures.failed told (ap Err failed) k (λ is. other (subst (λ n. IsNext c.args.reel.now.ledger.gates (frames_of g.N.Work.job) (length c.run_frame.new.reel.acks) n) (sym is) next)));
+  run = λ told. reel_run_along g.N.Work.job g.N.Work.files _ _ _ (c.loop-i.invariant.run told) (c.run_frame.ensures.run told) (c.run_frame.ensures.none_lost told);
+  spares = λ told.
+      spares_along _ _ _ (IsRunFile g.N.Work.job c.args.reel.now.ledger.gates) (c.loop-i.invariant.run told).extends (c.run_frame.ensures.run told).extends (c.loop-i.invariant.spares told)
+      (spares_wider _ _ (IsRunFile g.N.Work.job c.loop-i.reel.ledger.gates) (IsRunFile g.N.Work.job c.args.reel.now.ledger.gates) (run_file_along c.args.reel.now c.loop-i.reel c.loop-i.i c.requires.none c.loop-i.invariant.past g.N.Work.job) (c.run_frame.ensures.spares told));
+  same = c.run_frame.ensures.same_disk ∙ c.loop-i.invariant.same_disk;
+  cause = search rules;
+  steady = λ other. c.in-Err-run_frame.ensures.steady (λ is. other (err_same _ _ is)) ∙ c.loop-i.invariant.faults;
+}
 
 pub returns-in-Err-run_frame-clause-scan : goal.returns-in-Err-run_frame-clause-scan
 returns-in-Err-run_frame-clause-scan g c =
@@ -125,8 +121,23 @@ returns-in-Err-run_frame-clause-scan g c =
     (scanned_as g.S.Scans.world g.S.Scans.faults g.S.Scans.loads _ _ _ _ _ _ refl (λ is. ap Err is) (λ is. err_same _ _ is) c.in-Err-run_frame.ensures.scan)
 
 -- every frame is finished
-pub returns-clause-gates : goal.returns-clause-gates
-returns-clause-gates g c = gates_are c.args.reel.now c.loop-i.reel c.loop-i.i c.requires.none c.loop-i.invariant.past
+pub returns-clause-reel : goal.returns-clause-reel
+returns-clause-reel g c = record {
+  acks =
+      let inv = c.loop-i.invariant in
+      let within = inv.within in
+      let acks = acks_are c.args.reel.now c.loop-i.reel c.loop-i.i c.requires.none inv.past in
+      acks ∙ sym (taken c.args.reel.now.ledger.gates (frames_of g.N.Work.job) c.loop-i.i within) ∙ ap (λ (l : List ℕ). take (length l) (closed_frames c.args.reel.now.ledger.gates (frames_of g.N.Work.job))) (sym acks);
+  gates = gates_are c.args.reel.now c.loop-i.reel c.loop-i.i c.requires.none c.loop-i.invariant.past;
+  kept = c.loop-i.invariant.past.kept;
+  stays_open = λ other. c.loop-i.invariant.past.is_open;
+  failed = λ told failed. cc;
+  run = c.loop-i.invariant.run;
+  spares = c.loop-i.invariant.spares;
+  same = c.loop-i.invariant.same_disk;
+  cause = search rules;
+  steady = λ other. c.loop-i.invariant.faults;
+}
 
 pub returns-clause-finished : goal.returns-clause-finished
 returns-clause-finished g c =

@@ -7,7 +7,7 @@ use Rattle.reel_disk.specs.Runs.{Spares}
 use Rattle.resume_ledger.specs.Sound.{AddsAtMost}
 use Rattle.reel_disk.specs.Disk.{moment_of}
 use Rattle.resume_ledger.specs.Ledger.{LedgerState, Agrees}
-use Rattle.reel_writer.specs.View.{ReelView}
+use Rattle.reel_writer.specs.View.{ReelView, after_fault}
 use Rattle.reel_writer.specs.Reel.{frames_of, IsFinishing, IsReelRun, KeepsReel, IsWrittenFile}
 use Rattle.reel_writer.proofs.Keeping.{acked_more, once_more, kept_more, has_room, disk_along, gates_same}
 use Rattle.reel_writer.proofs.ReelLaws.{finishing_of, finished_run, acked_of}
@@ -122,3 +122,32 @@ invariant_of-self g c =
       search rules,
       λ _. ap (λ (l : LedgerState). l.closed) c.in-Ok.ensures.ledger ∙ open_ledger,
     )
+
+-- where the disk failed, the reel is closed and as it was
+pub invariant_of-self-in-Err : goal.invariant_of-self-in-Err
+invariant_of-self-in-Err g c =
+    let of = c.self.invariant.0 in
+    let room = c.self.invariant.1 in
+    let gates = c.in-Err.ensures.gates in (
+      record {
+        digest = c.in-Err.ensures.digest ∙ of.digest;
+        size = ap length gates ∙ of.size;
+        acked = subst (λ (l : List Bool). (j : ℕ) → j < length c.self.inside.acks.items → get_or l (get_or c.self.inside.acks.items j 0) false ≡ true) (sym gates) of.acked;
+        once = of.once;
+        kept = of.kept ∙ sym (ap (λ (l : List Bool). count_by (λ gate. gate) l) gates);
+        agrees = λ never told. cc;
+      },
+      let same = ap length gates in omega (arith, same, room),
+      λ never. cc,
+    )
+
+pub returns-in-Err-clause-closed : goal.returns-in-Err-clause-closed
+returns-in-Err-clause-closed g c =
+    let after : List ℕ → List Bool → ReelView g.row.D.Denot = λ digest gates. record {
+      disk = c.store.new.disk;
+      ledger = record { digest = digest; gates = gates; closed = true };
+      acks = c.self.inside.acks.items;
+      kept = c.self.inside.kept;
+    } in
+    ap (λ digest. after digest c.store.new.ledger.gates) c.in-Err.ensures.digest ∙ ap (after c.self.inside.ledger.digest) c.in-Err.ensures.gates
+    ∙ ap (λ (r : ReelView g.row.D.Denot). after_fault r c.store.new.disk) c.self.view_is

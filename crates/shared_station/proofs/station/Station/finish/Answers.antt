@@ -45,3 +45,10 @@ returns-in-Ok-clause-none_lost g c = subst (λ (v : StationView _). g.D.Disk.tel
 
 pub returns-in-Err-clause-none_lost : goal.returns-in-Err-clause-none_lost
 returns-in-Err-clause-none_lost g c = subst (λ (v : StationView _). g.D.Disk.tells ≡ true → KeepsReel g.N.Work.job (g.D.Disk.history v.reel.disk) (g.D.Disk.history c.finish.new.self.disk)) c.self.view_is c.finish.ensures.none_lost
+
+-- the worker held the frame until the disk failed
+pub stop-requires-clause-running : goal.stop-requires-clause-running
+stop-requires-clause-running g c = search rules
+
+pub returns-in-Err-clause-failed : goal.returns-in-Err-clause-failed
+returns-in-Err-clause-failed g c = search rules

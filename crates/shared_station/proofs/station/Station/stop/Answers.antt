@@ -37,3 +37,9 @@ invariant_of-self-in-Changed g c =
       ap (λ (l : Log). l.workers) c.stop.ensures ∙ c.self.invariant.1,
       c.self.invariant.2,
     )
+
+pub returns-in-Memory-clause-step : goal.returns-in-Memory-clause-step
+returns-in-Memory-clause-step g c = search rules
+
+pub returns-in-Memory-clause-marks : goal.returns-in-Memory-clause-marks
+returns-in-Memory-clause-marks g c = search rules

@@ -1,0 +1,38 @@
+use Rattle.std.proofs.Common.{◌≡◌, ◌∙◌, ℕ, true, List, length, subst}
+use Rattle.reel_disk.specs.Disk.{moment_of, view_of}
+use Rattle.reel_disk.specs.Runs.{Surely}
+use Rattle.resume_ledger.specs.Ledger.{LedgerState, HasRecord, Acks}
+use Rattle.reel_writer.specs.Reel.{FinishesStored, IsFinishing}
+use Rattle.reel_writer.proofs.Finishing.{finishing_along, noted, acked, shown_still}
+use Rattle.reel_writer.proofs.store.acknowledge.Goals as goal
+use Rattle.reel_writer.proofs.store.acknowledge.Goals.{After-ack}
+use Rattle.reel_writer.proofs.store.acknowledge.Given as given
+
+-- the record wasn't stored
+pub returns-in_default-clause-finishing : goal.returns-in_default-clause-finishing
+returns-in_default-clause-finishing g c told file bytes frame hash there firm =
+    noted _ _ _ _ _ frame _ _ (c.note.ensures.past told) (c.note.ensures.none_lost told) (c.note.ensures.spares told) (c.note.ensures.run told) (c.note.ensures.others told)
+
+-- the record was, and the gate was written, or a crash may find it so or not
+module _ (g : given.Over) (c : After-ack g) (told : g.D.Disk.tells ≡ true) where
+  finishing : FinishesStored c.args.ledger.now.digest (length c.args.ledger.now.gates) c.args.i c.args.hash (g.D.Disk.history c.args.disk.now) (g.D.Disk.history c.ack.new.disk)
+  finishing file bytes frame hash there firm = finishing_along _ _ _ _ _ _ _ _ first second
+    where
+      first : IsFinishing c.args.ledger.now.digest (length c.args.ledger.now.gates) c.args.i file bytes (g.D.Disk.history c.args.disk.now) (g.D.Disk.history c.note.new.disk)
+      first = noted _ _ _ _ _ frame _ _ (c.note.ensures.past told) (c.note.ensures.none_lost told) (c.note.ensures.spares told) (c.note.ensures.run told) (c.note.ensures.others told)
+
+      second : IsFinishing c.args.ledger.now.digest (length c.args.ledger.now.gates) c.args.i file bytes (g.D.Disk.history c.note.new.disk) (g.D.Disk.history c.ack.new.disk)
+      second = subst (λ (l : LedgerState). IsFinishing l.digest (length l.gates) c.args.i file bytes (g.D.Disk.history c.note.new.disk) (g.D.Disk.history c.ack.new.disk)) c.in-Ok.ensures.ledger
+          (acked _ _ _ _ _ frame _ _ (c.ack.ensures.past told) (c.ack.ensures.none_lost told) (c.ack.ensures.spares told) (c.ack.ensures.run told) (c.ack.ensures.others told)
+          (shown_still file frame _ _ (c.note.ensures.past told) (c.note.ensures.spares told) ∙ there) (c.in-Ok.ensures.firm told file firm)
+          (subst (λ (l : List ℕ). HasRecord c.args.i l (view_of (g.D.Disk.history c.note.new.disk))) hash (c.in-Ok.ensures.noted told)))
+
+pub returns-in-Ok-ack-clause-finishing : goal.returns-in-Ok-ack-clause-finishing
+returns-in-Ok-ack-clause-finishing g c = finishing g (goal.at.returns-in-Ok-ack-clause-finishing g c).After-ack
+
+pub returns-in-Err-clause-finishing : goal.returns-in-Err-clause-finishing
+returns-in-Err-clause-finishing g c = finishing g (goal.at.returns-in-Err-clause-finishing g c).After-ack
+
+pub returns-in-Ok-ack-clause-acked : goal.returns-in-Ok-ack-clause-acked
+returns-in-Ok-ack-clause-acked g c told =
+    subst (λ (l : LedgerState). Surely (moment_of (g.D.Disk.history c.ack.new.disk)) (Acks l.digest (length l.gates) c.args.i)) c.in-Ok.ensures.ledger (c.in-Ok-ack.ensures.acked told)
