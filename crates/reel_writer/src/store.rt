@@ -57,8 +57,8 @@ pub(crate) fn store<D: Disk>(
     acknowledge(disk, ledger, i, hash)
 }
 
-/// Acknowledges a frame: a write of the record, a sync of the body, a write of the gate, and a sync of the body. The frame
-/// whose file is finished so is any whose file has this hash and is stored before.
+/// Acknowledges a frame whose file has this hash and was stored before: a write of the record, a sync of the body, a write
+/// of the gate, and a sync of the body.
 fn acknowledge<D: Disk>(
     disk: &mut D,
     ledger: &mut Ledger,

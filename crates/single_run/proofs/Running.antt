@@ -1,6 +1,6 @@
 -- What is known where a run over the frames ends.
 use Rattle.std.proofs.Common.{◌≡◌, ◌≢◌, inl, inr, ℕ, suc, ◌+◌, ◌-◌, ◌<◌, ◌≤◌, Bool, true, false, List, [], ◌∷◌, ◌++◌, length, take, drop, get_or, refl, rules, sym, ◌∙◌, ap, subst, arith, length-append, append-nil}
-use Rattle.std.specs.Prelude.{nat_lt, Contains, ◌⊎◌, ◌↔◌, Option}
+use Rattle.std.specs.Prelude.{nat_lt, Contains, ◌⊎◌, ◌↔◌, Option, Result, Err}
 use Rattle.std.proofs.lemmas.Bool.{lt-ltb, ltb-true}
 use Rattle.std.proofs.lemmas.List.{append_assoc, take_at}
 use Rattle.cf_base.specs.declared.file.FileId.{FileId}
@@ -15,22 +15,27 @@ use Rattle.reel_writer.specs.Changes.{IsRunFile}
 use Rattle.reel_writer.specs.Reel.{frames_of}
 use Rattle.reel_writer.specs.View.{ReelView}
 use Rattle.reel_writer.proofs.ReelLaws.{reel_run_itself}
-use Rattle.reel_writer.proofs.Writing.{run_file_before}
+use Rattle.reel_writer.proofs.Writing.{kept_itself, run_file_before}
 use Rattle.frame_fetch.specs.Ends.{IsUnrendered}
 use Rattle.single_run.specs.Ends.{IsStop}
 use Rattle.single_run.specs.Asks.{IsNext, closed_frames, asks_of_frames, frame_if_closed}
 use Rattle.frame_fetch.specs.Asks.{keys_of_need}
 use Rattle.single_run.specs.Ran.{IsUnfinished, ArePast, WereFinished}
-use Rattle.single_run.specs.Run.{AreOpened, HasRunOver}
+use Rattle.single_run.specs.Run.{AreOpened, HasRunFrame, HasRunOver}
 use Rattle.frame_fetch.specs.Sharing.{HasTried, IsPaired, asks_of}
 use Rattle.frame_fetch.specs.declared.run_end.RunEnd.{RunEnd}
 use Rattle.frame_fetch.specs.declared.run_end.RunEnd.TheVariants.{Done, OtherJob, BadLedger, Changed, SourceFault, DiskFault, NoMemory}
-use Rattle.single_run.proofs.Stepping.{or_either, or_here, or_true, closed_more, closed_none, closed_split, closed_has, closed_below, if_closed, asks_append, asks_none, asks_one}
+use Rattle.single_run.proofs.Stepping.{or_either, or_here, or_true, closed_more, closed_none, closed_split, closed_has, closed_below, if_closed, asks_append, asks_if_open, asks_none, asks_one}
+use Rattle.frame_fetch.proofs.Counting.{err_same}
 use Rattle.frame_fetch.proofs.Logs.{asks_along, paired_along, paired_less}
 
 -- what one frame more asks for
 pub asks_more : (job : JobData) (gates : List Bool) (i : ℕ) → asks_of_frames job (closed_frames gates (suc i)) ≡ asks_of_frames job (closed_frames gates i) ++ asks_of_frames job (frame_if_closed gates i)
 asks_more job gates i = ap (asks_of_frames job) (closed_more gates i) ∙ asks_append job (closed_frames gates i) (frame_if_closed gates i)
+
+-- where its gate is open it asks for none
+pub asks_passed : (job : JobData) (gates : List Bool) (i : ℕ) → get_or gates i false ≡ true → asks_of_frames job (closed_frames gates (suc i)) ≡ asks_of_frames job (closed_frames gates i)
+asks_passed job gates i is = asks_more job gates i ∙ ap (λ l. asks_of_frames job (closed_frames gates i) ++ l) (asks_if_open job gates i is) ∙ append-nil (asks_of_frames job (closed_frames gates i))
 
 pub asks_first : (job : JobData) (gates : List Bool) → asks_of_frames job (closed_frames gates 0) ≡ []
 asks_first job gates = ap (asks_of_frames job) (closed_none gates) ∙ asks_none job
@@ -66,6 +71,10 @@ unrendered_stop job told SourceFault stop = tt
 unrendered_stop job told DiskFault stop = absurd stop
 unrendered_stop job told NoMemory stop = tt
 
+-- and no fault of the disk
+unrendered_other : {R : Type 0} (job : JobData) (told : Option World) (end : RunEnd) → IsUnrendered job told end → ◌≢◌ {A = Result R RunEnd} (Err end) (Err DiskFault)
+unrendered_other job told end stop same = subst (IsUnrendered job told) (err_same end DiskFault same) stop
+
 pub not_done : (job : JobData) (told : Option World) (end : RunEnd) → IsStop job told end → end ≢ Done
 not_done job told end stop same = subst (IsStop job told) same stop
 
@@ -95,6 +104,23 @@ stopped job gates end i a b other within closed asks paired tried = record {
   first = ap (asks_of_frames job) (next_closed gates (frames_of job) i within closed) ∙ asks_one job i ∙ tried.asks;
   paired = subst (IsPaired (Unit {0})) (sym tried.steps) (paired_along (Unit {0}) a.steps tried.more paired tried.paired);
   exact = λ done. absurd (other done);
+}
+
+-- the work on a frame ended before its finish
+pub unmade : {D R : Type 0} (i : ℕ) (job : JobData) (told : Option World) (tells : Bool) (history : D → History) (loans : D → List Loan) (faults : D → ℕ) (end : RunEnd) (reel : ReelView D)
+    → IsUnrendered job told end → get_or reel.ledger.gates i false ≡ false → reel.ledger.closed ≡ false → HasRunFrame {R = R} i job told tells history loans faults (Err end) reel reel
+unmade i job told tells history loans faults end reel stop fresh is_open = record {
+  fresh = fresh;
+  past = tt;
+  unfinished = record { gates = refl; acks = refl; kept = refl };
+  stays_open = λ _. is_open;
+  failed = λ _ failed. absurd (unrendered_other job told end stop failed);
+  run = λ _. reel_run_itself job told (history reel.disk);
+  none_lost = λ _. kept_itself job (history reel.disk);
+  spares = λ _. spares_itself (history reel.disk) (IsRunFile job reel.ledger.gates);
+  same = refl;
+  cause = record { later = omega arith; failed = λ failed. absurd (unrendered_other job told end stop failed) };
+  steady = λ _. refl;
 }
 
 -- nothing was done yet

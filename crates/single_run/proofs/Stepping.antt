@@ -1,6 +1,6 @@
 -- How a run goes on from frame to frame.
 use Rattle.std.proofs.Common.{◌≡◌, inl, inr, ℕ, zero, suc, ◌+◌, ◌<◌, Bool, true, false, not, ◌==◌, ◌||◌, if◌then◌else◌, List, [], ◌∷◌, ◌++◌, length, get_or, set, refl, sym, ◌∙◌, ap, subst, arith, length-set}
-use Rattle.std.specs.Prelude.{Ok, Err, Result, OnErr, filter, nat_lt, Contains, ◌⊎◌}
+use Rattle.std.specs.Prelude.{filter, nat_lt, Contains, ◌⊎◌}
 use Rattle.std.specs.List.{range_with_len}
 use Rattle.std.proofs.lemmas.Bool.{cases_lt, cases_eq, lt-ltb, le-ltb}
 use Rattle.std.proofs.lemmas.Bool.Decides.{nat_tests}
@@ -123,7 +123,7 @@ module _ {D : Type 0} (old : ReelView D) (i : ℕ) where
     is_open = is_open;
   }
 
-  pub past_finish : (disk : D) → get_or old.ledger.gates i false ≡ false → i < length old.ledger.gates → old.ledger.closed ≡ false → IsPast i old (after_finish old i disk)
+  past_finish : (disk : D) → get_or old.ledger.gates i false ≡ false → i < length old.ledger.gates → old.ledger.closed ≡ false → IsPast i old (after_finish old i disk)
   past_finish disk is within is_open = record {
     gates = λ k. elim (cases_eq k i) [
       | inl same ↦
@@ -136,6 +136,11 @@ module _ {D : Type 0} (old : ReelView D) (i : ℕ) where
     kept = refl;
     is_open = is_open;
   }
+
+  -- the frame that was finished is this one
+  pub past_finished : (n : ℕ) (disk : D) (new : ReelView D) → new ≡ after_finish old n disk → n ≡ i → get_or old.ledger.gates i false ≡ false → i < length old.ledger.gates → old.ledger.closed ≡ false → IsPast i old new
+  past_finished n disk new is same fresh within is_open =
+      subst (IsPast i old) (sym is) (subst (λ (k : ℕ). IsPast i old (after_finish old k disk)) (sym same) (past_finish disk fresh within is_open))
 
 module _ {D : Type 0} (old : ReelView D) where
   pub past_none : old.ledger.closed ≡ false → ArePast 0 old old
@@ -185,8 +190,3 @@ module _ {D : Type 0} (old : ReelView D) where
                 sym (or_false (nat_lt k i) (k == i) here) ∙ first ∙ sym later
           ]
         ]
-
--- what holds whatever the answer is holds where it is Err
-pub given_err : {A E : Type 0} (r : Result A E) (P : Type 0) → P → OnErr r P
-given_err (Ok a) P p = tt
-given_err (Err e) P p = p

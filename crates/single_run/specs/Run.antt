@@ -1,10 +1,11 @@
 -- What a run on one thread promises. All of it is this project's own rule.
+--     HasRunFrame      what the work on one frame makes of an open reel
 --     HasRunOver      what a run over the frames of an open reel makes of it
 --     WasOpened      a run whose folder was opened: what it finished, asked for and left acknowledged
 --     WasUnopened      a run whose folder was not
 --     WasRun      one of both
 --     IsWhole      the folder has the whole reel
-use Rattle.std.specs.Prelude.{◌≡◌, ◌≢◌, ◌⊎◌, ◌↔◌, ℕ, ◌+◌, ◌<◌, Bool, true, false, List, [], length, take, count_by, Contains, slice_index_or, Option, Some, IfSome}
+use Rattle.std.specs.Prelude.{◌≡◌, ◌≢◌, ◌⊎◌, ◌↔◌, ℕ, ◌+◌, ◌<◌, Bool, true, false, List, [], length, take, count_by, Contains, slice_index_or, Option, Some, IfSome, Result, Err, OnOk, OnErr}
 use Rattle.cf_base.specs.Count.{HasCause}
 use Rattle.scan_source.specs.World.{World, file_at}
 use Rattle.conform_job.specs.Job.{JobData, file_of}
@@ -17,11 +18,11 @@ use Rattle.resume_ledger.specs.Ledger.{IsFit}
 use Rattle.resume_ledger.specs.Attach.{IsOtherJob, IsBadLedger, IsUnwritten}
 use Rattle.resume_ledger.specs.Sound.{AddsNone}
 use Rattle.reel_writer.specs.Changes.{HasKept, IsRunFile}
-use Rattle.reel_writer.specs.Reel.{frames_of, HasAcked, IsReelRun, IsSoundReel}
+use Rattle.reel_writer.specs.Reel.{frames_of, HasAcked, IsReelRun, IsSoundReel, KeepsReel}
 use Rattle.reel_writer.specs.View.{ReelView}
 use Rattle.single_run.specs.Asks.{IsNext, closed_frames}
 use Rattle.single_run.specs.Ends.{IsEnd}
-use Rattle.single_run.specs.Ran.{WereFinished}
+use Rattle.single_run.specs.Ran.{IsPast, IsUnfinished, WereFinished}
 use Rattle.single_run.specs.Sharing.{WereShared}
 use Rattle.single_run.specs.declared.report.Report.{Report}
 use Rattle.frame_fetch.specs.declared.run_end.RunEnd.{RunEnd}
@@ -46,6 +47,24 @@ AcksButNext job gates finished new = (k : ℕ)
 abbrev pub AcksOpenBut : ℕ → JobData → (gates : List Bool) → History → Type 0
 AcksOpenBut i job gates new = (k : ℕ) → k ≢ i
     → HasAcked job k (view_of new) ↔ (slice_index_or gates k false ≡ true)
+
+-- What the work on frame i makes of an open reel. The frame's gate was closed. It was finished; or the work ended
+-- before, and no frame was. No file was written but those of frames whose gate was closed, and the ledger's.
+pub record HasRunFrame {D R : Type 0} (i : ℕ) (job : JobData) (told : Option World) (tells : Bool) (history : D → History)
+    (loans : D → List Loan) (faults : D → ℕ) (result : Result R RunEnd) (old new : ReelView D) : Type 0 where
+  pub fresh : slice_index_or old.ledger.gates i false ≡ false
+  pub past : OnOk result (IsPast i old new)
+  pub unfinished : OnErr result (IsUnfinished old new)
+  pub stays_open : result ≢ Err DiskFault → new.ledger.closed ≡ false
+  pub failed : tells ≡ true → result ≡ Err DiskFault
+      → AcksOpenBut i job old.ledger.gates (history new.disk)
+  pub run : tells ≡ true → IsReelRun job told (history old.disk) (history new.disk)
+  pub none_lost : tells ≡ true → KeepsReel job (history old.disk) (history new.disk)
+  pub spares : tells ≡ true
+      → Spares (history old.disk) (history new.disk) (IsRunFile job old.ledger.gates)
+  pub same : loans new.disk ≡ loans old.disk
+  pub cause : HasCause (faults old.disk) (faults new.disk) (result ≡ Err DiskFault)
+  pub steady : result ≢ Err DiskFault → faults new.disk ≡ faults old.disk
 
 -- What a run over the frames of an open reel makes of it, until it ends so. It finished so many of the
 -- frames whose gate was closed, in their order, and wrote no file but theirs and the ledger's.

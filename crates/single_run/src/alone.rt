@@ -10,7 +10,6 @@ ghost use Rattle.resume_ledger.specs.Sound.{WritesOnly};
 ghost use Rattle.reel_writer.specs.Changes.{IsOwnFile, IsRunFile, MayWrite};
 ghost use Rattle.reel_writer.specs.Reel.{frames_of, HasFrameFiles, IsReelRun, IsSoundReel};
 ghost use Rattle.scan_source.specs.World.{World};
-ghost use Rattle.single_run.specs.Asks.{closed_frames};
 ghost use Rattle.frame_fetch.specs.Ends.{IsChange};
 ghost use Rattle.single_run.specs.Ends.{IsEnd, refused_by};
 ghost use Rattle.single_run.specs.Ran.{WereFinished};

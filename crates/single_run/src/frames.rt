@@ -1,20 +1,16 @@
 //! The frames of a run, in order.
-ghost use Rattle.std.specs.Prelude.{◌≡◌, ◌≢◌, ◌+◌, ◌-◌, ◌<◌, ◌≤◌, ◌^◌, [], true, false, Ok, Err, length, slice_index_or, IfOk, IfErr, OnOk, OnErr};
-ghost use Rattle.cf_base.specs.Count.{HasCause};
+ghost use Rattle.std.specs.Prelude.{◌≡◌, ◌+◌, ◌-◌, ◌<◌, ◌≤◌, ◌^◌, [], false, Ok, Err, length, slice_index_or, IfOk, IfErr, OnOk, OnErr};
 ghost use Rattle.conform_job.specs.Answers.{AreInfosOf};
 ghost use Rattle.conform_job.specs.Job.{need_at};
 ghost use Rattle.conform_job.specs.Names.{Tells};
 ghost use Rattle.frame_render.specs.Frame.{frame_size};
-ghost use Rattle.reel_disk.specs.Runs.{Spares};
-ghost use Rattle.reel_writer.specs.Changes.{IsRunFile};
-ghost use Rattle.reel_writer.specs.Reel.{frames_of, IsReelRun, KeepsReel};
+ghost use Rattle.reel_writer.specs.Reel.{frames_of};
 ghost use Rattle.reel_writer.specs.View.{IsReelOf};
-ghost use Rattle.single_run.specs.Asks.{asks_of_frames, closed_frames, frame_if_closed};
 ghost use Rattle.frame_fetch.specs.Asks.{keys_of_need};
 ghost use Rattle.frame_fetch.specs.Ends.{IsChange};
 ghost use Rattle.single_run.specs.Ends.{IsEnd, IsStop};
-ghost use Rattle.single_run.specs.Ran.{IsPast, IsUnfinished, WereFinished};
-ghost use Rattle.single_run.specs.Run.{AcksOpenBut, HasRunOver};
+ghost use Rattle.single_run.specs.Ran.{WereFinished};
+ghost use Rattle.single_run.specs.Run.{HasRunFrame, HasRunOver};
 ghost use Rattle.frame_fetch.specs.Scanned.{HasLoaded, IsScanned};
 ghost use Rattle.frame_fetch.specs.Sharing.{HasAsked, HasTried};
 
@@ -28,72 +24,9 @@ use scan_source::Scans;
 use std::alloc::Global;
 use std::sync::ledger::Ledger;
 
-/// Renders record frame `i` and finishes it, unless it is acknowledged. The room is handed back for
-/// another frame.
-fn run_frame<N: Work, L: Ledger, S: Scans, D: Disk>(
-    alloc: Global,
-    job: &Job,
-    scan: &mut S,
-    reel: &mut Reel<D, N>,
-    i: u32,
-    rooms: &mut Rooms<N>,
-    room: FrameBuf,
-    share: &mut Share<N, L>,
-    units: &mut Units<L>,
-    loads: &mut u64,
-) -> Result<FrameBuf, RunEnd>
-    requires job { job.now ≡ N.job }
-    requires files { Tells N.files (S.world scan.old) }
-    requires infos { AreInfosOf N.job.parts N.files N.job.infos }
-    requires index { i < frames_of N.job }
-    requires room { length room ≡ frame_size N.job }
-    requires closed { units.old.pending ≡ 0 }
-    requires few { loads.old + 2 < 2 ^ 64 }
-    requires is_open { reel.old.ledger.closed ≡ false }
-    requires size { length reel.old.ledger.gates ≡ frames_of N.job }
-
-    ensures room { IfOk result (λ room. length room ≡ frame_size N.job) }
-    ensures stop { IfErr result (IsStop N.job N.files) }
-    ensures past { OnOk result (IsPast i reel.old reel.new) }
-    ensures shut { OnErr result (slice_index_or reel.old.ledger.gates i false ≡ false) }
-    ensures unfinished { OnErr result (IsUnfinished reel.old reel.new) }
-    ensures stays_open { IfErr result (λ end. end ≢ RunEnd.DiskFault
-        → reel.new.ledger.closed ≡ false) }
-    ensures failed { D.tells ≡ true → result ≡ Err RunEnd.DiskFault
-        → AcksOpenBut i N.job reel.old.ledger.gates (D.history reel.new.disk) }
-    ensures run { D.tells ≡ true
-        → IsReelRun N.job N.files (D.history reel.old.disk) (D.history reel.new.disk) }
-    ensures none_lost { D.tells ≡ true
-        → KeepsReel N.job (D.history reel.old.disk) (D.history reel.new.disk) }
-    ensures spares { D.tells ≡ true
-        → Spares (D.history reel.old.disk) (D.history reel.new.disk)
-        (IsRunFile N.job reel.old.ledger.gates) }
-
-    ensures asked { OnOk result (HasAsked share.old share.new
-        (asks_of_frames N.job (frame_if_closed reel.old.ledger.gates i))) }
-    ensures tried { OnErr result (HasTried share.old share.new (keys_of_need (need_at N.job i))) }
-    ensures closed { OnOk result (units.new.pending ≡ 0) }
-    ensures loads { HasLoaded 2 loads.old loads.new units.old units.new }
-    ensures changed { IfErr result (λ end. IsChange end → loads.old < loads.new) }
-    ensures scan { IsScanned S.world S.faults S.loads (loads.new - loads.old) (result
-        ≡ Err RunEnd.SourceFault) scan.old scan.new }
-    ensures same_scan { S.same scan.old scan.new }
-
-    ensures same_disk { D.loans reel.new.disk ≡ D.loans reel.old.disk }
-    ensures cause { HasCause (D.faults reel.old.disk) (D.faults reel.new.disk) (result
-        ≡ Err RunEnd.DiskFault) }
-    ensures steady { result ≢ Err RunEnd.DiskFault
-        → D.faults reel.new.disk ≡ D.faults reel.old.disk }
-{
-    if reel.is_acked(i) {
-        return Ok(room);
-    }
-    render_and_finish(alloc, job, scan, reel, i, rooms, room, share, units, loads)
-}
-
 /// Renders record frame `i`, which isn't acknowledged, and finishes it. The room is handed back for
 /// another frame.
-fn render_and_finish<N: Work, L: Ledger, S: Scans, D: Disk>(
+fn run_frame<N: Work, L: Ledger, S: Scans, D: Disk>(
     alloc: Global,
     job: &Job,
     scan: &mut S,
@@ -119,19 +52,8 @@ fn render_and_finish<N: Work, L: Ledger, S: Scans, D: Disk>(
 
     ensures room { IfOk result (λ room. length room ≡ frame_size N.job) }
     ensures stop { IfErr result (IsStop N.job N.files) }
-    ensures past { OnOk result (IsPast i reel.old reel.new) }
-    ensures unfinished { OnErr result (IsUnfinished reel.old reel.new) }
-    ensures stays_open { IfErr result (λ end. end ≢ RunEnd.DiskFault
-        → reel.new.ledger.closed ≡ false) }
-    ensures failed { D.tells ≡ true → result ≡ Err RunEnd.DiskFault
-        → AcksOpenBut i N.job reel.old.ledger.gates (D.history reel.new.disk) }
-    ensures run { D.tells ≡ true
-        → IsReelRun N.job N.files (D.history reel.old.disk) (D.history reel.new.disk) }
-    ensures none_lost { D.tells ≡ true
-        → KeepsReel N.job (D.history reel.old.disk) (D.history reel.new.disk) }
-    ensures spares { D.tells ≡ true
-        → Spares (D.history reel.old.disk) (D.history reel.new.disk)
-        (IsRunFile N.job reel.old.ledger.gates) }
+    ensures reel { HasRunFrame i N.job N.files D.tells D.history D.loans D.faults result reel.old
+        reel.new }
 
     ensures asked { OnOk result (HasAsked share.old share.new (keys_of_need (need_at N.job i))) }
     ensures tried { OnErr result (HasTried share.old share.new (keys_of_need (need_at N.job i))) }
@@ -141,12 +63,6 @@ fn render_and_finish<N: Work, L: Ledger, S: Scans, D: Disk>(
     ensures scan { IsScanned S.world S.faults S.loads (loads.new - loads.old) (result
         ≡ Err RunEnd.SourceFault) scan.old scan.new }
     ensures same_scan { S.same scan.old scan.new }
-
-    ensures same_disk { D.loans reel.new.disk ≡ D.loans reel.old.disk }
-    ensures cause { HasCause (D.faults reel.old.disk) (D.faults reel.new.disk) (result
-        ≡ Err RunEnd.DiskFault) }
-    ensures steady { result ≢ Err RunEnd.DiskFault
-        → D.faults reel.new.disk ≡ D.faults reel.old.disk }
 {
     let frame = match make_frame(alloc, job, scan, i, rooms, room, share, units, loads) {
         Ok(frame) => frame,
@@ -198,6 +114,9 @@ pub(crate) fn run_frames<N: Work, L: Ledger, S: Scans, D: Disk>(
     };
     let mut rooms = Rooms::new(alloc);
     for i in 0..job.count() {
+        if reel.is_acked(i) {
+            continue;
+        }
         match run_frame(
             alloc, job, scan, reel, i, &mut rooms, room, share, units, loads,
         ) {

@@ -1,39 +1,89 @@
-use Rattle.std.proofs.Common.{◌≡◌, false, List, get_or, refl, sym, ◌∙◌, subst}
-use Rattle.std.specs.Prelude.{OnOk}
-use Rattle.cf_base.specs.declared.key.Key.{Key}
-use Rattle.reel_writer.proofs.ReelLaws.{reel_run_itself}
-use Rattle.reel_writer.proofs.Writing.{kept_itself}
-use Rattle.frame_fetch.specs.Sharing.{HasAsked}
-use Rattle.frame_fetch.proofs.Counting.{loaded_none}
-use Rattle.frame_fetch.proofs.Logs.{asked_none}
-use Rattle.single_run.proofs.Stepping.{past_itself, asks_if_open, asks_if_closed, given_err}
+use Rattle.std.proofs.Common.{◌≡◌, ℕ, false, get_or, refl, rules, ◌∙◌, ap, arith}
+use Rattle.conform_job.specs.Job.{file_of, need_at}
+use Rattle.frame_render.specs.Frame.{FrameBytes}
+use Rattle.reel_disk.proofs.Sparing.{spares_wider}
+use Rattle.reel_writer.specs.Changes.{IsRunFile}
+use Rattle.reel_writer.specs.Reel.{IsWrittenFile}
+use Rattle.reel_writer.specs.View.{ReelView}
+use Rattle.reel_writer.proofs.Writing.{run_file}
+use Rattle.frame_fetch.specs.Asks.{keys_of_need}
+use Rattle.frame_fetch.proofs.Logs.{asked_is_tried}
+use Rattle.single_run.proofs.Closing.{others_acked}
+use Rattle.single_run.proofs.Running.{unmade, unrendered_stop}
+use Rattle.single_run.proofs.Stepping.{past_finished}
 use Rattle.single_run.proofs.frames.run_frame.Goals as goal
 
-pub returns-then-is_acked-clause-past : goal.returns-then-is_acked-clause-past
-returns-then-is_acked-clause-past g c = past_itself _ _ (sym c.is_acked.ensures.acked ∙ c.if-is_acked.true) c.requires.is_open
+-- it could not be made
+pub returns-in-Err-clause-reel : goal.returns-in-Err-clause-reel
+returns-in-Err-clause-reel g c = unmade c.args.i g.N.Work.job g.N.Work.files g.D.Disk.tells g.D.Disk.history g.D.Disk.loans g.D.Disk.faults c.in-Err.end c.args.reel.now c.in-Err.ensures.stop c.requires.fresh c.requires.is_open
 
-pub returns-then-is_acked-clause-run : goal.returns-then-is_acked-clause-run
-returns-then-is_acked-clause-run g c told = reel_run_itself g.N.Work.job g.N.Work.files (g.D.Disk.history c.args.reel.now.disk)
+pub returns-in-Err-clause-stop : goal.returns-in-Err-clause-stop
+returns-in-Err-clause-stop g c = unrendered_stop g.N.Work.job g.N.Work.files c.in-Err.end c.in-Err.ensures.stop
 
-pub returns-then-is_acked-clause-asked : goal.returns-then-is_acked-clause-asked
-returns-then-is_acked-clause-asked g c = subst (λ (l : List Key). HasAsked c.args.share.now c.args.share.now l) (sym (asks_if_open g.N.Work.job c.args.reel.now.ledger.gates c.args.i (sym c.is_acked.ensures.acked ∙ c.if-is_acked.true))) (asked_none c.args.share.now)
+-- it is finished: the gate was closed, and is open now
+pub finish-requires-clause-fresh : goal.finish-requires-clause-fresh
+finish-requires-clause-fresh g c =
+    let same : c.of-hashed.result.index ≡ c.args.i = ap (λ (f : FrameBytes). f.index) c.of-hashed.ensures ∙ c.in-Ok.ensures.index in
+    ap (λ (n : ℕ). get_or c.args.reel.now.ledger.gates n false) same ∙ c.requires.fresh
 
-pub returns-then-is_acked-clause-none_lost : goal.returns-then-is_acked-clause-none_lost
-returns-then-is_acked-clause-none_lost g c told = kept_itself g.N.Work.job (g.D.Disk.history c.args.reel.now.disk)
+pub returns-in-Ok-finish-clause-reel : goal.returns-in-Ok-finish-clause-reel
+returns-in-Ok-finish-clause-reel g c =
+    let old = c.args.reel.now in
+    let same : c.of-hashed.result.index ≡ c.args.i = ap (λ (f : FrameBytes). f.index) c.of-hashed.ensures ∙ c.in-Ok.ensures.index in
+    let within = c.requires.index in
+    let size = c.requires.size in
+    let past = past_finished old c.args.i c.of-hashed.result.index c.finish.new.self.disk c.finish.new.self c.in-Ok-finish.ensures.finished same c.requires.fresh (omega (arith, within, size)) c.requires.is_open in
+    record {
+      fresh = c.requires.fresh;
+      past = past;
+      unfinished = tt;
+      stays_open = λ _. past.is_open;
+      failed = λ _ failed. cc;
+      run = c.finish.ensures.run;
+      none_lost = c.finish.ensures.none_lost;
+      spares = λ told.
+          spares_wider _ _ (IsWrittenFile (file_of g.N.Work.job c.of-hashed.result.index)) (IsRunFile g.N.Work.job old.ledger.gates)
+          (run_file g.N.Work.job old.ledger.gates c.args.i c.of-hashed.result.index same within c.requires.fresh) (c.finish.ensures.spares told);
+      same = c.finish.ensures.same;
+      cause = record { later = c.finish.ensures.cause.later; failed = λ failed. cc };
+      steady = λ _. c.in-Ok-finish.ensures.steady;
+    }
 
-pub returns-then-is_acked-clause-loads : goal.returns-then-is_acked-clause-loads
-returns-then-is_acked-clause-loads g c = loaded_none 2 c.args.loads.now c.args.units.now c.args.units.now refl
+pub returns-in-Ok-finish-clause-asked : goal.returns-in-Ok-finish-clause-asked
+returns-in-Ok-finish-clause-asked g c = c.in-Ok.ensures.asked
 
--- it isn't acknowledged
-pub render_and_finish-requires-clause-reel : goal.render_and_finish-requires-clause-reel
-render_and_finish-requires-clause-reel g c = c.is_acked.ensures.reel
+-- its finish failed: all other frames are acknowledged as their gates say
+pub returns-in-Err-finish-clause-reel : goal.returns-in-Err-finish-clause-reel
+returns-in-Err-finish-clause-reel g c =
+    let old = c.args.reel.now in
+    let of = c.requires.reel in
+    let same : c.of-hashed.result.index ≡ c.args.i = ap (λ (f : FrameBytes). f.index) c.of-hashed.ensures ∙ c.in-Ok.ensures.index in
+    let closed = c.in-Err-finish.ensures.closed in
+    record {
+      fresh = c.requires.fresh;
+      past = tt;
+      unfinished = record {
+        gates = ap (λ (r : ReelView _). r.ledger.gates) closed;
+        acks = ap (λ (r : ReelView _). r.acks) closed;
+        kept = ap (λ (r : ReelView _). r.kept) closed;
+      };
+      stays_open = λ other. absurd (other refl);
+      failed = λ told _ k other.
+          others_acked g.N.Work.job g.D.Disk.tells g.D.Disk.history old of (of.agrees c.requires.is_open told) c.of-hashed.result.index (g.D.Disk.history c.finish.new.self.disk) (c.finish.ensures.run told).extends.later (c.finish.ensures.others told) k
+          (λ is. other (is ∙ same));
+      run = c.finish.ensures.run;
+      none_lost = c.finish.ensures.none_lost;
+      spares = λ told.
+          spares_wider _ _ (IsWrittenFile (file_of g.N.Work.job c.of-hashed.result.index)) (IsRunFile g.N.Work.job old.ledger.gates)
+          (run_file g.N.Work.job old.ledger.gates c.args.i c.of-hashed.result.index same c.requires.index c.requires.fresh) (c.finish.ensures.spares told);
+      same = c.finish.ensures.same;
+      cause = search rules;
+      steady = λ other. absurd (other refl);
+    }
 
-pub render_and_finish-requires-clause-fresh : goal.render_and_finish-requires-clause-fresh
-render_and_finish-requires-clause-fresh g c = sym c.is_acked.ensures.acked ∙ c.if-is_acked.false
+pub returns-in-Err-finish-clause-tried : goal.returns-in-Err-finish-clause-tried
+returns-in-Err-finish-clause-tried g c = asked_is_tried c.args.share.now c.make_frame.new.share (keys_of_need (need_at g.N.Work.job c.args.i)) c.in-Ok.ensures.asked
 
-pub returns-clause-shut : goal.returns-clause-shut
-returns-clause-shut g c = given_err c.render_and_finish.result (get_or c.args.reel.now.ledger.gates c.args.i false ≡ false) (sym c.is_acked.ensures.acked ∙ c.if-is_acked.false)
-
-pub returns-clause-asked : goal.returns-clause-asked
-returns-clause-asked g c =
-    subst (λ (l : List Key). OnOk c.render_and_finish.result (HasAsked c.args.share.now c.render_and_finish.new.share l)) (sym (asks_if_closed g.N.Work.job c.args.reel.now.ledger.gates c.args.i (sym c.is_acked.ensures.acked ∙ c.if-is_acked.false))) c.render_and_finish.ensures.asked
+-- nothing is said of this where the disk failed
+pub returns-in-Err-finish-clause-asked : goal.returns-in-Err-finish-clause-asked
+returns-in-Err-finish-clause-asked g c = tt

@@ -1,4 +1,4 @@
-use Rattle.std.proofs.Common.{◌≡◌, ℕ, suc, ◌+◌, ◌-◌, ◌<◌, List, ◌++◌, length, take, refl, rules, sym, ◌∙◌, ap, subst, arith}
+use Rattle.std.proofs.Common.{◌≡◌, ℕ, suc, ◌+◌, ◌-◌, ◌<◌, true, false, List, ◌++◌, length, take, get_or, refl, rules, sym, ◌∙◌, ap, subst, arith}
 use Rattle.std.specs.Prelude.{Err}
 use Rattle.frame_render.specs.Frame.{frame_size}
 use Rattle.reel_disk.proofs.Sparing.{spares_itself, spares_along, spares_wider}
@@ -10,10 +10,10 @@ use Rattle.single_run.specs.Ran.{ArePast, WereFinished}
 use Rattle.frame_fetch.specs.Sharing.{IsPaired, asks_of}
 use Rattle.frame_fetch.specs.declared.run_end.RunEnd.TheVariants as end
 use Rattle.frame_fetch.proofs.Logs.{asks_along, paired_along}
-use Rattle.single_run.proofs.Running.{acked_then, acks_are, is_next, all_finished, asks_more, asks_first, taken, stopped, not_begun, unbegun, gates_are, run_file_along, acks_then, gates_then, kept_then, not_done}
+use Rattle.single_run.proofs.Running.{acked_then, acks_are, is_next, all_finished, asks_more, asks_passed, asks_first, taken, stopped, not_begun, unbegun, gates_are, run_file_along, acks_then, gates_then, kept_then, not_done}
 use Rattle.frame_fetch.proofs.Counting.{err_same}
 use Rattle.frame_fetch.proofs.Scanning.{scanned_itself, scanned_as, scanned_along}
-use Rattle.single_run.proofs.Stepping.{past_none, past_more, gate_still, if_still}
+use Rattle.single_run.proofs.Stepping.{past_itself, past_none, past_more, asks_if_closed, gate_still, if_still}
 use Rattle.single_run.proofs.frames.run_frames.Goals as goal
 
 pub loop-i-init : goal.loop-i-init
@@ -37,6 +37,40 @@ loop-i-init g c = record {
   same_scan = g.met.S.Scans.same_refl c.args.scan.now;
 }
 
+-- a frame that is acknowledged is passed over
+pub loop-i-preserved-then-is_acked : goal.loop-i-preserved-then-is_acked
+loop-i-preserved-then-is_acked g c =
+    let inv = c.loop-i.invariant in
+    let next : suc c.loop-i.i ≡ c.loop-i.i + 1 = omega arith in
+    let acked : get_or c.loop-i.reel.ledger.gates c.loop-i.i false ≡ true = sym c.is_acked.ensures.acked ∙ c.if-is_acked.true in
+    let was = sym (gate_still c.args.reel.now c.loop-i.reel c.loop-i.i inv.past) ∙ acked in
+    record {
+      within = let lt = c.loop-i-test.true in let all = inv.ending in omega (arith, lt, all);
+      ending = inv.ending;
+      past = subst (λ (n : ℕ). ArePast n c.args.reel.now c.loop-i.reel) next (past_more c.args.reel.now c.loop-i.reel c.loop-i.i inv.past c.loop-i.reel (past_itself c.loop-i.reel c.loop-i.i acked inv.past.is_open));
+      asked = subst (λ (n : ℕ). asks_of c.loop-i.share.steps ≡ asks_of_frames g.N.Work.job (closed_frames c.args.reel.now.ledger.gates n)) next (inv.asked ∙ sym (asks_passed g.N.Work.job c.args.reel.now.ledger.gates c.loop-i.i was));
+      paired = inv.paired;
+      capacity = inv.capacity;
+      parts = inv.parts;
+      closed = inv.closed;
+      counted = inv.counted;
+      few = let was = inv.few in omega (arith, was);
+      room = inv.room;
+      run = inv.run;
+      spares = inv.spares;
+      faults = inv.faults;
+      same_disk = inv.same_disk;
+      scan = inv.scan;
+      same_scan = inv.same_scan;
+    }
+
+-- any other is made and finished
+pub run_frame-requires-clause-reel : goal.run_frame-requires-clause-reel
+run_frame-requires-clause-reel g c = c.is_acked.ensures.reel
+
+pub run_frame-requires-clause-fresh : goal.run_frame-requires-clause-fresh
+run_frame-requires-clause-fresh g c = sym c.is_acked.ensures.acked ∙ c.if-is_acked.false
+
 pub loop-i-preserved : goal.loop-i-preserved
 loop-i-preserved g c =
     let inv = c.loop-i.invariant in
@@ -44,14 +78,15 @@ loop-i-preserved g c =
     let next : suc c.loop-i.i ≡ c.loop-i.i + 1 = omega arith in
     let still = if_still c.args.reel.now c.loop-i.reel c.loop-i.i inv.past in
     let asked = step.asked in
-    let steady = step.steady (λ same. cc) in
+    let reel = step.reel in
+    let steady = reel.steady (λ same. cc) in
     record {
       within = let lt = c.loop-i-test.true in let all = inv.ending in omega (arith, lt, all);
       ending = inv.ending;
-      past = subst (λ (n : ℕ). ArePast n c.args.reel.now c.run_frame.new.reel) next (past_more c.args.reel.now c.loop-i.reel c.loop-i.i inv.past c.run_frame.new.reel step.past);
+      past = subst (λ (n : ℕ). ArePast n c.args.reel.now c.run_frame.new.reel) next (past_more c.args.reel.now c.loop-i.reel c.loop-i.i inv.past c.run_frame.new.reel reel.past);
       asked = subst (λ (n : ℕ). asks_of c.run_frame.new.share.steps ≡ asks_of_frames g.N.Work.job (closed_frames c.args.reel.now.ledger.gates n)) next
           (ap asks_of asked.steps ∙ asks_along c.loop-i.share.steps asked.more ∙ ap (λ l. l ++ asks_of asked.more) inv.asked
-          ∙ ap (λ l. asks_of_frames g.N.Work.job (closed_frames c.args.reel.now.ledger.gates c.loop-i.i) ++ l) (asked.asks ∙ ap (asks_of_frames g.N.Work.job) still) ∙ sym (asks_more g.N.Work.job c.args.reel.now.ledger.gates c.loop-i.i));
+          ∙ ap (λ l. asks_of_frames g.N.Work.job (closed_frames c.args.reel.now.ledger.gates c.loop-i.i) ++ l) (asked.asks ∙ sym (asks_if_closed g.N.Work.job c.loop-i.reel.ledger.gates c.loop-i.i reel.fresh) ∙ ap (asks_of_frames g.N.Work.job) still) ∙ sym (asks_more g.N.Work.job c.args.reel.now.ledger.gates c.loop-i.i));
       paired = subst (IsPaired ⊥) (sym asked.steps) (paired_along ⊥ c.loop-i.share.steps asked.more inv.paired asked.paired);
       capacity = asked.room ∙ inv.capacity;
       parts = step.loads.parts ∙ inv.parts;
@@ -59,11 +94,11 @@ loop-i-preserved g c =
       counted = let was = inv.counted in let now = step.loads.misses in omega (arith, was, now);
       few = let was = inv.few in let two = step.loads.few in omega (arith, was, two);
       room = step.room;
-      run = λ told. reel_run_along g.N.Work.job g.N.Work.files _ _ _ (inv.run told) (step.run told) (step.none_lost told);
-      spares = λ told. spares_along _ _ _ (IsRunFile g.N.Work.job c.args.reel.now.ledger.gates) (inv.run told).extends (step.run told).extends (inv.spares told)
-          (spares_wider _ _ (IsRunFile g.N.Work.job c.loop-i.reel.ledger.gates) (IsRunFile g.N.Work.job c.args.reel.now.ledger.gates) (run_file_along c.args.reel.now c.loop-i.reel c.loop-i.i c.requires.none inv.past g.N.Work.job) (step.spares told));
+      run = λ told. reel_run_along g.N.Work.job g.N.Work.files _ _ _ (inv.run told) (reel.run told) (reel.none_lost told);
+      spares = λ told. spares_along _ _ _ (IsRunFile g.N.Work.job c.args.reel.now.ledger.gates) (inv.run told).extends (reel.run told).extends (inv.spares told)
+          (spares_wider _ _ (IsRunFile g.N.Work.job c.loop-i.reel.ledger.gates) (IsRunFile g.N.Work.job c.args.reel.now.ledger.gates) (run_file_along c.args.reel.now c.loop-i.reel c.loop-i.i c.requires.none inv.past g.N.Work.job) (reel.spares told));
       faults = steady ∙ inv.faults;
-      same_disk = step.same_disk ∙ inv.same_disk;
+      same_disk = reel.same ∙ inv.same_disk;
       scan = scanned_along g.S.Scans.world g.S.Scans.faults g.S.Scans.loads _ _ _ c.loop-i.loads (c.run_frame.new.loads - c.loop-i.loads) c.run_frame.new.loads ⊥ ⊥ (let later = step.loads.later in omega (arith, later)) (λ never. never) inv.scan
           (scanned_as g.S.Scans.world g.S.Scans.faults g.S.Scans.loads _ _ _ _ _ ⊥ refl (λ never. absurd never) (λ same. cc) step.scan);
       same_scan = g.met.S.Scans.same_trans _ _ _ inv.same_scan step.same_scan;
@@ -82,9 +117,9 @@ returns-in-Err-run_frame-clause-finished g c =
     let inv = c.loop-i.invariant in
     let lt : c.loop-i.i < c.count-i-end.result = c.loop-i-test.true in
     let all = inv.ending in
-    subst (λ (l : List ℕ). WereFinished g.N.Work.job c.args.reel.now.ledger.gates c.in-Err-run_frame.end (length l) c.run_frame.new.share.steps) (sym (acks_then c.args.reel.now c.loop-i.reel c.loop-i.i c.requires.none inv.past c.run_frame.new.reel c.in-Err-run_frame.ensures.unfinished))
+    subst (λ (l : List ℕ). WereFinished g.N.Work.job c.args.reel.now.ledger.gates c.in-Err-run_frame.end (length l) c.run_frame.new.share.steps) (sym (acks_then c.args.reel.now c.loop-i.reel c.loop-i.i c.requires.none inv.past c.run_frame.new.reel c.in-Err-run_frame.ensures.reel.unfinished))
     (stopped g.N.Work.job c.args.reel.now.ledger.gates c.in-Err-run_frame.end c.loop-i.i c.loop-i.share c.run_frame.new.share (not_done g.N.Work.job g.N.Work.files c.in-Err-run_frame.end c.in-Err-run_frame.ensures.stop) (omega (arith, lt, all))
-    (sym (gate_still c.args.reel.now c.loop-i.reel c.loop-i.i inv.past) ∙ c.in-Err-run_frame.ensures.shut) inv.asked inv.paired c.in-Err-run_frame.ensures.tried)
+    (sym (gate_still c.args.reel.now c.loop-i.reel c.loop-i.i inv.past) ∙ c.in-Err-run_frame.ensures.reel.fresh) inv.asked inv.paired c.in-Err-run_frame.ensures.tried)
 
 pub returns-in-Err-run_frame-clause-reel : goal.returns-in-Err-run_frame-clause-reel
 returns-in-Err-run_frame-clause-reel g c = record {
@@ -92,27 +127,27 @@ returns-in-Err-run_frame-clause-reel g c = record {
       let inv = c.loop-i.invariant in
       let all = inv.ending in
       let within = inv.within in
-      let then_acks = acks_then c.args.reel.now c.loop-i.reel c.loop-i.i c.requires.none inv.past c.run_frame.new.reel c.in-Err-run_frame.ensures.unfinished in
+      let then_acks = acks_then c.args.reel.now c.loop-i.reel c.loop-i.i c.requires.none inv.past c.run_frame.new.reel c.in-Err-run_frame.ensures.reel.unfinished in
       then_acks ∙ sym (taken c.args.reel.now.ledger.gates (frames_of g.N.Work.job) c.loop-i.i within) ∙ ap (λ (l : List ℕ). take (length l) (closed_frames c.args.reel.now.ledger.gates (frames_of g.N.Work.job))) (sym then_acks);
-  gates = gates_then c.args.reel.now c.loop-i.reel c.loop-i.i c.requires.none c.loop-i.invariant.past c.run_frame.new.reel c.in-Err-run_frame.ensures.unfinished;
-  kept = kept_then c.args.reel.now c.loop-i.reel c.loop-i.i c.requires.none c.loop-i.invariant.past c.run_frame.new.reel c.in-Err-run_frame.ensures.unfinished;
-  stays_open = c.in-Err-run_frame.ensures.stays_open;
+  gates = gates_then c.args.reel.now c.loop-i.reel c.loop-i.i c.requires.none c.loop-i.invariant.past c.run_frame.new.reel c.in-Err-run_frame.ensures.reel.unfinished;
+  kept = kept_then c.args.reel.now c.loop-i.reel c.loop-i.i c.requires.none c.loop-i.invariant.past c.run_frame.new.reel c.in-Err-run_frame.ensures.reel.unfinished;
+  stays_open = λ other. c.in-Err-run_frame.ensures.reel.stays_open (λ is. other (err_same _ _ is));
   failed = λ told failed k other.
       let inv = c.loop-i.invariant in
       let lt : c.loop-i.i < c.count-i-end.result = c.loop-i-test.true in
       let all = inv.ending in
-      let unfinished = c.in-Err-run_frame.ensures.unfinished in
-      let shut = sym (gate_still c.args.reel.now c.loop-i.reel c.loop-i.i inv.past) ∙ c.in-Err-run_frame.ensures.shut in
+      let unfinished = c.in-Err-run_frame.ensures.reel.unfinished in
+      let shut = sym (gate_still c.args.reel.now c.loop-i.reel c.loop-i.i inv.past) ∙ c.in-Err-run_frame.ensures.reel.fresh in
       let next = is_next c.args.reel.now.ledger.gates (frames_of g.N.Work.job) c.loop-i.i (length c.run_frame.new.reel.acks) (omega (arith, lt, all)) shut (ap length (acks_then c.args.reel.now c.loop-i.reel c.loop-i.i c.requires.none inv.past c.run_frame.new.reel unfinished)) in
       acked_then c.args.reel.now c.loop-i.reel c.loop-i.i c.requires.none inv.past c.run_frame.new.reel unfinished _ k
-      (c.in-Err-run_frame.ensures.failed told (ap Err failed) k (λ is. other (subst (λ n. IsNext c.args.reel.now.ledger.gates (frames_of g.N.Work.job) (length c.run_frame.new.reel.acks) n) (sym is) next)));
-  run = λ told. reel_run_along g.N.Work.job g.N.Work.files _ _ _ (c.loop-i.invariant.run told) (c.run_frame.ensures.run told) (c.run_frame.ensures.none_lost told);
+      (c.in-Err-run_frame.ensures.reel.failed told (ap Err failed) k (λ is. other (subst (λ n. IsNext c.args.reel.now.ledger.gates (frames_of g.N.Work.job) (length c.run_frame.new.reel.acks) n) (sym is) next)));
+  run = λ told. reel_run_along g.N.Work.job g.N.Work.files _ _ _ (c.loop-i.invariant.run told) (c.run_frame.ensures.reel.run told) (c.run_frame.ensures.reel.none_lost told);
   spares = λ told.
-      spares_along _ _ _ (IsRunFile g.N.Work.job c.args.reel.now.ledger.gates) (c.loop-i.invariant.run told).extends (c.run_frame.ensures.run told).extends (c.loop-i.invariant.spares told)
-      (spares_wider _ _ (IsRunFile g.N.Work.job c.loop-i.reel.ledger.gates) (IsRunFile g.N.Work.job c.args.reel.now.ledger.gates) (run_file_along c.args.reel.now c.loop-i.reel c.loop-i.i c.requires.none c.loop-i.invariant.past g.N.Work.job) (c.run_frame.ensures.spares told));
-  same = c.run_frame.ensures.same_disk ∙ c.loop-i.invariant.same_disk;
+      spares_along _ _ _ (IsRunFile g.N.Work.job c.args.reel.now.ledger.gates) (c.loop-i.invariant.run told).extends (c.run_frame.ensures.reel.run told).extends (c.loop-i.invariant.spares told)
+      (spares_wider _ _ (IsRunFile g.N.Work.job c.loop-i.reel.ledger.gates) (IsRunFile g.N.Work.job c.args.reel.now.ledger.gates) (run_file_along c.args.reel.now c.loop-i.reel c.loop-i.i c.requires.none c.loop-i.invariant.past g.N.Work.job) (c.run_frame.ensures.reel.spares told));
+  same = c.run_frame.ensures.reel.same ∙ c.loop-i.invariant.same_disk;
   cause = search rules;
-  steady = λ other. c.in-Err-run_frame.ensures.steady (λ is. other (err_same _ _ is)) ∙ c.loop-i.invariant.faults;
+  steady = λ other. c.in-Err-run_frame.ensures.reel.steady (λ is. other (err_same _ _ is)) ∙ c.loop-i.invariant.faults;
 }
 
 pub returns-in-Err-run_frame-clause-scan : goal.returns-in-Err-run_frame-clause-scan
