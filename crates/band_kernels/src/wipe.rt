@@ -1,8 +1,8 @@
 //! Wipes, line by line: the columns that show the incoming side lie side by side.
-ghost use Rattle.std.specs.Prelude.{◌≡◌, ℕ, ◌+◌, ◌*◌, ◌/◌, ◌%◌, ◌<◌, ◌≤◌, length, slice_index, EachIndex, IsTrue};
+ghost use Rattle.std.specs.Prelude.{◌≡◌, ℕ, ◌+◌, ◌*◌, ◌/◌, ◌%◌, ◌<◌, ◌≤◌, length, slice_index, IsTrue};
 ghost use Rattle.cf_base.specs.Events.{is_known_wipe};
 ghost use Rattle.trans_mix.specs.Wipe.{is_incoming};
-ghost use Rattle.band_kernels.specs.Words.{chosen_word, HasChosen};
+ghost use Rattle.band_kernels.specs.Words.{HasChosen};
 
 use trans_mix::{Columns, LARGEST, LONGEST, incoming_columns};
 

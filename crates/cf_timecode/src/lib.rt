@@ -5,9 +5,9 @@
 //! closed formulas. Nothing here takes memory.
 #![tactic(auto)]
 
-ghost use Rattle.std.specs.Prelude.{◌≡◌, ◌≤◌, ◌<◌, ℕ, true, false, ◌&&◌, slice_index, ◌+◌, ◌*◌, ◌/◌, ◌%◌, ◌⊎◌, length, IfOk};
+ghost use Rattle.std.specs.Prelude.{◌≡◌, ◌≤◌, ◌<◌, true, false, ◌&&◌, ◌+◌, ◌*◌, ◌/◌, ◌%◌, ◌⊎◌, length, IfOk};
 ghost use Rattle.std.specs.Char.{is_ascii_digit};
-ghost use Rattle.cf_base.specs.Timing.{CanCount, frames_in_day, base_of};
+ghost use Rattle.cf_base.specs.Timing.{CanCount, frames_in_day};
 ghost use Rattle.cf_timecode.specs.Counting.{IsValid, label_after, is_in_range, is_passed_over, CountsOnce, FillsDay, NumbersCount, NumbersFit, NeverPassedOver};
 ghost use Rattle.cf_timecode.specs.Spelling.{parsed, spelled, bcd_of, bcd_pair, has_shape, has_digits, is_separator, has_semicolon, number_at, SpellsBack};
 

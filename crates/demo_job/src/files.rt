@@ -1,5 +1,5 @@
 //! The files of the job, with their paths.
-ghost use Rattle.std.specs.Prelude.{◌≡◌, ◌+◌, ◌<◌, ◌≤◌, ◌∷◌, [], ◌++◌, map, OnOk, IfOk};
+ghost use Rattle.std.specs.Prelude.{◌≡◌, ◌+◌, ◌<◌, ◌≤◌, ◌∷◌, [], ◌++◌, OnOk, IfOk};
 ghost use Rattle.demo_job.specs.Files.{project_path, list_path, source_path, source_entry, reel_files, demo_files, kept};
 
 use crate::counts::source_count;

@@ -1,5 +1,5 @@
 //! The source frames.
-ghost use Rattle.std.specs.Prelude.{◌≡◌, ◌<◌, ◌≤◌, ◌++◌, ◌%◌, length, OnOk, IfOk};
+ghost use Rattle.std.specs.Prelude.{◌≡◌, ◌<◌, ◌++◌, ◌%◌, length, OnOk, IfOk};
 ghost use Rattle.dpx_header.specs.Writing.{IsOutHead};
 ghost use Rattle.demo_job.specs.Pictures.{source_word, line_words, source_line, picture, source_head, source_file};
 

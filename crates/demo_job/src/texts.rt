@@ -1,6 +1,5 @@
 //! The project file, and the edit list.
 ghost use Rattle.std.specs.Prelude.{◌≡◌, ◌+◌, ◌*◌, ◌/◌, ◌%◌, ◌<◌, ◌≤◌, ◌++◌, ◌∷◌, OnOk, IfOk};
-ghost use Rattle.cf_base.specs.Digits.{digits};
 ghost use Rattle.printed_text.specs.Text.{ended};
 ghost use Rattle.demo_job.specs.Texts.{project_text, head_text, reel_text, list_text, event_text, event_line, motion_line, transition, label_text};
 

@@ -1,5 +1,5 @@
 //! The plan of a job, as text.
-ghost use Rattle.std.specs.Prelude.{◌≡◌, ◌<◌, ◌≤◌, ◌++◌, ◌∷◌, [], codes, OnOk, IfOk};
+ghost use Rattle.std.specs.Prelude.{◌≡◌, ◌<◌, ◌≤◌, ◌++◌, ◌∷◌, [], OnOk, IfOk};
 ghost use Rattle.std.specs.Fmt.{signed_decimal};
 ghost use Rattle.record_timeline.specs.Accepted.{frame_count};
 ghost use Rattle.record_timeline.specs.Shots.{IsSideIn, IsShotIn};

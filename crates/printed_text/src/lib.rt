@@ -1,7 +1,7 @@
 //! Texts that grow piece by piece. Each call appends its piece, or fails for want of memory.
 #![tactic(auto)]
 
-ghost use Rattle.std.specs.Prelude.{◌≡◌, ◌++◌, length, OnOk};
+ghost use Rattle.std.specs.Prelude.{◌≡◌, ◌++◌, OnOk};
 ghost use Rattle.hex.specs.Hex.{encode_lower};
 
 use itoa::{Buffer, Integer};

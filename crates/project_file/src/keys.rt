@@ -2,8 +2,7 @@
 ghost use Rattle.std.specs.Prelude.{◌≡◌, ◌≤◌, option_map, IfOk, IfSome};
 ghost use Rattle.toml.specs.Data.{get_member};
 ghost use Rattle.toml.specs.View.{table_view, view};
-ghost use Rattle.project_file.specs.Keys.{fault, flag_at, number_between, required, seen_as, whole_at};
-ghost use Rattle.toml.specs.Data.{as_str};
+ghost use Rattle.project_file.specs.Keys.{fault, flag_at, number_between, whole_at};
 
 use crate::fault::{Place, ProjectFault, ProjectKind};
 use toml::{Table, Value};

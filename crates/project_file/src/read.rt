@@ -1,6 +1,6 @@
 //! A project file, from its bytes.
-ghost use Rattle.std.specs.Prelude.{◌≡◌, ◌≤◌, IfOk, IfErr, length};
-ghost use Rattle.toml.specs.View.{items_view, table_view};
+ghost use Rattle.std.specs.Prelude.{IfOk, IfErr, length};
+ghost use Rattle.toml.specs.View.{table_view};
 ghost use Rattle.cf_base.specs.Fail.{Gives};
 ghost use Rattle.project_file.specs.Keys.{fault};
 ghost use Rattle.project_file.specs.Projects.{Answers, IsInRange, IsRead, IsTextFault, project_of};

@@ -1,5 +1,5 @@
 -- The first moment of a history. All of it is this project's own rule.
-use Rattle.std.specs.Prelude.{ℕ, Bool, true, false, Option, Some, None}
+use Rattle.std.specs.Prelude.{Bool, true, false, Option, Some, None}
 use Rattle.reel_disk.specs.Disk.{History, Moment}
 
 -- what a disk tells of its first moment

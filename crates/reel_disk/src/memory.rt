@@ -19,7 +19,6 @@ use std::collections::BTreeMap;
 /// Its calls are numbered from 1, and those that are to fail are named when it is made. A failed call leaves what a read
 /// answers as it was. A write that fails by its number leaves its place loose, unless the record of it finds no memory. A
 /// write or a sync that finds no memory fails too.
-#[derive(Drop)]
 pub struct MemoryDisk {
     alloc: Global,
     store: Store,
@@ -27,6 +26,20 @@ pub struct MemoryDisk {
     fails: Vec<u64>,
     stop: Option<u64>,
     faults: u64,
+}
+
+/// Written out, so that a function that lets a disk go has one step for it; the derived one has a step for each part.
+impl Drop for MemoryDisk {
+    fn drop(self) {
+        let MemoryDisk {
+            alloc: _,
+            store: _,
+            calls: _,
+            fails: _,
+            stop: _,
+            faults: _,
+        } = self;
+    }
 }
 
 fn with_files(

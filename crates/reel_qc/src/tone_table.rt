@@ -1,5 +1,5 @@
 //! Tables of codes that never fall.
-ghost use Rattle.std.specs.Prelude.{◌≡◌, ◌≤◌, ◌<◌, slice_index, MatchOption, length};
+ghost use Rattle.std.specs.Prelude.{◌≡◌, ◌≤◌, ◌<◌, slice_index, MatchOption};
 ghost use Rattle.reel_qc.specs.Tones.{IsToneTable};
 
 use std::marker::Model;

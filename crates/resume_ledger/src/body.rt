@@ -1,5 +1,5 @@
 //! The bytes of a ledger's body.
-ghost use Rattle.std.specs.Prelude.{◌≡◌, ◌≢◌, ◌+◌, ◌*◌, ◌<◌, ◌≤◌, ℕ, length, slice_index, IfOk};
+ghost use Rattle.std.specs.Prelude.{◌≡◌, ◌+◌, ◌*◌, ◌<◌, ◌≤◌, length, slice_index, IfOk};
 ghost use Rattle.resume_ledger.specs.Body.{layout_of, head_of, closed_body, record_of};
 ghost use Rattle.resume_ledger.specs.Ledger.{AreGatesOf};
 ghost use Rattle.resume_ledger.specs.Steps.{IsJudged, OthersKept};

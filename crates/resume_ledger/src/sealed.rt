@@ -120,7 +120,6 @@ pub(crate) fn read_body<D: Disk>(
     load_body(alloc, disk, version)
 }
 
-ghost use Rattle.cf_base.specs.declared.file.FileId.{FileId as Id};
 ghost use Rattle.cf_base.specs.declared.file.FileId.TheVariants.{Seal2};
 ghost use Rattle.resume_ledger.specs.Attach.{HasAttachedSecond};
 

@@ -1,5 +1,5 @@
 //! Texts in memory, and one head for all other files.
-ghost use Rattle.std.specs.Prelude.{◌≡◌, ◌≢◌, ◌≤◌, None, is_some, refl};
+ghost use Rattle.std.specs.Prelude.{◌≡◌, ◌≢◌, ◌≤◌, None};
 ghost use Rattle.cf_base.specs.Count.{HasRisen, HasRisenByOne, kept};
 ghost use Rattle.scan_source.specs.Answers.{Fills};
 ghost use Rattle.scan_source.specs.Memory.{memory_of};

@@ -1,5 +1,5 @@
 //! Source files of the file system.
-ghost use Rattle.std.specs.Prelude.{◌≡◌, ◌≤◌, [], None, IfOk, IfSome, length, min, vec_len, refl};
+ghost use Rattle.std.specs.Prelude.{◌≡◌, ◌≤◌, None, IfOk, length, min, vec_len};
 ghost use Rattle.cf_base.specs.Count.{kept};
 
 use crate::{Head, Loaded, Scans};

@@ -1,10 +1,10 @@
 //! The table of the source reels.
-ghost use Rattle.std.specs.Prelude.{◌≡◌, ◌≤◌, ◌<◌, take, length, slice_get, Some, None, IfOk, IfSome};
+ghost use Rattle.std.specs.Prelude.{◌≡◌, ◌≤◌, ◌<◌, length, slice_get, Some, None, IfOk, IfSome};
 ghost use Rattle.std.specs.Option.{option_map};
 ghost use Rattle.std.specs.List.{list_any};
 ghost use Rattle.cf_base.specs.Fail.{Gives};
 ghost use Rattle.cf_base.specs.declared.reel.ReelEntry.{ReelEntry};
-ghost use Rattle.source_reels.specs.Reels.{has_name, reel_place, reels_fault, kind_after, is_past_end, path_at, key_in, IsTabled, NoFaultBefore, table_of};
+ghost use Rattle.source_reels.specs.Reels.{has_name, reel_place, reels_fault, kind_after, is_past_end, path_at, key_in, IsTabled, table_of};
 
 use crate::path::{key_of, path_of};
 use cf_base::{Fail, Key, Name, PathText, ReelEntry, ReelRows};

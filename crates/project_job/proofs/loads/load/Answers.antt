@@ -1,7 +1,6 @@
 -- What a load leaves of the scan: a file that was got, and one that is absent, are no failure.
-use Rattle.std.proofs.Common.{◌≢◌, ℕ, Result, Ok, Err}
+use Rattle.std.proofs.Common.{◌≢◌, ℕ, Result, Err}
 use Rattle.scan_source.proofs.Leaving.{leaves_by}
-use Rattle.scan_source.specs.declared.scans.Loaded.{Loaded}
 use Rattle.scan_source.specs.declared.scans.Loaded.TheVariants as loaded
 use Rattle.outcome_line.specs.declared.outcome.Outcome.{Outcome}
 use Rattle.outcome_line.specs.declared.outcome.Outcome.TheVariants as outcomes
