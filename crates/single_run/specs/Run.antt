@@ -48,8 +48,8 @@ abbrev pub AcksOpenBut : ℕ → JobData → (gates : List Bool) → History →
 AcksOpenBut i job gates new = (k : ℕ) → k ≢ i
     → HasAcked job k (view_of new) ↔ (slice_index_or gates k false ≡ true)
 
--- What the work on frame i makes of an open reel. The frame's gate was closed. It was finished; or the work ended
--- before, and no frame was. No file was written but those of frames whose gate was closed, and the ledger's.
+-- What the work on frame i, whose gate was closed, makes of an open reel: the frame is finished, or no frame is where the
+-- work ended early. No file is written but those of frames whose gate was closed, and the ledger's.
 pub record HasRunFrame {D R : Type 0} (i : ℕ) (job : JobData) (told : Option World) (tells : Bool) (history : D → History)
     (loans : D → List Loan) (faults : D → ℕ) (result : Result R RunEnd) (old new : ReelView D) : Type 0 where
   pub fresh : slice_index_or old.ledger.gates i false ≡ false
