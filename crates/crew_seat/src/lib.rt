@@ -7,5 +7,5 @@ mod seats;
 mod why;
 
 pub use seat::Seat;
-pub use seats::{push_within, seat_all, threads_each, unseat};
+pub use seats::{seat_all, threads_each, unseat};
 pub use why::{is_source_fault, why_of};

@@ -1,5 +1,5 @@
 //! The seats of a crew: one for each scan, made before the workers begin and taken apart after they have returned.
-ghost use Rattle.std.specs.Prelude.{◌≡◌, ◌+◌, ◌<◌, ◌≤◌, ◌++◌, ◌∷◌, ℕ, All, [], false, map, slice_index_or, sum_by, vec_len, vec_capacity};
+ghost use Rattle.std.specs.Prelude.{◌≡◌, ◌+◌, ◌<◌, ◌≤◌, ℕ, All, [], false, map, slice_index_or, sum_by, vec_len, vec_capacity};
 ghost use Rattle.shared_station.specs.Marks.{HasMoreThan};
 ghost use Rattle.crew_seat.specs.Seats.{HasGiven, HasTaken};
 ghost use Rattle.crew_seat.specs.Stepped.{IsFresh, WasCounted};
@@ -59,7 +59,7 @@ pub fn seat_all<S: Scans, N: Work, C: Crewed>(
             has_failed: false,
             of: PhantomData,
         };
-        push_within(&mut seats, seat);
+        seats.push_reserved(seat);
         number += 1;
     }
     seats
@@ -101,21 +101,7 @@ pub fn unseat<S: Scans, N: Work, C: Crewed>(
         marks.join(theirs);
         units.join(asked);
         loads += more;
-        push_within(&mut scans, scan);
+        scans.push_reserved(scan);
     }
     (scans, loads)
-}
-
-/// Adds an item where there is room, which takes no memory.
-pub fn push_within<T>(list: &mut Vec<T>, item: T)
-    requires { vec_len list.old < vec_capacity list.old }
-    ensures items { list.new.items ≡ list.old.items ++ item ∷ [] }
-    ensures len { vec_len list.new ≡ vec_len list.old + 1 }
-    ensures capacity { vec_capacity list.new ≡ vec_capacity list.old }
-{
-    let at = list.len();
-    match list.insert(at, item) {
-        Ok(()) => {}
-        Err(_) => unreachable!(),
-    }
 }

@@ -1,5 +1,5 @@
 //! The reel of a job.
-ghost use Rattle.std.specs.Prelude.{◌≡◌, ◌≢◌, ◌+◌, ◌<◌, ◌++◌, ◌∷◌, [], true, false, Some, Err, length, slice_index_or, vec_len, vec_capacity, OnOk, OnErr, IfOk, IsErr, IsErrOf};
+ghost use Rattle.std.specs.Prelude.{◌≡◌, ◌≢◌, ◌<◌, true, false, Some, Err, length, slice_index_or, OnOk, OnErr, IfOk, IsErr, IsErrOf};
 ghost use Rattle.cf_base.specs.Count.{HasCause};
 ghost use Rattle.conform_job.specs.Job.{file_of};
 ghost use Rattle.reel_disk.specs.Disk.{Files, moment_of, view_of};
@@ -60,19 +60,6 @@ impl<D: Disk, N: Work> Model for Reel<D, N> {
         })
         × (length r.ledger.gates ≤ vec_capacity r.acks)
         × (r.closed ≡ false → r.ledger.closed ≡ false) };
-}
-
-/// Adds an item where there is room, which takes no memory.
-fn push_within(list: &mut Vec<u32>, item: u32)
-    requires { vec_len list.old < vec_capacity list.old }
-    ensures items { list.new.items ≡ list.old.items ++ item ∷ [] }
-    ensures capacity { vec_capacity list.new ≡ vec_capacity list.old }
-{
-    let at = list.len();
-    match list.insert(at, item) {
-        Ok(()) => {}
-        Err(_) => unreachable!(),
-    }
 }
 
 impl<D: Disk, N: Work> Reel<D, N> {
@@ -192,7 +179,7 @@ impl<D: Disk, N: Work> Reel<D, N> {
             hash,
         ) {
             Ok(()) => {
-                push_within(&mut self.acks, i);
+                self.acks.push_reserved(i);
                 Ok(())
             }
             Err(DiskFault) => {

@@ -29,7 +29,7 @@ or_one false = refl
 -- what a board keeps by a step: the new cursor, turns and history
 pub IsBoard-step : (a : Inside) (s : Step) (cursor : ℕ) (b : Bool) (history : Vec Step Global) → IsBoard a → IsNext (log_of a) s → worker_of s < a.workers
     → history.items ≡ a.history.items ++ s ∷ []
-    → vec_capacity a.history ≤ vec_capacity history
+    → vec_capacity history ≡ vec_capacity a.history
     → b ≡ (a.has_stopped || is_stop s)
     → a.cursor ≤ cursor → cursor ≤ length a.start.items
     → ((i : ℕ) → a.cursor ≤ i → i < cursor → is_free (with_step (log_of a) s) i ≡ false)
@@ -68,14 +68,14 @@ some_left turns.Stopped h = absurd (h refl)
 
 pub IsBoard-finish : (a : Inside) (w frame : ℕ) (history : Vec Step Global) → IsBoard a → w < a.workers → turn_of (log_of a) w ≡ turns.Holds frame
     → history.items ≡ a.history.items ++ Finish w frame ∷ []
-    → vec_capacity a.history ≤ vec_capacity history
+    → vec_capacity history ≡ vec_capacity a.history
     → IsBoard (record a { turns = set a.turns w turns.Idle; history = history })
 IsBoard-finish a w frame history old known holds items capacity =
     IsBoard-step a (Finish w frame) a.cursor a.has_stopped history old (known, holds) known items capacity (or_none a.has_stopped) (omega arith) old.cursor (λ i l h. absurd (omega arith)) (λ i h. refl) (rw holds (omega arith))
 
 pub IsBoard-stop : (a : Inside) (w : ℕ) (why : Why) (history : Vec Step Global) → IsBoard a → w < a.workers → turn_of (log_of a) w ≢ turns.Stopped
     → history.items ≡ a.history.items ++ Stop w why ∷ []
-    → vec_capacity a.history ≤ vec_capacity history
+    → vec_capacity history ≡ vec_capacity a.history
     → IsBoard (record a { turns = set a.turns w turns.Stopped; has_stopped = true; history = history })
 IsBoard-stop a w why history old known running items capacity =
     let left : 1 ≤ steps_left (turn_of (log_of a) w) = some_left _ running in
@@ -87,7 +87,7 @@ pub IsBoard-claim : (a : Inside) (w frame : ℕ) (history : Vec Step Global) →
     → is_free (log_of a) frame ≡ true
     → ((j : ℕ) → j < frame → is_free (log_of a) j ≡ false)
     → history.items ≡ a.history.items ++ Claim w frame ∷ []
-    → vec_capacity a.history ≤ vec_capacity history
+    → vec_capacity history ≡ vec_capacity a.history
     → IsBoard (record a { cursor = frame + 1; turns = set a.turns w (turns.Holds frame); history = history })
 IsBoard-claim a w frame history old known going idle least within here before items capacity =
     let low : a.cursor ≤ frame = elim (below_or_not frame a.cursor) [ inl past ↦ cc (old.taken frame past, here) | inr since ↦ since ] in

@@ -1,5 +1,5 @@
 //! The board: a cursor behind which no frame is free, one turn for each worker, and the history.
-ghost use Rattle.std.specs.Prelude.{◌≡◌, ◌≢◌, ◌<◌, ◌≤◌, ◌++◌, ◌∷◌, vec_len, vec_capacity, length, [], IfOk, IfSome, true, false};
+ghost use Rattle.std.specs.Prelude.{◌≡◌, ◌≢◌, ◌<◌, ◌≤◌, length, [], IfOk, IfSome, true, false};
 ghost use Rattle.render_board.specs.declared.board.Turn.TheVariants as turns;
 ghost use Rattle.render_board.specs.Board.{IsLegal, turn_of, claim_of, least_free, after_claim, with_step};
 ghost use Rattle.render_board.specs.Inside.{IsLeastFree};
@@ -103,7 +103,7 @@ impl Board {
         };
         self.cursor = frame as usize + 1;
         self.turns[usize::from(worker)] = Turn::Holds(frame);
-        push_within(&mut self.history, Step::Claim { worker, frame });
+        self.history.push_reserved(Step::Claim { worker, frame });
         Claim::Take(frame)
     }
 
@@ -114,7 +114,7 @@ impl Board {
         ensures { self.new ≡ with_step self.old (Step.Finish worker frame) }
     {
         self.turns[usize::from(worker)] = Turn::Idle;
-        push_within(&mut self.history, Step::Finish { worker, frame });
+        self.history.push_reserved(Step::Finish { worker, frame });
     }
 
     /// The worker does no more; a frame that it holds stays claimed. Takes no memory.
@@ -125,7 +125,7 @@ impl Board {
     {
         self.turns[usize::from(worker)] = Turn::Stopped;
         self.has_stopped = true;
-        push_within(&mut self.history, Step::Stop { worker, why });
+        self.history.push_reserved(Step::Stop { worker, why });
     }
 
     /// What the worker is at. Takes no memory.
@@ -175,17 +175,5 @@ impl Board {
             }
         }
         None
-    }
-}
-
-/// Puts a step at the end, where there is room.
-fn push_within(history: &mut Vec<Step>, step: Step)
-    requires { vec_len history.old < vec_capacity history.old }
-    ensures steps { history.new.items ≡ history.old.items ++ step ∷ [] }
-    ensures capacity { vec_capacity history.old ≤ vec_capacity history.new }
-{
-    match history.push(step) {
-        Ok(()) => {}
-        Err(_) => unreachable!(),
     }
 }

@@ -22,7 +22,7 @@ ghost use Rattle.shared_station.specs.StationSteps.{IsBeginning};
 
 use crate::work::work_all;
 use conform_job::{Job, Work};
-use crew_seat::{Seat, push_within, seat_all, threads_each, unseat};
+use crew_seat::{Seat, seat_all, threads_each, unseat};
 use frame_fetch::RunEnd;
 use frame_share::{Share, ShareLog, Units};
 use reel_disk::{Disk, Start};
@@ -123,7 +123,7 @@ fn board_of<D: Disk, N: Work>(
         Err(_) => return None,
     };
     for i in 0..count {
-        push_within(&mut done, reel.is_acked(i));
+        done.push_reserved(reel.is_acked(i));
     }
     match Board::new(alloc, &done, workers) {
         Ok(board) => Some(board),

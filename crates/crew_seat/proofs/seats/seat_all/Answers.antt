@@ -15,10 +15,10 @@ loop-scan-preserved g c =
       left = more_came _ c.loop-scan.yielded _ _ c.in-Some.scan c.loop-scan.invariant.left c.in-Some.ensures.steps.0;
       number = omega (arith, more, c.loop-scan.invariant.number);
       capacity = search rules;
-      len = omega (arith, more, c.loop-scan.invariant.len, c.push_within.ensures.len);
-      scans = rw (c.push_within.ensures.items, map-append, c.loop-scan.invariant.scans) refl;
-      fresh = rw c.push_within.ensures.items (All-push (λ s. IsFresh s) c.loop-scan.seats.items _ c.loop-scan.invariant.fresh (record { marks = c.split.ensures.new; units = c.split-in-loop-scan.ensures.new; none = refl; unfailed = refl }));
-      numbers = rw (c.push_within.ensures.items, more) (numbered_more (λ s. s.number) c.loop-scan.seats.items _ _ (search rules) c.loop-scan.invariant.number c.loop-scan.invariant.numbers);
+      len = omega (arith, more, c.loop-scan.invariant.len, c.push_reserved.ensures.len);
+      scans = rw (c.push_reserved.ensures.items, map-append, c.loop-scan.invariant.scans) refl;
+      fresh = rw c.push_reserved.ensures.items (All-push (λ s. IsFresh s) c.loop-scan.seats.items _ c.loop-scan.invariant.fresh (record { marks = c.split.ensures.new; units = c.split-in-loop-scan.ensures.new; none = refl; unfailed = refl }));
+      numbers = rw (c.push_reserved.ensures.items, more) (numbered_more (λ s. s.number) c.loop-scan.seats.items _ _ (search rules) c.loop-scan.invariant.number c.loop-scan.invariant.numbers);
       given = given_more _ _ _ _ _ _ c.loop-scan.invariant.given c.split.ensures.new c.split.ensures.all more;
       shares = units_left _ _ _ _ _ c.split-in-loop-scan.ensures.new c.split-in-loop-scan.ensures.all c.loop-scan.invariant.shares more;
       amount = units_amount _ _ _ c.split-in-loop-scan.ensures.new c.split-in-loop-scan.ensures.all ∙ c.loop-scan.invariant.amount;
@@ -32,8 +32,8 @@ overflow_add-number g c =
     let fits = next_number _ _ _ _ inv.number (not_all_came _ c.loop-scan.yielded _ _ c.in-Some.scan whole c.in-Some.ensures.steps.0) c.args.scans.ok.0 c.requires.few in
     omega (arith, fits)
 
-pub push_within-requires : goal.push_within-requires
-push_within-requires g c =
+pub push_reserved-requires : goal.push_reserved-requires
+push_reserved-requires g c =
     let inv = c.loop-scan.invariant in
     let whole = inv.left ∙ c.into_iter-scan-iterator.ensures.into_iter_gives.0 in
     has_room _ _ _ _ _ _ inv.len inv.capacity (not_all_came _ c.loop-scan.yielded _ _ c.in-Some.scan whole c.in-Some.ensures.steps.0) c.args.scans.ok.0 c.requires.room

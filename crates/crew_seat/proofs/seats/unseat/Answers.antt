@@ -22,9 +22,9 @@ loop-seat-preserved g c =
       can = tt;
       ends = tt;
       left = more_came _ came _ _ seat inv.left c.in-Some.ensures.steps.0;
-      capacity = c.push_within.ensures.capacity ∙ inv.capacity;
-      len = c.push_within.ensures.len ∙ ap (λ n. n + 1) inv.len ∙ sym more;
-      scans = rw (c.push_within.ensures.items, map-append, inv.scans) refl;
+      capacity = c.push_reserved.ensures.capacity ∙ inv.capacity;
+      len = c.push_reserved.ensures.len ∙ ap (λ n. n + 1) inv.len ∙ sym more;
+      scans = rw (c.push_reserved.ensures.items, map-append, inv.scans) refl;
       loads = ap (λ n. n + seat.loads) inv.loads ∙ sym (sum_by_push (λ s. s.loads) came seat);
       few = let before = inv.few in omega (arith, before, lent, more);
       source = let before = inv.source in omega (arith, before, ap (λ (t : Tallies). t.source.amount) c.join.ensures.all, sum_by_push (λ s. s.marks.source.amount) came seat);
@@ -44,8 +44,8 @@ overflow_add-loads g c =
     let fits = few_loads _ _ _ _ inv.few counted.few within (subst (λ n. n ≤ 16) c.args.seats.ok.0 c.requires.some) in
     omega (arith, fits)
 
-pub push_within-requires : goal.push_within-requires
-push_within-requires g c =
+pub push_reserved-requires : goal.push_reserved-requires
+push_reserved-requires g c =
     let came = c.loop-seat.yielded in
     let inv = c.loop-seat.invariant in
     let whole = inv.left ∙ c.into_iter-seat-iterator.ensures.into_iter_gives.0 in

@@ -82,8 +82,8 @@ returns-in-Ok-clause-stored g c told files image =
     let bytes : c.bytes.result.now ≡ c.args.frame.now.bytes = search rules in
     ap files (sym file) ∙ c.in-Ok.ensures.stored told files image ∙ ap Some bytes
 
-pub push_within-requires : goal.push_within-requires
-push_within-requires g c =
+pub push_reserved-requires : goal.push_reserved-requires
+push_reserved-requires g c =
     let of = c.self.invariant.0 in
     let below = c.index-i.ensures.below in
     let size = of.size in
@@ -109,11 +109,11 @@ invariant_of-self g c =
     let within : c.index-i.result < length c.self.inside.ledger.gates = omega (arith, below, size) in
     let fresh = ap (λ (l : List Bool). get_or l c.index-i.result false) (gates_same _ _ c.self.view_is) ∙ ap (λ n. get_or c.args.self.now.ledger.gates n false) index ∙ c.requires.fresh in
     let gates : c.store.new.ledger.gates ≡ set c.self.inside.ledger.gates c.index-i.result true = ap (λ (l : LedgerState). l.gates) c.in-Ok.ensures.ledger in
-    let acks : c.push_within.new.list.items ≡ c.self.inside.acks.items ++ c.index-i.result ∷ [] = c.push_within.ensures.items in (
+    let acks : c.push_reserved.new.self.items ≡ c.self.inside.acks.items ++ c.index-i.result ∷ [] = c.push_reserved.ensures.items in (
       record {
         digest = ap (λ (l : LedgerState). l.digest) c.in-Ok.ensures.ledger ∙ of.digest;
         size = ap length gates ∙ length-set c.self.inside.ledger.gates c.index-i.result true ∙ of.size;
-        acked = subst (λ (l : List Bool). (j : ℕ) → j < length c.push_within.new.list.items → get_or l (get_or c.push_within.new.list.items j 0) false ≡ true) (sym gates)
+        acked = subst (λ (l : List Bool). (j : ℕ) → j < length c.push_reserved.new.self.items → get_or l (get_or c.push_reserved.new.self.items j 0) false ≡ true) (sym gates)
             (subst (λ (a : List ℕ). (j : ℕ) → j < length a → get_or (set c.self.inside.ledger.gates c.index-i.result true) (get_or a j 0) false ≡ true) (sym acks) (acked_more g.N.Work.job g.D.Disk.tells g.D.Disk.history _ of c.index-i.result within fresh));
         once = subst (λ (a : List ℕ). (j k : ℕ) → j < k → k < length a → get_or a j 0 ≢ get_or a k 0) (sym acks) (once_more g.N.Work.job g.D.Disk.tells g.D.Disk.history _ of c.index-i.result within fresh);
         kept = ap (λ (a : List ℕ). c.self.inside.kept + length a) acks ∙ kept_more g.N.Work.job g.D.Disk.tells g.D.Disk.history _ of c.index-i.result within fresh ∙ sym (ap (λ (l : List Bool). count_by (λ gate. gate) l) gates);

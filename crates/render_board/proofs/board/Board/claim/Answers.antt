@@ -13,4 +13,4 @@ invariant_of-self c =
     let known : c.args.worker < c.self.inside.workers = subst (λ (log : Log). c.args.worker < log.workers) (sym same) c.requires.worker in
     let least : least_free (log_of c.self.inside) ≡ Some c.in-Some.frame = subst (λ (log : Log). least_free log ≡ Some c.in-Some.frame) (sym same) (sym c.in-Some.ensures.least) in
     let found = subst (λ (log : Log). (c.in-Some.frame < length log.start) × (is_free log c.in-Some.frame ≡ true) × ((j : ℕ) → j < c.in-Some.frame → is_free log j ≡ false)) (sym same) c.in-Some.ensures.found in
-    rw c.from.ensures (IsBoard-claim c.self.inside c.args.worker c.in-Some.frame c.push_within.new.history c.self.invariant known c.if-self.false idle least found.0 found.1 found.2 c.push_within.ensures.steps c.push_within.ensures.capacity)
+    rw c.from.ensures (IsBoard-claim c.self.inside c.args.worker c.in-Some.frame c.push_reserved.new.self c.self.invariant known c.if-self.false idle least found.0 found.1 found.2 c.push_reserved.ensures.items c.push_reserved.ensures.capacity)
