@@ -24,6 +24,15 @@ use scan_source::Scans;
 use std::alloc::Global;
 use std::sync::ledger::Ledger;
 
+/// Whether a run passes over record frame `i`: just where it is acknowledged.
+fn is_passed_over<N: Work, D: Disk>(reel: &Reel<D, N>, i: u32) -> bool
+    requires index { i < frames_of N.job }
+    ensures passed { result ≡ slice_index_or reel.now.ledger.gates i false }
+    ensures reel { IsReelOf N.job D.tells D.history reel.now }
+{
+    reel.is_acked(i)
+}
+
 /// Renders record frame `i`, which isn't acknowledged, and finishes it. The room is handed back for
 /// another frame.
 fn run_frame<N: Work, L: Ledger, S: Scans, D: Disk>(
@@ -114,7 +123,7 @@ pub(crate) fn run_frames<N: Work, L: Ledger, S: Scans, D: Disk>(
     };
     let mut rooms = Rooms::new(alloc);
     for i in 0..job.count() {
-        if reel.is_acked(i) {
+        if is_passed_over(reel, i) {
             continue;
         }
         match run_frame(

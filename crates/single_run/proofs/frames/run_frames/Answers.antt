@@ -38,11 +38,11 @@ loop-i-init g c = record {
 }
 
 -- a frame that is acknowledged is passed over
-pub loop-i-preserved-then-is_acked : goal.loop-i-preserved-then-is_acked
-loop-i-preserved-then-is_acked g c =
+pub loop-i-preserved-then-is_passed_over : goal.loop-i-preserved-then-is_passed_over
+loop-i-preserved-then-is_passed_over g c =
     let inv = c.loop-i.invariant in
     let next : suc c.loop-i.i ≡ c.loop-i.i + 1 = omega arith in
-    let acked : get_or c.loop-i.reel.ledger.gates c.loop-i.i false ≡ true = sym c.is_acked.ensures.acked ∙ c.if-is_acked.true in
+    let acked : get_or c.loop-i.reel.ledger.gates c.loop-i.i false ≡ true = sym c.is_passed_over.ensures.passed ∙ c.if-is_passed_over.true in
     let was = sym (gate_still c.args.reel.now c.loop-i.reel c.loop-i.i inv.past) ∙ acked in
     record {
       within = let lt = c.loop-i-test.true in let all = inv.ending in omega (arith, lt, all);
@@ -66,10 +66,10 @@ loop-i-preserved-then-is_acked g c =
 
 -- any other is made and finished
 pub run_frame-requires-clause-reel : goal.run_frame-requires-clause-reel
-run_frame-requires-clause-reel g c = c.is_acked.ensures.reel
+run_frame-requires-clause-reel g c = c.is_passed_over.ensures.reel
 
 pub run_frame-requires-clause-fresh : goal.run_frame-requires-clause-fresh
-run_frame-requires-clause-fresh g c = sym c.is_acked.ensures.acked ∙ c.if-is_acked.false
+run_frame-requires-clause-fresh g c = sym c.is_passed_over.ensures.passed ∙ c.if-is_passed_over.false
 
 pub loop-i-preserved : goal.loop-i-preserved
 loop-i-preserved g c =
