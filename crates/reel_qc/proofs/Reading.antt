@@ -55,10 +55,19 @@ words_along done count bytes =
     (same_words (λ k. f (first + k)) (λ k. big_number 4 (drop (2048 + 4 * done + 4 * k) bytes)) rest
     (λ k lt. ap (λ n. big_number 4 (drop n bytes)) (omega (arith, lt))))
 
-pub words_more : (done count : ℕ) (content : Option (List ℕ)) (before : List ℕ) → before ++ words_in 0 (done + count) content ≡ (before ++ words_in 0 done content) ++ words_in done count content
+words_more : (done count : ℕ) (content : Option (List ℕ)) (before : List ℕ) → before ++ words_in 0 (done + count) content ≡ (before ++ words_in 0 done content) ++ words_in done count content
 words_more done count None before = sym (append-nil _)
 words_more done count (Some bytes) before =
     ap (λ l. before ++ l) (words_along done count bytes) ∙ sym (append_assoc before (words_from 2048 done bytes) (words_from (2048 + 4 * done) count bytes))
+
+-- what was read so far, with the next words of the same file behind it
+pub words_behind : (done count : ℕ) (content later : Option (List ℕ)) (before so_far out : List ℕ)
+    → later ≡ content → so_far ≡ before ++ words_in 0 done content → out ≡ so_far ++ words_in done count later
+    → out ≡ before ++ words_in 0 (done + count) content
+words_behind done count content later before so_far out same was is =
+    is ∙ ap (λ l. l ++ words_in done count later) was
+    ∙ ap (λ file. (before ++ words_in 0 done content) ++ words_in done count file) same
+    ∙ sym (words_more done count content before)
 
 words_none : (bytes : List ℕ) → words_from 2048 0 bytes ≡ []
 unfolding words_from
