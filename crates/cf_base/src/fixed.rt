@@ -8,17 +8,20 @@ ghost use Rattle.cf_base.specs.Fixed.{fixed_of, mantissa, exponent, is_exponent_
 ghost use Rattle.cf_base.specs.FixedSize.{moved_size};
 
 use crate::digits::are_digits;
+use thiserror::Error;
 
 /// A number in units of 10^-9.
 #[derive(Clone, Copy, Debug, PartialEq, Eq)]
 pub struct Fixed(pub i64);
 
 /// Why a token is no number.
-#[derive(Clone, Copy, Debug, PartialEq, Eq)]
+#[derive(Clone, Copy, Debug, PartialEq, Eq, Error)]
 pub enum FixedFault {
     /// 1.1: its form isn't that of a number.
+    #[error("not in the form of a number")]
     NotNumber,
     /// 1.2: its exponent is over 99 in size.
+    #[error("an exponent over 99 in size")]
     Exponent,
 }
 

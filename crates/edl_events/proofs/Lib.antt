@@ -1,5 +1,6 @@
 pub mod AcceptedLaws
 pub mod Desk
+pub mod MotionRows
 pub mod MapLaws
 pub mod Moves
 pub mod Sizes

@@ -1,3 +1,4 @@
 pub mod Rows
 pub mod PictureLaws
 pub mod SpeedLaws
+pub mod TitleLaws

@@ -10,7 +10,7 @@ mod numbers;
 ghost use Rattle.std.specs.Prelude.{◌≡◌, ◌≤◌, length, map, IfOk, List, ℕ};
 ghost use Rattle.std.specs.List.{list_all, prefix_len, suffix_len};
 ghost use Rattle.cf_base.specs.Tokens.{tokens, is_blank};
-ghost use Rattle.edl_lines.specs.Within.{IsIn};
+ghost use Rattle.edl_lines.specs.Within.{IsIn, IsSpanIn};
 ghost use Rattle.edl_lines.specs.Lines.{reading, fcm_of, trimmed_from};
 
 use cf_base::{Mode, Name, Span, Transition, is_blank, token_from};
@@ -117,7 +117,8 @@ pub fn read_line(line: &[u8]) -> Result<LineKind, LineFault>
 fn trimmed_from(line: &[u8], from: usize) -> Span
     requires within { from ≤ length line.now }
     requires small { length line.now ≤ 4194304 }
-    ensures { result ≡ trimmed_from line.now from }
+    ensures text { result ≡ trimmed_from line.now from }
+    ensures within { IsSpanIn line.now result }
 {
     let rest = &line[from..];
     if are_blank(rest) {
