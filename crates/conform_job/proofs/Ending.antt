@@ -8,16 +8,17 @@ use Rattle.record_timeline.specs.declared.Shot.{Shot}
 use Rattle.scan_source.specs.World.{World, file_at}
 use Rattle.source_reels.specs.Reels.{path_of_key}
 use Rattle.conform_job.specs.declared.frames.Ask.{Ask}
+use Rattle.conform_job.specs.declared.frames.Named.{Named}
 use Rattle.conform_job.specs.declared.parts.JobParts.{JobParts}
 use Rattle.conform_job.specs.declared.parts.JobFault.{JobFault}
 use Rattle.conform_job.specs.declared.parts.JobFault.TheVariants as fault
-use Rattle.conform_job.specs.Answers.{AreInfosOf, Grows, HeadsGrow, IsOfFrames, IsRefusal, count_after}
+use Rattle.conform_job.specs.Answers.{AreInfosOf, Grows, HeadsGrow, IsOfFrame, IsRefusal, count_after}
 use Rattle.conform_job.specs.Asks.{asks_at, asks_from, asks_of, asks_of_shot, shot_of_frame}
 use Rattle.conform_job.specs.Cuts.{bad_cut}
 use Rattle.conform_job.specs.Ended.{EndAt, HasAsked, head_count, path_count}
 use Rattle.conform_job.specs.Keys.{key_of_ask}
 use Rattle.conform_job.specs.Lines.{IsCutUnless, IsPlacedUnless}
-use Rattle.conform_job.specs.Refusals.{asks_refusal}
+use Rattle.conform_job.specs.Refusals.{asks_refusal, name_of_ask}
 use Rattle.conform_job.proofs.Growing.{grown_none, grown_both}
 use Rattle.conform_job.proofs.Heads.{heads_same, heads_both}
 
@@ -28,12 +29,13 @@ no_memory (Some world) first = tt
 
 module _ (p : JobParts) (told : Option World) where
   pub ended_one : (ask : Ask) (infos : List (Key × FrameInfo)) (before after : ℕ) (why : JobFault) → AreInfosOf p told infos → after ≡ count_after (head_count p ask) before
-      → IfSome told (λ world. IsRefusal why (asks_refusal p (file_at world) (ask ∷ []))) → EndAt p told (ask ∷ []) infos before after why
-  ended_one ask infos before after why each own refused = record {
+      → IsOfFrame (name_of_ask p.timeline.events ask) why → IfSome told (λ world. IsRefusal why (asks_refusal p (file_at world) (ask ∷ []))) → EndAt p told (ask ∷ []) infos before after why
+  ended_one ask infos before after why each own named refused = record {
     passed = [];
     ask = ask;
     others = [];
     split = refl;
+    named = named;
     refused = refused;
     kept = infos;
     grows = grown_none p told infos each;
@@ -48,6 +50,7 @@ module _ (p : JobParts) (told : Option World) where
     ask = e.ask;
     others = e.others ++ ys;
     split = ap (λ zs. zs ++ ys) e.split ∙ append_assoc e.passed (e.ask ∷ e.others) ys;
+    named = e.named;
     refused = e.refused;
     kept = e.kept;
     grows = e.grows;
@@ -63,6 +66,7 @@ module _ (p : JobParts) (told : Option World) where
     ask = e.ask;
     others = e.others;
     split = ap (λ zs. xs ++ zs) e.split ∙ sym (append_assoc xs e.passed (e.ask ∷ e.others));
+    named = e.named;
     refused = e.refused;
     kept = e.kept;
     grows = grown_both p told xs e.passed infos mid e.kept grows e.grows;
@@ -74,7 +78,7 @@ module _ (p : JobParts) (told : Option World) where
   pub ended_memory : (ask : Ask) (infos : List (Key × FrameInfo)) (before after : ℕ) (why : JobFault) → AreInfosOf p told infos → after ≡ count_after (head_count p ask) before
       → why ≡ fault.NoMemory → EndAt p told (ask ∷ []) infos before after why
   ended_memory ask infos before after why each own is = subst (EndAt p told (ask ∷ []) infos before after) (sym is)
-      (ended_one ask infos before after fault.NoMemory each own (no_memory told (λ world. asks_refusal p (file_at world) (ask ∷ []))))
+      (ended_one ask infos before after fault.NoMemory each own tt (no_memory told (λ world. asks_refusal p (file_at world) (ask ∷ []))))
 
   pub ended_none : (ask : Ask) (n : ℕ) → None ≡ key_of_ask p.reels p.timeline.events ask → n ≡ count_after (head_count p ask) n
   ended_none ask n is = rw (← is) refl
@@ -83,15 +87,24 @@ module _ (p : JobParts) (told : Option World) where
       → after ≡ count_after (head_count p ask) before
   ended_key ask key before after is asked = rw (← is) asked
 
+  -- a source frame without a file, and a fault of the one that the frame is named by
+  pub named_missing : (ask : Ask) (named : Named) (why : JobFault) → name_of_ask p.timeline.events ask ≡ Some named → why ≡ fault.MissingFrame named.line named.reel named.source
+      → IsOfFrame (name_of_ask p.timeline.events ask) why
+  named_missing ask named why name is = rw (is, name) refl
+
+  pub named_same : (ask : Ask) (named : Named) (why : JobFault) → name_of_ask p.timeline.events ask ≡ Some named → IsOfFrame (Some named) why
+      → IsOfFrame (name_of_ask p.timeline.events ask) why
+  named_same ask named why name is = rw name is
+
   -- each fault of the frames is an end at an ask
-  pub ended_asked : (before after : ℕ) (why : JobFault) → IsOfFrames why → EndAt p told (asks_of p.timeline) [] before after why → HasAsked p told before after why
-  ended_asked before after fault.SourceFault kind e = e
-  ended_asked before after fault.NoMemory kind e = tt
-  ended_asked before after (fault.BadCut cut) kind e = absurd kind
-  ended_asked before after (fault.UnknownReel line) kind e = absurd kind
-  ended_asked before after (fault.MissingFrame line reel source) kind e = e
-  ended_asked before after (fault.BadFrame line reel source bad) kind e = e
-  ended_asked before after (fault.Geometry line reel source) kind e = e
+  pub ended_asked : (before after : ℕ) (why : JobFault) → EndAt p told (asks_of p.timeline) [] before after why → HasAsked p told before after why
+  ended_asked before after fault.SourceFault e = e
+  ended_asked before after fault.NoMemory e = tt
+  ended_asked before after (fault.BadCut cut) e = absurd e.named
+  ended_asked before after (fault.UnknownReel line) e = absurd e.named
+  ended_asked before after (fault.MissingFrame line reel source) e = e
+  ended_asked before after (fault.BadFrame line reel source bad) e = e
+  ended_asked before after (fault.Geometry line reel source) e = e
 
   pub cut_asked : (before : ℕ) (why : JobFault) → IsCutUnless (bad_cut p) why → HasAsked p told before before why
   cut_asked before fault.SourceFault is = absurd is

@@ -1,6 +1,6 @@
 -- What is made of a file that was looked at is what the definition has.
 use Rattle.std.proofs.Common.{◌≡◌, ℕ, Bool, true, false, cond, ◌&&◌, ◌==◌, List, refl, Option, Result}
-use Rattle.std.specs.Prelude.{Some, None, Ok, Err, IfSome, IfOk}
+use Rattle.std.specs.Prelude.{Some, None, Ok, Err, IfSome, IfOk, IfErr}
 use Rattle.cf_base.specs.declared.key.Key.{Key}
 use Rattle.dpx_header.specs.declared.info.FrameInfo.{FrameInfo}
 use Rattle.scan_source.specs.World.{World, file_at}
@@ -11,7 +11,7 @@ use Rattle.conform_job.specs.declared.frames.Named.{Named}
 use Rattle.conform_job.specs.declared.parts.JobParts.{JobParts}
 use Rattle.conform_job.specs.declared.parts.JobFault.{JobFault}
 use Rattle.conform_job.specs.declared.parts.JobFault.TheVariants as fault
-use Rattle.conform_job.specs.Answers.{IsStep, IsJudged, IsInfoOf, unless}
+use Rattle.conform_job.specs.Answers.{IsStep, IsJudged, IsInfoOf, IsOfFrame, unless}
 use Rattle.conform_job.specs.Refusals.{file_refusal, file_of_key}
 
 fault_apart : (a b : JobFault) → ◌≡◌ {A = Result FrameInfo JobFault} (Err a) (Err b) → a ≡ b
@@ -35,6 +35,18 @@ module _ (n : Named) (width height : ℕ) where
   judged_told (seen.Bad bad) result (Some bytes) j h = rw (j, h) refl
   judged_told seen.Absent result file j h = rw (j, h) refl
   judged_told seen.Fault result file j h = rw j tt
+
+  named_unless : (b : Bool) (info : FrameInfo) (result : Result FrameInfo JobFault) → result ≡ unless info (cond b None (Some (fault.Geometry n.line n.reel n.source)))
+      → IfErr result (IsOfFrame (Some n))
+  named_unless true info result e = rw e tt
+  named_unless false info result e = rw e refl
+
+  -- each refusal names the frame
+  pub judged_named : (s : Seen) (result : Result FrameInfo JobFault) → IsJudged n width height s result → IfErr result (IsOfFrame (Some n))
+  judged_named (seen.Info info) result j = named_unless (info.width == width && info.height == height) info result j.0
+  judged_named (seen.Bad bad) result j = rw j refl
+  judged_named seen.Absent result j = rw j refl
+  judged_named seen.Fault result j = rw j tt
 
   -- the end is a fault of the scan just where the file was not seen for one
   pub judged_failed : (s : Seen) (result : Result FrameInfo JobFault) → IsJudged n width height s result → result ≡ Err fault.SourceFault → s ≡ seen.Fault

@@ -3,10 +3,11 @@ use Rattle.std.proofs.Common.{◌≡◌, ◌≢◌, refl, ap, Option, Result}
 use Rattle.std.specs.Prelude.{Some, None, Ok, Err, IfSome}
 use Rattle.scan_source.specs.World.{World, file_at}
 use Rattle.source_reels.proofs.Heads.{told_more}
+use Rattle.conform_job.specs.declared.frames.Named.{Named}
 use Rattle.conform_job.specs.declared.parts.JobParts.{JobParts}
 use Rattle.conform_job.specs.declared.parts.JobFault.{JobFault}
 use Rattle.conform_job.specs.declared.parts.JobFault.TheVariants as fault
-use Rattle.conform_job.specs.Answers.{IsRefusal, IsOfFrames}
+use Rattle.conform_job.specs.Answers.{IsRefusal, IsOfFrame}
 use Rattle.conform_job.specs.Asks.{asks_of}
 use Rattle.conform_job.specs.Job.{IsByLines}
 use Rattle.conform_job.specs.Cuts.{bad_cut}
@@ -96,11 +97,11 @@ module _ (p : JobParts) where
     pub frames_told : (why : JobFault) → IfSome told (λ world. IsRefusal why (asks_refusal p (file_at world) (asks_of p.timeline))) → IfSome told (λ world. IsRefusal why (first_refusal p (file_at world)))
     frames_told why h = told_more told _ _ (λ world is. rw (good, known) is) h
 
-    pub frames_lines : (why : JobFault) → IsOfFrames why → IsByLines why (told_refusal p)
-    frames_lines fault.NoMemory is = tt
-    frames_lines (fault.BadCut cut) is = absurd is
-    frames_lines (fault.UnknownReel line) is = absurd is
-    frames_lines fault.SourceFault is = none_told good known
-    frames_lines (fault.MissingFrame line reel source) is = none_told good known
-    frames_lines (fault.BadFrame line reel source bad) is = none_told good known
-    frames_lines (fault.Geometry line reel source) is = none_told good known
+    pub frames_lines : (named : Option Named) (why : JobFault) → IsOfFrame named why → IsByLines why (told_refusal p)
+    frames_lines named fault.NoMemory is = tt
+    frames_lines named (fault.BadCut cut) is = absurd is
+    frames_lines named (fault.UnknownReel line) is = absurd is
+    frames_lines named fault.SourceFault is = none_told good known
+    frames_lines named (fault.MissingFrame line reel source) is = none_told good known
+    frames_lines named (fault.BadFrame line reel source bad) is = none_told good known
+    frames_lines named (fault.Geometry line reel source) is = none_told good known

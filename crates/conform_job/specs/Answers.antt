@@ -32,15 +32,15 @@ abbrev pub IsStep : {A : Type 0} → Result A JobFault → Option JobFault → T
 IsStep (Ok a) first = first ≡ None
 IsStep (Err why) first = IsRefusal why first
 
--- a refusal by a cut or by an event's reel comes from the project and the lines alone, whatever the scan tells
-abbrev pub IsOfFrames : JobFault → Type 0
-IsOfFrames fault.SourceFault = Unit {0}
-IsOfFrames fault.NoMemory = Unit {0}
-IsOfFrames (fault.BadCut cut) = ⊥
-IsOfFrames (fault.UnknownReel line) = ⊥
-IsOfFrames (fault.MissingFrame line reel source) = Unit {0}
-IsOfFrames (fault.BadFrame line reel source bad) = Unit {0}
-IsOfFrames (fault.Geometry line reel source) = Unit {0}
+-- the fault of a source frame names it, whatever the scan tells; a refusal by a cut or by an event's reel is none of a frame
+abbrev pub IsOfFrame : Option Named → JobFault → Type 0
+IsOfFrame named fault.SourceFault = Unit {0}
+IsOfFrame named fault.NoMemory = Unit {0}
+IsOfFrame named (fault.BadCut cut) = ⊥
+IsOfFrame named (fault.UnknownReel line) = ⊥
+IsOfFrame named (fault.MissingFrame line reel source) = named ≡ Some (record { line = line; reel = reel; source = source })
+IsOfFrame named (fault.BadFrame line reel source bad) = named ≡ Some (record { line = line; reel = reel; source = source })
+IsOfFrame named (fault.Geometry line reel source) = named ≡ Some (record { line = line; reel = reel; source = source })
 
 -- what a job has for a key: of the project's size, and of the key's file where the world is told
 pub record IsInfoOf (p : JobParts) (told : Option World) (key : Key) (info : FrameInfo) : Type 0 where

@@ -8,10 +8,10 @@ use Rattle.dpx_header.specs.declared.info.FrameInfo.{FrameInfo}
 use Rattle.scan_source.specs.World.{World, file_at}
 use Rattle.source_reels.specs.Reels.{path_of_key}
 use Rattle.conform_job.specs.declared.frames.Ask.{Ask}
-use Rattle.conform_job.specs.Answers.{count_after, Grows, HeadsGrow, IsRefusal}
+use Rattle.conform_job.specs.Answers.{count_after, Grows, HeadsGrow, IsOfFrame, IsRefusal}
 use Rattle.conform_job.specs.Asks.{asks_of}
 use Rattle.conform_job.specs.Keys.{key_of_ask}
-use Rattle.conform_job.specs.Refusals.{asks_refusal}
+use Rattle.conform_job.specs.Refusals.{asks_refusal, name_of_ask}
 use Rattle.conform_job.specs.declared.parts.JobParts.{JobParts}
 use Rattle.conform_job.specs.declared.parts.JobFault.{JobFault}
 use Rattle.conform_job.specs.declared.parts.JobFault.TheVariants as fault
@@ -24,13 +24,14 @@ path_count (Some path) = 1
 abbrev pub head_count : JobParts → Ask → ℕ
 head_count p ask = path_count (option_and_then (path_of_key p.reels) (key_of_ask p.reels p.timeline.events ask))
 
--- The fault came at one of these asks. Those before it have their infos, with one head for each info, and then its own head
--- was asked for, if it has a path.
+-- The fault came at one of these asks, and names it. Those before it have their infos, with one head for each info, and then
+-- its own head was asked for, if it has a path.
 pub record EndAt (p : JobParts) (told : Option World) (asks : List Ask) (infos : List (Key × FrameInfo)) (before after : ℕ) (why : JobFault) : Type 0 where
   pub passed : List Ask
   pub ask : Ask
   pub others : List Ask
   pub split : asks ≡ passed ++ (ask ∷ others)
+  pub named : IsOfFrame (name_of_ask p.timeline.events ask) why
   pub refused : IfSome told (λ world. IsRefusal why (asks_refusal p (file_at world) (ask ∷ [])))
   pub kept : List (Key × FrameInfo)
   pub grows : Grows p told passed infos kept

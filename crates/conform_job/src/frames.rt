@@ -7,7 +7,7 @@ ghost use Rattle.record_timeline.specs.Shots.{IsSideIn, IsShotIn};
 ghost use Rattle.source_reels.specs.Reels.{path_of_key};
 ghost use Rattle.source_reels.specs.Seen.{IsSeenFrame};
 ghost use Rattle.conform_job.specs.Ended.{EndAt, EndInTurn, path_count};
-ghost use Rattle.conform_job.specs.Answers.{IsStep, IsOfFrames, IsInfoOf, AreInfosOf, Grows, HeadsGrow, IsJudged, count_after};
+ghost use Rattle.conform_job.specs.Answers.{IsStep, IsOfFrame, IsInfoOf, AreInfosOf, Grows, HeadsGrow, IsJudged, count_after};
 ghost use Rattle.conform_job.specs.Asks.{asks_of, asks_of_side, asks_of_shot, shot_of_frame};
 ghost use Rattle.conform_job.specs.Infos.{IsSetTo, HasEachOnce};
 ghost use Rattle.conform_job.specs.Keys.{info_at, key_at, key_of_ask};
@@ -62,7 +62,7 @@ fn inspect_key<S: Scans>(
     requires { key.reel < length parts.now.reels }
     ensures told { IfSome (S.world scans.old) (λ world. IsStep result (key_refusal parts.now (file_at world) named.now (Some key))) }
     ensures info { IfOk result (IsInfoOf parts.now (S.world scans.old) key) }
-    ensures of_frames { IfErr result IsOfFrames }
+    ensures names { IfErr result (IsOfFrame (Some named.now)) }
 
     ensures scan { LeavesScan S.world S.faults S.same (result ≡ Err JobFault.SourceFault) scans.old scans.new }
 
@@ -180,7 +180,6 @@ fn inspect_frame<S: Scans>(
     requires each { AreInfosOf parts.now (S.world scans.old) infos.old }
     ensures told { IfSome (S.world scans.old) (λ world. IsStep result (asks_refusal parts.now (file_at world) (ask ∷ []))) }
     ensures grows { OnOk result (Grows parts.now (S.world scans.old) (ask ∷ []) infos.old infos.new) }
-    ensures of_frames { IfErr result IsOfFrames }
 
     ensures scan { LeavesScan S.world S.faults S.same (result ≡ Err JobFault.SourceFault) scans.old scans.new }
 
@@ -214,7 +213,6 @@ fn inspect_side<S: Scans>(
     requires each { AreInfosOf parts.now (S.world scans.old) infos.old }
     ensures told { IfSome (S.world scans.old) (λ world. IsStep result (asks_refusal parts.now (file_at world) (asks_of_side side))) }
     ensures grows { OnOk result (Grows parts.now (S.world scans.old) (asks_of_side side) infos.old infos.new) }
-    ensures of_frames { IfErr result IsOfFrames }
 
     ensures scan { LeavesScan S.world S.faults S.same (result ≡ Err JobFault.SourceFault) scans.old scans.new }
 
@@ -247,7 +245,6 @@ fn inspect_shot<S: Scans>(
     requires each { AreInfosOf parts.now (S.world scans.old) infos.old }
     ensures told { IfSome (S.world scans.old) (λ world. IsStep result (asks_refusal parts.now (file_at world) (asks_of_shot shot))) }
     ensures grows { OnOk result (Grows parts.now (S.world scans.old) (asks_of_shot shot) infos.old infos.new) }
-    ensures of_frames { IfErr result IsOfFrames }
 
     ensures scan { LeavesScan S.world S.faults S.same (result ≡ Err JobFault.SourceFault) scans.old scans.new }
 
@@ -275,7 +272,6 @@ pub fn infos_of<S: Scans>(
     requires places { places.now ≡ places_of parts.now.reels parts.now.timeline.events }
     ensures told { IfSome (S.world scans.old) (λ world. IsStep result (frames_refusal parts.now (file_at world))) }
     ensures grows { IfOk result (Grows parts.now (S.world scans.old) (asks_of parts.now.timeline) []) }
-    ensures of_frames { IfErr result IsOfFrames }
 
     ensures scan { LeavesScan S.world S.faults S.same (result ≡ Err JobFault.SourceFault) scans.old scans.new }
 

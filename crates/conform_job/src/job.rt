@@ -76,8 +76,8 @@ impl Job {
         ensures once { IfOk result (λ job. HasEachOnce job.infos) }
         ensures heads { IfOk result (λ job. HeadsGrow (S.heads scans.old) (S.heads scans.new) 0 (length job.infos)) }
 
-        // Where it is refused: no head for 15.5 and 15.1, and else one for each frame before the refused one, and its own, if it
-        // has a path.
+        // Where it is refused: no head for 15.5 and 15.1, and else one for each frame before the refused one, which is named, and
+        // its own, if it has a path.
         ensures asked { IfErr result (HasAsked parts (S.world scans.old) (S.heads scans.old) (S.heads scans.new)) }
 
         ensures scan { LeavesScan S.world S.faults S.same (result ≡ Err JobFault.SourceFault) scans.old scans.new }

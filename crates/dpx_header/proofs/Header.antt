@@ -5,7 +5,7 @@ use Rattle.std.proofs.lemmas.List.{length-append, length-replicate, get_or-repli
 use Rattle.cf_base.specs.Digits.{frame_file_name}
 use Rattle.dpx_header.specs.Writing.{Field, IsOutside, Stands, u16, u32, undefined, text, file_fields, image_fields, element_fields, unused_fields, orientation_fields, industry_fields, timecode_field, header_fields, header_of, all_laid, lie_apart}
 use Rattle.dpx_header.specs.declared.writing.OutHead.{OutHead}
-use Rattle.dpx_header.proofs.Table.{stands_all, outside_all, all_laid-append}
+use Rattle.dpx_header.proofs.Table.{length-all_laid, stands_all, outside_all, all_laid-append}
 
 length-text : (size : ℕ) (bytes : List ℕ) → length bytes ≤ size → length (text size bytes) ≡ size
 unfolding text
@@ -26,6 +26,10 @@ unfolding header_fields lie_apart u16 u32 undefined
 header_apart head fits =
     let name = length-file_name head.reel head.frame in
     rw (length-text 8 (codes "V1.0") (omega arith), length-text 100 (frame_file_name head.reel head.frame) (omega arith), length-text 100 (codes "CONFORM STATION") (omega arith), length-text 200 head.title (omega arith), length-timecode head.timecode)
+
+pub length-header : (head : OutHead) → length head.title ≤ 199 → length (header_of head) ≡ 2048
+unfolding header_of
+length-header head fits = length-all_laid 0 2048 (header_fields head) (replicate 2048 0) (header_apart head fits) (omega (arith, length-replicate {A = ℕ} 2048 0)) ∙ length-replicate {A = ℕ} 2048 0
 
 pub header_stands : (head : OutHead) (field : Field) → length head.title ≤ 199 → Contains (header_fields head) field → Stands (header_of head) field
 unfolding header_of

@@ -2,4 +2,4 @@ mod Choice
 pub mod Header
 pub mod ReadBack
 mod Rows
-mod Table
+pub mod Table

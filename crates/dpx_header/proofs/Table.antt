@@ -1,6 +1,6 @@
 -- Fields that are laid over bytes, one after another.
-use Rattle.std.proofs.Common.{◌≡◌, ℕ, zero, suc, ◌+◌, ◌-◌, ◌<◌, ◌≤◌, Bool, true, false, ◌&&◌, List, [], ◌∷◌, ◌++◌, length, take, drop, get_or, slice_index_or, IsTrue, refl, sym, ap, subst, ◌∙◌, arith, inl, inr, ◌⊎◌}
-use Rattle.std.proofs.lemmas.Bool.{leb-true}
+use Rattle.std.proofs.Common.{◌≡◌, ℕ, zero, suc, ◌+◌, ◌-◌, ◌<◌, ◌≤◌, List, [], ◌∷◌, ◌++◌, length, take, drop, get_or, slice_index_or, IsTrue, refl, sym, ap, subst, ◌∙◌, arith, inl, inr, ◌⊎◌}
+use Rattle.std.proofs.lemmas.Bool.{leb-true, and_parts}
 use Rattle.std.proofs.lemmas.List.{length-append, length-drop, length-take-le, take-append-le, take-take, drop-take, get_or-take, get_or-drop}
 use Rattle.std.proofs.Math.Seq.{take-append_seam, drop-append_seam, drop-append-add}
 use Rattle.dpx_header.specs.Writing.{Field, IsOutside, Stands, laid, all_laid, lie_apart}
@@ -50,22 +50,14 @@ outside_laid bytes field at within (inr behind) =
     ∙ ap (λ k. get_or bytes k 0) (sym split)
 
 -- What it says that fields lie apart.
-and_first : (a b : Bool) → (a && b) ≡ true → a ≡ true
-and_first true b both = refl
-and_first false b both = both
-
-and_second : (a b : Bool) → (a && b) ≡ true → b ≡ true
-and_second true b both = both
-and_second false b both = absurd (cc)
-
 first_apart : (start end : ℕ) (field : Field) (fields : List Field) → IsTrue (lie_apart start end (field ∷ fields)) → start ≤ field.0
 unfolding lie_apart
-first_apart start end field fields apart = leb-true _ _ (and_first _ _ apart)
+first_apart start end field fields apart = leb-true _ _ (and_parts _ _ apart).0
 
 rest_apart : (start end : ℕ) (field : Field) (fields : List Field) → IsTrue (lie_apart start end (field ∷ fields))
     → IsTrue (lie_apart (field.0 + length field.1) end fields)
 unfolding lie_apart
-rest_apart start end field fields apart = and_second _ _ apart
+rest_apart start end field fields apart = (and_parts _ _ apart).1
 
 ends_apart : (start end : ℕ) (fields : List Field) → IsTrue (lie_apart start end fields) → start ≤ end
 unfolding lie_apart
@@ -75,7 +67,17 @@ ends_apart start end (field ∷ fields) apart =
     let last = ends_apart (field.0 + length field.1) end fields (rest_apart start end field fields apart) in
     omega arith
 
--- All fields: the bytes before them stay, and each one's stand there.
+-- All fields: they make no byte more, the bytes before them stay, and each one's stand there.
+pub length-all_laid : (start end : ℕ) (fields : List Field) (bytes : List ℕ) → IsTrue (lie_apart start end fields) → end ≤ length bytes
+    → length (all_laid bytes fields) ≡ length bytes
+unfolding all_laid
+length-all_laid start end [] bytes apart within = refl
+length-all_laid start end (field ∷ fields) bytes apart within =
+    let rest = rest_apart start end field fields apart in
+    let last = ends_apart (field.0 + length field.1) end fields rest in
+    let long = length-laid bytes field (omega arith) in
+    length-all_laid (field.0 + length field.1) end fields (laid bytes field) rest (omega arith) ∙ long
+
 before_all : (start end : ℕ) (fields : List Field) (bytes : List ℕ) → IsTrue (lie_apart start end fields) → end ≤ length bytes
     → take start (all_laid bytes fields) ≡ take start bytes
 unfolding all_laid

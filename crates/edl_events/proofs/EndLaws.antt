@@ -6,6 +6,7 @@ use Rattle.std.specs.List.{filter_map, enumerate_from, cons_option, position_or_
 use Rattle.std.proofs.lemmas.Option.{none-some, same_Some, slice_get-get_or, slice_get_within}
 use Rattle.std.proofs.lemmas.List.{take_all}
 use Rattle.std.proofs.lemmas.List.Sums.{prefix_len_is}
+use Rattle.std.specs.Result.{result_ok}
 use Rattle.cf_base.specs.declared.timing.Rate.{Rate}
 use Rattle.cf_base.specs.declared.timing.Mode.{Mode}
 use Rattle.cf_base.specs.declared.event.EventRec.{EventRec}
@@ -17,11 +18,11 @@ use Rattle.edl_events.specs.declared.steps.State.{State}
 use Rattle.edl_events.specs.Places.{Line, is_event, is_picture, mode_after, record_mode}
 use Rattle.edl_events.specs.Motion.{speed_at}
 use Rattle.edl_events.specs.Lists.{fault_at, first_round, refusal, events_of, event_by}
-use Rattle.edl_events.specs.Bare.{bare_at, bare_by, picture_with, ok_part}
+use Rattle.edl_events.specs.Bare.{bare_at, bare_by}
 use Rattle.edl_events.specs.Reads.{Records, Reads, set_speed, with_speed_of}
 use Rattle.cf_base.specs.declared.lines.Span.{Span}
 use Rattle.cf_base.specs.declared.event.Transition.{Transition}
-use Rattle.edl_events.specs.Pictures.{picture_at, last_out}
+use Rattle.edl_events.specs.Pictures.{picture_at, picture_with, last_out}
 use Rattle.edl_events.proofs.PictureLaws.{let_in, speed_last, with_speed}
 use Rattle.cf_base.proofs.FirstLaws.{nothing_from}
 
@@ -39,7 +40,7 @@ line_is rate lines i line (Ok (Motion reel speed trigger)) e h = absurd (none-so
 line_is rate lines i line (Ok (Event number reel transition spans)) e h = by_result _ refl h
   where
     by_result : (q : Result EventRec ListKind) → picture_with rate (mode_after (take i lines)) (record_mode lines) (last_out rate (record_mode lines) (take i lines)) (count_by is_picture (take i lines)) (i + 1) None line.bytes number reel transition spans ≡ q
-        → ok_part q ≡ Some e → e.line ≡ i + 1
+        → result_ok q ≡ Some e → e.line ≡ i + 1
     by_result (Err kind) given h = absurd (none-some e h)
     by_result (Ok f) given h =
         let l = let_in rate (mode_after (take i lines)) (record_mode lines) (last_out rate (record_mode lines) (take i lines)) (count_by is_picture (take i lines)) (i + 1) line.bytes number reel transition spans f given in
@@ -47,13 +48,13 @@ line_is rate lines i line (Ok (Event number reel transition spans)) e h = by_res
 line_is rate lines i line (Ok (Skipped number reel)) e h = absurd (none-some e h)
 line_is rate lines i line (Err fault) e h = absurd (none-some e h)
 
-part_with : (speed : Option ℤ) (q : Result EventRec ListKind) → ok_part (with_speed speed q) ≡ option_map (set_speed speed) (ok_part q)
+part_with : (speed : Option ℤ) (q : Result EventRec ListKind) → result_ok (with_speed speed q) ≡ option_map (set_speed speed) (result_ok q)
 part_with speed (Ok e) = refl
 part_with speed (Err kind) = refl
 
 -- the definition's own word for it
 same_part : (q : Result EventRec ListKind) (rate : Rate) (lines : List Line) (i : ℕ) (line : Line) (number : ℕ) (reel : List ℕ) (transition : Transition) (spans : List Span)
-    → picture_at rate lines i line number reel transition ≡ q → event_by rate lines i line (Ok (Event number reel transition spans)) ≡ ok_part q
+    → picture_at rate lines i line number reel transition ≡ q → event_by rate lines i line (Ok (Event number reel transition spans)) ≡ result_ok q
 same_part (Ok e) rate lines i line number reel transition spans h = rw h refl
 same_part (Err kind) rate lines i line number reel transition spans h = rw h refl
 

@@ -2,6 +2,7 @@
 use Rattle.std.proofs.Common.{◌≡◌, ℕ, ℤ, ◌-◌, ◌<◌, ◌≤◌, Bool, true, false, List, refl, Option, Result}
 use Rattle.std.specs.Prelude.{None, Ok, Err, nat_le, nat_lt, ◌&&◌}
 use Rattle.std.proofs.lemmas.Bool.{and_parts, leb-true, ltb-true}
+use Rattle.std.specs.Result.{result_err}
 use Rattle.cf_base.specs.declared.lines.Span.{Span}
 use Rattle.cf_base.specs.declared.timing.Rate.{Rate}
 use Rattle.cf_base.specs.declared.timing.Mode.{Mode}
@@ -12,9 +13,7 @@ use Rattle.cf_base.specs.Events.{is_known_wipe}
 use Rattle.edl_events.specs.declared.ListKind.{ListKind}
 use Rattle.edl_events.specs.declared.ListKind.TheVariants as fault
 use Rattle.edl_events.specs.declared.steps.Times.{Times}
-use Rattle.edl_events.specs.Pictures.{◌>>=◌, unless, times_of, transition_fits, leads, is_at}
-use Rattle.edl_events.specs.Lists.{fault_in}
-use Rattle.edl_events.specs.Bare.{picture_with}
+use Rattle.edl_events.specs.Pictures.{◌>>=◌, unless, times_of, transition_fits, leads, is_at, picture_with}
 use Rattle.edl_events.specs.Reads.{set_speed}
 
 abbrev pub with_speed : Option ℤ → Result EventRec ListKind → Result EventRec ListKind
@@ -34,7 +33,7 @@ speed_last rate mode record_ last count line speed bytes number reel transition 
     through speed (unless (nat_lt count 10000) fault.TooMany) _ _ (λ _.
     through speed (transition_fits last times transition) _ _ (λ _. refl))))
 
-pub fault_with : (speed : Option ℤ) (r : Result EventRec ListKind) → fault_in (with_speed speed r) ≡ fault_in r
+pub fault_with : (speed : Option ℤ) (r : Result EventRec ListKind) → result_err (with_speed speed r) ≡ result_err r
 fault_with speed (Ok e) = refl
 fault_with speed (Err kind) = refl
 

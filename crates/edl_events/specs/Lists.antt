@@ -5,6 +5,7 @@
 use Rattle.std.specs.Prelude.{ℕ, ◌+◌, ◌||◌, Bool, true, false, not, ◌==◌, nat_lt, if◌then◌else◌, List, length, take, slice_get, Option, Some, None, Result, Ok, Err, is_some}
 use Rattle.std.specs.Option.{option_map}
 use Rattle.std.specs.List.{filter_map, list_any, enumerate_from, find}
+use Rattle.std.specs.Result.{result_ok, result_err}
 use Rattle.cf_base.specs.declared.timing.Rate.{Rate}
 use Rattle.cf_base.specs.declared.timing.Rate.TheVariants.{R24, R25, R30}
 use Rattle.cf_base.specs.declared.timing.Mode.{Mode}
@@ -23,10 +24,6 @@ use Rattle.edl_events.specs.Places.{Line, lines_in, mode_after, record_mode}
 use Rattle.edl_events.specs.Motion.{owner_after}
 use Rattle.edl_events.specs.Pictures.{◌>>=◌, unless, label_number, picture_at}
 
-abbrev pub fault_in : {A : Type 0} → Result A ListKind → Option ListKind
-fault_in (Ok x) = None
-fault_in (Err kind) = Some kind
-
 -- drop-frame counting is defined at 30 alone
 abbrev pub can_count : Rate → Mode → Bool
 can_count rate NonDrop = true
@@ -37,10 +34,10 @@ can_count R30 Drop = true
 -- The first fault of a line, by its kind.
 abbrev pub fault_by : Rate → List Line → ℕ → Line → Result LineKind LineFault → Option ListKind
 fault_by rate lines i line (Err by_itself) = Some (fault.Line by_itself)
-fault_by rate lines i line (Ok (Fcm mode)) = fault_in (unless (can_count rate mode) (fault.Line BadFcm))
+fault_by rate lines i line (Ok (Fcm mode)) = result_err (unless (can_count rate mode) (fault.Line BadFcm))
 fault_by rate lines i line (Ok (Motion reel speed trigger)) =
-    fault_in (label_number rate (mode_after (take i lines)) line.bytes trigger >>= (λ _. unless (is_some (owner_after (take i lines) reel)) fault.StrayMotion))
-fault_by rate lines i line (Ok (Event number reel transition times)) = fault_in (picture_at rate lines i line number reel transition)
+    result_err (label_number rate (mode_after (take i lines)) line.bytes trigger >>= (λ _. unless (is_some (owner_after (take i lines) reel)) fault.StrayMotion))
+fault_by rate lines i line (Ok (Event number reel transition times)) = result_err (picture_at rate lines i line number reel transition)
 fault_by rate lines i line (Ok _) = None
 
 abbrev pub fault_at : Rate → List Line → ℕ → Line → Option ListKind
@@ -55,11 +52,7 @@ first_round rate lines =
     slice_get (filter_map (λ (p : ℕ × Line). option_map (refusal (p.0 + 1)) (fault_at rate lines p.0 p.1)) (enumerate_from 0 lines)) 0
 
 abbrev pub event_by : Rate → List Line → ℕ → Line → Result LineKind LineFault → Option EventRec
-event_by rate lines i line (Ok (Event number reel transition times)) = ok_part (picture_at rate lines i line number reel transition)
-  where
-    ok_part : Result EventRec ListKind → Option EventRec
-    ok_part (Ok e) = Some e
-    ok_part (Err kind) = None
+event_by rate lines i line (Ok (Event number reel transition times)) = result_ok (picture_at rate lines i line number reel transition)
 event_by rate lines i line (Ok _) = None
 event_by rate lines i line (Err _) = None
 

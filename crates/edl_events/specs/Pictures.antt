@@ -1,6 +1,7 @@
 -- Picture lines: their labels and numbers, and the first fault of each.
---     picture_at rate lines i number reel transition times      the event of a picture line at i, or its first fault
-use Rattle.std.specs.Prelude.{ℕ, ◌+◌, ◌-◌, ◌&&◌, Bool, true, false, nat_eq, nat_lt, nat_le, List, [], ◌∷◌, take, slice_get, slice_range, Option, Some, None, Result, Ok, Err, option_and_then, unwrap_or}
+--     picture_with rate mode record_ last count ..      the event of a picture line, or its first fault, from what the lines before it say
+--     picture_at rate lines i line number reel transition      that of the picture line at i
+use Rattle.std.specs.Prelude.{ℕ, ℤ, ◌+◌, ◌-◌, ◌&&◌, Bool, true, false, nat_eq, nat_lt, nat_le, List, [], ◌∷◌, take, slice_get, slice_range, Option, Some, None, Result, Ok, Err, option_and_then, unwrap_or}
 use Rattle.std.specs.Option.{option_map}
 use Rattle.std.specs.List.{last_or, count_by}
 use Rattle.cf_base.specs.declared.lines.Span.{Span}
@@ -89,21 +90,28 @@ transition_fits before times (Wipe code d) = do
   _ ← unless (is_known_wipe code) fault.UnknownWipe
   leads before times d
 
-abbrev pub picture_at : Rate → List Line → ℕ → Line → ℕ → List ℕ → Transition → Result EventRec ListKind
-picture_at rate lines i line number reel transition = do
-  times ← times_after rate (record_mode lines) (take i lines) line
+-- The lines before a picture line say the mode in force, the record mode, the record out of the last picture line, and how many
+-- picture lines there are.
+abbrev pub picture_with : Rate → Mode → Mode → Option ℕ → ℕ → ℕ → Option ℤ → List ℕ → ℕ → List ℕ → Transition → List Span → Result EventRec ListKind
+picture_with rate mode record_ last count line speed bytes number reel transition spans = do
+  times ← times_of rate mode record_ bytes spans
   _ ← unless (nat_le times.rec_in times.rec_out) fault.Backwards
-  _ ← unless (nat_lt (count_by is_picture (take i lines)) 10000) fault.TooMany
-  _ ← transition_fits (last_out rate (record_mode lines) (take i lines)) times transition
+  _ ← unless (nat_lt count 10000) fault.TooMany
+  _ ← transition_fits last times transition
   Ok (record {
-    line = i + 1;
+    line = line;
     number = number;
     reel = reel;
-    src_mode = mode_after (take i lines);
+    src_mode = mode;
     src_in = times.src_in;
     src_out = times.src_out;
     rec_in = times.rec_in;
     rec_out = times.rec_out;
-    speed = speed_at lines i;
+    speed = speed;
     transition = transition;
   })
+
+abbrev pub picture_at : Rate → List Line → ℕ → Line → ℕ → List ℕ → Transition → Result EventRec ListKind
+picture_at rate lines i line number reel transition =
+    picture_with rate (mode_after (take i lines)) (record_mode lines) (last_out rate (record_mode lines) (take i lines)) (count_by is_picture (take i lines)) (i + 1) (speed_at lines i)
+    line.bytes number reel transition (spans_of_kind line.kind)

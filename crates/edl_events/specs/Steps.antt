@@ -2,7 +2,7 @@
 --     event_of state .. times      the event of a picture line with these times
 --     picture_from rate state bytes ..      the event of a picture line but for its speed, or its first fault
 --     step_of rate state bytes kind      what the lines say with this one, and its event, or its first fault; motion lines apart
-use Rattle.std.specs.Prelude.{ℕ, ◌+◌, nat_le, nat_lt, if◌then◌else◌, List, Some, None, Result, Ok, Err, unwrap_or}
+use Rattle.std.specs.Prelude.{ℕ, ◌+◌, if◌then◌else◌, List, Some, None, Result, Ok, Err, unwrap_or}
 use Rattle.cf_base.specs.declared.lines.Span.{Span}
 use Rattle.cf_base.specs.declared.timing.Rate.{Rate}
 use Rattle.cf_base.specs.declared.event.Transition.{Transition}
@@ -17,7 +17,7 @@ use Rattle.edl_events.specs.declared.steps.Step.{Step}
 use Rattle.edl_events.specs.declared.steps.Times.{Times}
 use Rattle.edl_events.specs.Lists.{can_count}
 use Rattle.edl_events.specs.Made.{IsInDay}
-use Rattle.edl_events.specs.Pictures.{◌>>=◌, unless, times_of, transition_fits}
+use Rattle.edl_events.specs.Pictures.{◌>>=◌, picture_with}
 
 -- without its speed, which motion lines behind it say
 abbrev pub event_of : State → ℕ → List ℕ → Transition → Times → EventRec
@@ -35,12 +35,7 @@ event_of s number reel transition times = record {
 }
 
 abbrev pub picture_from : Rate → State → List ℕ → ℕ → List ℕ → Transition → List Span → Result EventRec ListKind
-picture_from rate s bytes number reel transition spans = do
-  times ← times_of rate s.mode (unwrap_or s.record_mode s.mode) bytes spans
-  _ ← unless (nat_le times.rec_in times.rec_out) fault.Backwards
-  _ ← unless (nat_lt s.pictures 10000) fault.TooMany
-  _ ← transition_fits s.last_out times transition
-  Ok (event_of s number reel transition times)
+picture_from rate s = picture_with rate s.mode (unwrap_or s.record_mode s.mode) s.last_out s.pictures (s.lines + 1) None
 
 -- an event's numbers are those of the days that the lines before it say
 abbrev pub IsInDayOf : Rate → State → EventRec → Type 0

@@ -3,7 +3,7 @@ use Rattle.conform_job.proofs.Asking.{seen_told, on_both, none_by}
 use Rattle.conform_job.proofs.Heads.{heads_same, heads_one}
 use Rattle.conform_job.proofs.Growing.{grown_set}
 use Rattle.conform_job.specs.Keys.{info_at}
-use Rattle.conform_job.proofs.Ending.{ended_key, ended_memory, ended_none, ended_one, second_ended}
+use Rattle.conform_job.proofs.Ending.{ended_key, ended_memory, ended_none, ended_one, named_missing, named_same, second_ended}
 use Rattle.conform_job.proofs.frames.inspect_frame.Goals as goal
 use Rattle.conform_job.proofs.frames.inspect_frame.Given as given
 
@@ -30,12 +30,14 @@ returns-in-Ok-clause-heads g c = on_both c.keep.result _ _ _
 pub returns-in_default-clause-end : goal.returns-in_default-clause-end
 returns-in_default-clause-end g c =
     ended_one c.args.parts.now (g.S.Scans.world c.args.scans.now) c.args.ask c.args.infos.now (g.S.Scans.heads c.args.scans.now) _ _ c.requires.each
-    (ended_none c.args.parts.now (g.S.Scans.world c.args.scans.now) c.args.ask (g.S.Scans.heads c.args.scans.now) (sym c.in_default.is ∙ c.key_of.ensures.key)) (search rules)
+    (ended_none c.args.parts.now (g.S.Scans.world c.args.scans.now) c.args.ask (g.S.Scans.heads c.args.scans.now) (sym c.in_default.is ∙ c.key_of.ensures.key))
+    (named_missing c.args.parts.now (g.S.Scans.world c.args.scans.now) c.args.ask c.named_of-named.result _ c.named_of-named.ensures c.missing.ensures) (search rules)
 
 pub returns-in-Err-clause-end : goal.returns-in-Err-clause-end
 returns-in-Err-clause-end g c =
     ended_one c.args.parts.now (g.S.Scans.world c.args.scans.now) c.args.ask c.args.infos.now (g.S.Scans.heads c.args.scans.now) _ _ c.requires.each
-    (ended_key c.args.parts.now (g.S.Scans.world c.args.scans.now) c.args.ask c.in-Some.key _ _ (sym c.in-Some.is ∙ c.key_of.ensures.key) c.inspect_key.ensures.asked) (search rules)
+    (ended_key c.args.parts.now (g.S.Scans.world c.args.scans.now) c.args.ask c.in-Some.key _ _ (sym c.in-Some.is ∙ c.key_of.ensures.key) c.inspect_key.ensures.asked)
+    (named_same c.args.parts.now (g.S.Scans.world c.args.scans.now) c.args.ask c.named_of-named.result _ c.named_of-named.ensures c.in-Err.ensures.names) (search rules)
 
 pub returns-in-Ok-clause-end : goal.returns-in-Ok-clause-end
 returns-in-Ok-clause-end g c =

@@ -5,7 +5,7 @@ use Rattle.source_reels.specs.Seen.{IsSeen}
 use Rattle.source_reels.proofs.Heads.{told_more}
 use Rattle.source_reels.specs.Reels.{path_of_key}
 use Rattle.conform_job.specs.Refusals.{file_of_key}
-use Rattle.conform_job.proofs.Judging.{judged_told, judged_failed, failed_judged, judged_info}
+use Rattle.conform_job.proofs.Judging.{judged_told, judged_named, judged_failed, failed_judged, judged_info}
 use Rattle.conform_job.proofs.frames.inspect_key.Goals as goal
 use Rattle.conform_job.proofs.frames.inspect_key.Given as given
 
@@ -23,6 +23,9 @@ returns-clause-told g c = told_more (g.S.Scans.world c.args.scans.now) _ _
 pub returns-clause-info : goal.returns-clause-info
 returns-clause-info g c = judged_info c.args.parts.now (g.S.Scans.world c.args.scans.now) c.args.key c.args.named.now c.inspect-seen.result c.judged.result
     (told_more (g.S.Scans.world c.args.scans.now) _ _ (seen_is g c) c.inspect-seen.ensures.told) c.inspect-seen.ensures.frame c.judged.ensures
+
+pub returns-clause-names : goal.returns-clause-names
+returns-clause-names g c = judged_named c.args.named.now _ _ c.inspect-seen.result c.judged.result c.judged.ensures
 
 pub returns-clause-scan : goal.returns-clause-scan
 returns-clause-scan g c = leaves_as g.S.Scans.world g.S.Scans.faults g.S.Scans.same _ _

@@ -49,7 +49,7 @@ returns-in-Err-infos_of-clause-told g c =
 
 pub returns-in-Err-infos_of-clause-lines : goal.returns-in-Err-infos_of-clause-lines
 returns-in-Err-infos_of-clause-lines g c =
-    frames_lines c.args.parts.now (g.S.Scans.world c.args.scans.now) c.in-Ok.ensures.none.0 c.in-Ok-places_in.ensures.none.0 c.in-Err-infos_of.fault c.in-Err-infos_of.ensures.of_frames
+    frames_lines c.args.parts.now (g.S.Scans.world c.args.scans.now) c.in-Ok.ensures.none.0 c.in-Ok-places_in.ensures.none.0 _ c.in-Err-infos_of.fault c.in-Err-infos_of.ensures.end.named
 
 pub returns-in-Err-infos_of-clause-scan : goal.returns-in-Err-infos_of-clause-scan
 returns-in-Err-infos_of-clause-scan g c = leaves_as g.S.Scans.world g.S.Scans.faults g.S.Scans.same _ _ (err_as _ _) (err_as _ _) c.in-Err-infos_of.ensures.scan
@@ -63,4 +63,4 @@ returns-in-Err-places_in-clause-asked g c =
 
 pub returns-in-Err-infos_of-clause-asked : goal.returns-in-Err-infos_of-clause-asked
 returns-in-Err-infos_of-clause-asked g c =
-    ended_asked c.args.parts.now (g.S.Scans.world c.args.scans.now) _ _ c.in-Err-infos_of.fault c.in-Err-infos_of.ensures.of_frames c.in-Err-infos_of.ensures.end
+    ended_asked c.args.parts.now (g.S.Scans.world c.args.scans.now) _ _ c.in-Err-infos_of.fault c.in-Err-infos_of.ensures.end
