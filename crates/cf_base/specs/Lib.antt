@@ -10,6 +10,7 @@ pub mod MemorySink
 pub mod Padded
 pub mod Rgb
 pub mod Sink
+pub mod Steps
 pub mod Text
 pub mod Timing
 pub mod Tokens

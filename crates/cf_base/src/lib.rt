@@ -30,5 +30,5 @@ pub use reading::fill;
 pub use reel::{ReelEntry, ReelRows};
 pub use sink::{MemorySink, Put, Sink, StreamSink};
 pub use text::{Name, PathText, TitleText};
-pub use timing::{FrameNo, Mode, Rate, day};
+pub use timing::{FrameNo, Mode, Rate, can_count, day};
 pub use tokens::{TokenSpan, is_blank, token_from};

@@ -1,6 +1,6 @@
 //! Counting bases and modes of timecode (SMPTE ST 12-1).
-ghost use Rattle.std.specs.Prelude.{◌≡◌};
-ghost use Rattle.cf_base.specs.Timing.{CanCount, frames_in_day};
+ghost use Rattle.std.specs.Prelude.{◌≡◌, IsTrue};
+ghost use Rattle.cf_base.specs.Timing.{CanCount, can_count, frames_in_day};
 
 /// A counting base: 24, 25 or 30 frames of timecode in a second. 24 and 30 serve 24/1.001 and 30/1.001 too.
 #[derive(Clone, Copy, Debug, PartialEq, Eq)]
@@ -21,6 +21,18 @@ pub enum Mode {
 /// The number of a frame in its day.
 #[derive(Clone, Copy, Debug, PartialEq, Eq)]
 pub struct FrameNo(pub u32);
+
+/// Whether labels are counted so at the base: drop-frame counting is defined at 30 alone.
+pub fn can_count(rate: Rate, mode: Mode) -> bool
+    ensures test { result ≡ can_count rate mode }
+    ensures fact { IsTrue result → CanCount rate mode }
+{
+    match (rate, mode) {
+        (_, Mode::NonDrop) => true,
+        (Rate::R30, Mode::Drop) => true,
+        (_, Mode::Drop) => false,
+    }
+}
 
 /// How many frames a day has: 2,073,600, 2,160,000 or 2,592,000, and 2,589,408 in drop-frame mode.
 pub fn day(rate: Rate, mode: Mode) -> u32

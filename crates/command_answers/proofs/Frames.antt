@@ -1,8 +1,6 @@
 -- From the first bytes of a file to the frame of the file.
-use Rattle.std.proofs.Common.{◌≡◌, ℕ, ◌-◌, ◌*◌, ◌≤◌, List, ◌++◌, length, take, drop, Some, Ok, Err, IsOk, IsOkAnd, refl, sym, ap, subst, ◌∙◌, arith, inl, inr}
+use Rattle.std.proofs.Common.{◌≡◌, ℕ, ◌-◌, ◌*◌, ◌≤◌, List, ◌++◌, length, take, Some, Ok, Err, IsOk, IsOkAnd, refl, sym, ap, subst, ◌∙◌, arith}
 use Rattle.std.proofs.Math.Nat.{mul-le-mul}
-use Rattle.std.proofs.lemmas.Bool.{cases_lt}
-use Rattle.std.proofs.lemmas.List.{take_all, length-take-le, take-append-le, take-append-drop}
 use Rattle.std.specs.List.{flat_map}
 use Rattle.byteorder.specs.Endian.{big_bytes}
 use Rattle.dpx_header.specs.declared.info.FrameInfo.{FrameInfo}
@@ -13,6 +11,7 @@ use Rattle.dpx_header.specs.Writing.{header_of}
 use Rattle.dpx_pack.specs.Pixels.{pixels}
 use Rattle.dpx_pack.proofs.Front.{pixels_front}
 use Rattle.scan_source.specs.Answers.{first_bytes}
+use Rattle.scan_source.proofs.Heads.{first_bytes_front}
 use Rattle.command_answers.specs.Commands.Frame.{info_in, frame_head, frame_form, IsFrameForm, IsFrameCase}
 use Rattle.command_answers.specs.ByFile.{IsRightBy}
 use Rattle.outcome_line.specs.declared.outcome.Outcome.TheVariants.{Done, Refused}
@@ -29,21 +28,6 @@ need_most info is =
 pub form_of_parts : (info : FrameInfo) (bytes header packed : List ℕ) → header ≡ header_of (frame_head info) → packed ≡ flat_map (big_bytes 4) (pixels info bytes) → header ++ packed ≡ frame_form info bytes
 unfolding frame_form
 form_of_parts info bytes header packed eh ep = rw (eh, ep) refl
-
-take_front : (count most : ℕ) (bytes : List ℕ) → count ≤ length (take most bytes) → take count (take most bytes) ≡ take count bytes
-take_front count most bytes within =
-    sym (take-append-le count (take most bytes) (drop most bytes) within) ∙ ap (take count) (take-append-drop most bytes)
-
--- The first bytes are those of the front.
-first_bytes_front : (count most : ℕ) (bytes : List ℕ) → count ≤ most → first_bytes count (take most bytes) ≡ first_bytes count bytes
-unfolding first_bytes
-first_bytes_front count most bytes within = elim (cases_lt (length bytes) most) [
-  | inl short ↦ ap (first_bytes count) (take_all most bytes (omega arith))
-  | inr long ↦
-      let part = length-take-le most bytes long in
-      let none : count - length (take most bytes) ≡ count - length bytes = omega arith in
-      rw (none, take_front count most bytes (omega arith)) refl
-]
 
 form_front : (info : FrameInfo) (most : ℕ) (bytes : List ℕ) → need_of info ≤ most → frame_form info (take most bytes) ≡ frame_form info bytes
 unfolding frame_form

@@ -12,9 +12,11 @@ use Rattle.cf_base.specs.declared.timing.Mode.TheVariants.{NonDrop}
 use Rattle.cf_base.specs.declared.event.Transition.{Transition}
 use Rattle.cf_base.specs.declared.event.EventRec.{EventRec}
 use Rattle.cf_base.specs.declared.event.EventList.{EventList}
-use Rattle.cf_base.specs.Timing.{CanCount, frames_in_day}
+use Rattle.cf_base.specs.Timing.{CanCount, can_count, frames_in_day}
 use Rattle.cf_base.specs.Events.{IsWellMade}
 use Rattle.cf_base.specs.Lines.{lines_of}
+use Rattle.cf_base.specs.Steps.{◌>>=◌}
+use Rattle.cf_base.proofs.StepLaws.{bind_ok}
 use Rattle.cf_base.proofs.FirstLaws.{nothing_in}
 use Rattle.cf_timecode.specs.declared.Label.{Label}
 use Rattle.cf_timecode.specs.declared.TcFault.{TcFault}
@@ -34,12 +36,12 @@ use Rattle.edl_events.specs.declared.steps.State.{State}
 use Rattle.edl_events.specs.declared.steps.Step.{Step}
 use Rattle.edl_events.specs.Places.{Line, lines_in, record_mode, places}
 use Rattle.edl_events.specs.Motion.{motion_speed, is_owner, is_motion, speed_at}
-use Rattle.edl_events.specs.Pictures.{◌>>=◌, numbered, label_number, times_of}
-use Rattle.edl_events.specs.Lists.{fault_at, fault_by, first_round, second_round, has_event, events_of, refusal, settled, list_from, can_count}
+use Rattle.edl_events.specs.Pictures.{numbered, label_number, times_of}
+use Rattle.edl_events.specs.Lists.{fault_at, fault_by, first_round, second_round, has_event, events_of, refusal, settled, list_from}
 use Rattle.edl_events.specs.Made.{AreTimes, IsInDay, AcceptsWellMade}
 use Rattle.edl_events.specs.Steps.{picture_from, step_of, plain_step, event_step}
 use Rattle.edl_events.specs.Reads.{Reads, IsPlain, line_of, with_speed_of}
-use Rattle.edl_events.proofs.PictureLaws.{bind_ok, let_in}
+use Rattle.edl_events.proofs.PictureLaws.{let_in}
 use Rattle.edl_events.proofs.StepLaws.{step_fault, fault_is}
 use Rattle.edl_events.proofs.ReadLaws.{reads_more, reads_motion}
 use Rattle.edl_events.proofs.EndLaws.{events_end}

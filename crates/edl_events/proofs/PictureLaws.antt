@@ -10,10 +10,12 @@ use Rattle.cf_base.specs.declared.event.Transition.{Transition}
 use Rattle.cf_base.specs.declared.event.Transition.TheVariants.{Cut, Dissolve, Wipe}
 use Rattle.cf_base.specs.declared.event.EventRec.{EventRec}
 use Rattle.cf_base.specs.Events.{is_known_wipe}
+use Rattle.cf_base.specs.Steps.{◌>>=◌}
+use Rattle.cf_base.proofs.StepLaws.{bind_ok}
 use Rattle.edl_events.specs.declared.ListKind.{ListKind}
 use Rattle.edl_events.specs.declared.ListKind.TheVariants as fault
 use Rattle.edl_events.specs.declared.steps.Times.{Times}
-use Rattle.edl_events.specs.Pictures.{◌>>=◌, unless, times_of, transition_fits, leads, is_at, picture_with}
+use Rattle.edl_events.specs.Pictures.{unless, times_of, transition_fits, leads, is_at, picture_with}
 use Rattle.edl_events.specs.Reads.{set_speed}
 
 abbrev pub with_speed : Option ℤ → Result EventRec ListKind → Result EventRec ListKind
@@ -36,13 +38,6 @@ speed_last rate mode record_ last count line speed bytes number reel transition 
 pub fault_with : (speed : Option ℤ) (r : Result EventRec ListKind) → result_err (with_speed speed r) ≡ result_err r
 fault_with speed (Ok e) = refl
 fault_with speed (Err kind) = refl
-
-pub bind_ok : {A B : Type 0} (r : Result A ListKind) (f : A → Result B ListKind) (y : B) → (r >>= f) ≡ Ok y → (x : A) × (r ≡ Ok x) × (f x ≡ Ok y)
-bind_ok (Ok x) f y h = (x, refl, h)
-bind_ok {A} {B} (Err kind) f y h = absurd (never kind y h)
-  where
-    never : (kind : ListKind) (y : B) → ◌≡◌ {A = Result B ListKind} (Err kind) (Ok y) → ⊥
-    never kind y h = cc
 
 unless_ok : (b : Bool) (kind : ListKind) (u : Unit {0}) → unless b kind ≡ Ok u → b ≡ true
 unless_ok true kind u h = refl

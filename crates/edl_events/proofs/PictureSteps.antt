@@ -8,11 +8,12 @@ use Rattle.cf_base.specs.declared.event.Transition.{Transition}
 use Rattle.cf_base.specs.declared.event.Transition.TheVariants.{Wipe}
 use Rattle.cf_base.specs.declared.event.EventRec.{EventRec}
 use Rattle.cf_base.specs.Events.{is_known_wipe}
+use Rattle.cf_base.specs.Steps.{◌>>=◌}
 use Rattle.edl_events.specs.declared.ListKind.{ListKind}
 use Rattle.edl_events.specs.declared.ListKind.TheVariants as fault
 use Rattle.edl_events.specs.declared.steps.State.{State}
 use Rattle.edl_events.specs.declared.steps.Times.{Times}
-use Rattle.edl_events.specs.Pictures.{◌>>=◌, unless, times_of, is_at, leads, transition_fits}
+use Rattle.edl_events.specs.Pictures.{unless, times_of, is_at, leads, transition_fits}
 use Rattle.edl_events.specs.Steps.{event_of, picture_from}
 
 -- what is asked of the times, and what is asked then

@@ -3,17 +3,15 @@ use Rattle.std.proofs.Common.{◌≡◌, ℕ, ℤ, ◌+◌, ◌<◌, Bool, true,
 use Rattle.std.specs.Prelude.{Some, None, Ok, Err, unwrap_or, slice_get, IfSome}
 use Rattle.std.specs.Option.{option_map, option_to_list}
 use Rattle.std.specs.List.{filter_map, enumerate_from, cons_option}
-use Rattle.std.proofs.lemmas.Bool.{cases_lt, false≢true}
+use Rattle.std.proofs.lemmas.Bool.{cases_lt}
 use Rattle.std.proofs.lemmas.Option.{same_Some, slice_get_within}
 use Rattle.std.proofs.lemmas.List.{length-take-le, append-nil}
 use Rattle.cf_base.specs.declared.lines.Span.{Span}
 use Rattle.cf_base.specs.declared.timing.Rate.{Rate}
-use Rattle.cf_base.specs.declared.timing.Rate.TheVariants.{R24, R25, R30}
 use Rattle.cf_base.specs.declared.timing.Mode.{Mode}
-use Rattle.cf_base.specs.declared.timing.Mode.TheVariants.{NonDrop, Drop}
 use Rattle.cf_base.specs.declared.event.Transition.{Transition}
 use Rattle.cf_base.specs.declared.event.EventRec.{EventRec}
-use Rattle.cf_base.specs.Timing.{CanCount}
+use Rattle.cf_base.specs.Timing.{CanCount, can_count}
 use Rattle.edl_lines.specs.declared.LineKind.{LineKind}
 use Rattle.edl_lines.specs.declared.LineKind.TheVariants.{Blank, Note, Title, Fcm, Motion, Event, Skipped}
 use Rattle.edl_lines.specs.declared.LineFault.TheVariants.{BadFcm}
@@ -24,13 +22,15 @@ use Rattle.edl_events.specs.declared.steps.Step.{Step}
 use Rattle.edl_events.specs.declared.reading.Reading.{Reading}
 use Rattle.edl_events.specs.Places.{Line, record_mode}
 use Rattle.edl_events.specs.Motion.{owner_after}
-use Rattle.edl_events.specs.Lists.{fault_at, first_round, refusal, can_count}
-use Rattle.edl_events.specs.Pictures.{◌>>=◌, label_number}
+use Rattle.edl_events.specs.Lists.{fault_at, first_round, refusal}
+use Rattle.edl_events.specs.Pictures.{label_number}
 use Rattle.edl_events.specs.Bare.{bare_at, bare_events}
 use Rattle.edl_events.specs.Steps.{picture_from, step_of, event_step, plain_step}
 use Rattle.edl_events.specs.Made.{IsInDay}
 use Rattle.cf_base.specs.declared.fail.Fail.{Fail}
 use Rattle.cf_base.specs.declared.fail.Fail.TheVariants.{Fault, NoMemory}
+use Rattle.cf_base.specs.Steps.{◌>>=◌}
+use Rattle.cf_base.proofs.TimingLaws.{counts_of}
 use Rattle.edl_events.specs.Rounds.{FirstRound, refused_at}
 use Rattle.edl_events.specs.Reads.{Makes, Reads, IsPlain, IsReading, After}
 use Rattle.cf_base.proofs.FirstLaws.{first_from}
@@ -44,12 +44,6 @@ same_step x y h = cc
 
 never_step : (kind : ListKind) (y : Step) → ◌≡◌ {A = Result Step ListKind} (Err kind) (Ok y) → ⊥
 never_step kind y h = cc
-
-counts_of : (rate : Rate) (mode : Mode) → can_count rate mode ≡ true → CanCount rate mode
-counts_of rate NonDrop h = tt
-counts_of R24 Drop h = false≢true h
-counts_of R25 Drop h = false≢true h
-counts_of R30 Drop h = tt
 
 counts_either : (rate : Rate) (r : Option Mode) (old new : Mode) → CanCount rate (unwrap_or r old) → CanCount rate new → CanCount rate (unwrap_or r new)
 counts_either rate None old new a b = b

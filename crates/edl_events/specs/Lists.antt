@@ -2,17 +2,16 @@
 -- Places. Made says that lists are well made, and the other files of this folder have the words of private clauses.
 --     fault_at rate lines i line      the first fault of the line at i by itself and those before it
 --     list_of rate text      the list of a text, or its refusal
-use Rattle.std.specs.Prelude.{ℕ, ◌+◌, ◌||◌, Bool, true, false, not, ◌==◌, nat_lt, if◌then◌else◌, List, length, take, slice_get, Option, Some, None, Result, Ok, Err, is_some}
+use Rattle.std.specs.Prelude.{ℕ, ◌+◌, ◌||◌, Bool, not, ◌==◌, nat_lt, if◌then◌else◌, List, length, take, slice_get, Option, Some, None, Result, Ok, Err, is_some}
 use Rattle.std.specs.Option.{option_map}
 use Rattle.std.specs.List.{filter_map, list_any, enumerate_from, find}
 use Rattle.std.specs.Result.{result_ok, result_err}
 use Rattle.cf_base.specs.declared.timing.Rate.{Rate}
-use Rattle.cf_base.specs.declared.timing.Rate.TheVariants.{R24, R25, R30}
-use Rattle.cf_base.specs.declared.timing.Mode.{Mode}
-use Rattle.cf_base.specs.declared.timing.Mode.TheVariants.{NonDrop, Drop}
 use Rattle.cf_base.specs.declared.event.EventRec.{EventRec}
 use Rattle.cf_base.specs.declared.event.EventList.{EventList}
 use Rattle.cf_base.specs.Events.{is_black_reel, record_length}
+use Rattle.cf_base.specs.Timing.{can_count}
+use Rattle.cf_base.specs.Steps.{◌>>=◌}
 use Rattle.edl_lines.specs.declared.LineKind.{LineKind}
 use Rattle.edl_lines.specs.declared.LineKind.TheVariants.{Fcm, Motion, Event}
 use Rattle.edl_lines.specs.declared.LineFault.{LineFault}
@@ -22,14 +21,7 @@ use Rattle.edl_events.specs.declared.ListKind.TheVariants as fault
 use Rattle.edl_events.specs.declared.ListRefusal.{ListRefusal}
 use Rattle.edl_events.specs.Places.{Line, lines_in, mode_after, record_mode}
 use Rattle.edl_events.specs.Motion.{owner_after}
-use Rattle.edl_events.specs.Pictures.{◌>>=◌, unless, label_number, picture_at}
-
--- drop-frame counting is defined at 30 alone
-abbrev pub can_count : Rate → Mode → Bool
-can_count rate NonDrop = true
-can_count R24 Drop = false
-can_count R25 Drop = false
-can_count R30 Drop = true
+use Rattle.edl_events.specs.Pictures.{unless, label_number, picture_at}
 
 -- The first fault of a line, by its kind.
 abbrev pub fault_by : Rate → List Line → ℕ → Line → Result LineKind LineFault → Option ListKind

@@ -11,6 +11,7 @@ use Rattle.cf_base.specs.declared.event.Transition.{Transition}
 use Rattle.cf_base.specs.declared.event.Transition.TheVariants.{Cut, Dissolve, Wipe}
 use Rattle.cf_base.specs.declared.event.EventRec.{EventRec}
 use Rattle.cf_base.specs.Events.{is_known_wipe}
+use Rattle.cf_base.specs.Steps.{◌>>=◌}
 use Rattle.cf_timecode.specs.declared.Label.{Label}
 use Rattle.cf_timecode.specs.declared.TcFault.{TcFault}
 use Rattle.cf_timecode.specs.Counting.{number_of}
@@ -24,12 +25,6 @@ use Rattle.edl_events.specs.declared.steps.Times.{Times}
 use Rattle.edl_events.specs.declared.ListKind.TheVariants as fault
 use Rattle.edl_events.specs.Places.{Line, is_picture, mode_after, record_mode, places}
 use Rattle.edl_events.specs.Motion.{speed_at}
-
--- one step after another: the first fault stands
-infixl 10 ◌>>=◌
-abbrev pub ◌>>=◌ : {A B : Type 0} → Result A ListKind → (A → Result B ListKind) → Result B ListKind
-(Ok x) >>= f = f x
-(Err kind) >>= f = Err kind
 
 -- the fault where the test fails
 abbrev pub unless : Bool → ListKind → Result (Unit {0}) ListKind

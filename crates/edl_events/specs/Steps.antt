@@ -7,6 +7,8 @@ use Rattle.cf_base.specs.declared.lines.Span.{Span}
 use Rattle.cf_base.specs.declared.timing.Rate.{Rate}
 use Rattle.cf_base.specs.declared.event.Transition.{Transition}
 use Rattle.cf_base.specs.declared.event.EventRec.{EventRec}
+use Rattle.cf_base.specs.Timing.{can_count}
+use Rattle.cf_base.specs.Steps.{◌>>=◌}
 use Rattle.edl_lines.specs.declared.LineKind.{LineKind}
 use Rattle.edl_lines.specs.declared.LineKind.TheVariants.{Fcm, Event, Skipped}
 use Rattle.edl_lines.specs.declared.LineFault.TheVariants.{BadFcm}
@@ -15,9 +17,8 @@ use Rattle.edl_events.specs.declared.ListKind.TheVariants as fault
 use Rattle.edl_events.specs.declared.steps.State.{State}
 use Rattle.edl_events.specs.declared.steps.Step.{Step}
 use Rattle.edl_events.specs.declared.steps.Times.{Times}
-use Rattle.edl_events.specs.Lists.{can_count}
 use Rattle.edl_events.specs.Made.{IsInDay}
-use Rattle.edl_events.specs.Pictures.{◌>>=◌, picture_with}
+use Rattle.edl_events.specs.Pictures.{picture_with}
 
 -- without its speed, which motion lines behind it say
 abbrev pub event_of : State → ℕ → List ℕ → Transition → Times → EventRec

@@ -1,14 +1,13 @@
 //! One line more, from what the lines before it say.
 ghost use Rattle.std.specs.Prelude.{◌≡◌, ◌≤◌, ◌<◌, length, slice_range, IfOk, IfSome, unwrap_or, Some, ◌-◌};
-ghost use Rattle.cf_base.specs.Timing.{CanCount, frames_in_day};
+ghost use Rattle.cf_base.specs.Timing.{CanCount, can_count, frames_in_day};
 ghost use Rattle.edl_lines.specs.Within.{IsSpanIn, AreSpansIn, IsIn};
 ghost use Rattle.edl_events.specs.Made.{AreTimes};
-ghost use Rattle.edl_events.specs.Lists.{can_count};
 ghost use Rattle.edl_events.specs.Pictures.{label_number, times_of, is_at, leads, transition_fits};
 ghost use Rattle.edl_events.specs.Steps.{IsInDayOf, picture_from, step_of};
 
 use crate::ListKind;
-use cf_base::{EventRec, Mode, Name, Rate, Span, Transition};
+use cf_base::{EventRec, Mode, Name, Rate, Span, Transition, can_count};
 use cf_timecode::{counting_laws, frames_of, parse};
 use edl_lines::{LineFault, LineKind};
 use trans_mix::known_wipe;
@@ -51,16 +50,6 @@ pub struct Times {
     pub rec_in: u32,
     /// The frame behind the last record frame.
     pub rec_out: u32,
-}
-
-/// Whether a rate has the mode.
-pub fn can_count(rate: Rate, mode: Mode) -> bool
-    ensures { result ≡ can_count rate mode }
-{
-    match (rate, mode) {
-        (Rate::R24 | Rate::R25, Mode::Drop) => false,
-        _ => true,
-    }
 }
 
 /// The bytes of a line in a span.

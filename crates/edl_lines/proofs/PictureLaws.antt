@@ -6,12 +6,13 @@ use Rattle.std.specs.Str.{bytes_eq}
 use Rattle.std.specs.Str.Parse.{digits_value}
 use Rattle.cf_base.specs.declared.event.Transition.{Transition}
 use Rattle.cf_base.specs.Tokens.{Token, token_between}
+use Rattle.cf_base.specs.Steps.{◌>>=◌, required}
 use Rattle.edl_lines.specs.declared.event.Shape.{Shape}
 use Rattle.edl_lines.specs.declared.event.Shape.TheVariants as shape
 use Rattle.edl_lines.specs.declared.LineFault.{LineFault}
 use Rattle.edl_lines.specs.declared.LineFault.TheVariants.{BadTransition, Key}
 use Rattle.edl_lines.specs.Numbers.{decimal}
-use Rattle.edl_lines.specs.Lines.{◌>>=◌, required, word, is_wipe, transition_of, token_count, span_of, timed_event, picture_of}
+use Rattle.edl_lines.specs.Lines.{word, is_wipe, transition_of, token_count, span_of, timed_event, picture_of}
 use Rattle.edl_lines.specs.Shapes.{lasting, shape_of, lasting_event}
 
 abbrev lasts : Option (List ℕ) → Shape → Result Transition LineFault

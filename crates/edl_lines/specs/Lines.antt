@@ -2,7 +2,7 @@
 -- tokens may follow, and the limits on digits are this project's own rules.
 --     reading line      the first case that holds counts; it speaks of the line's tokens alone
 --     event_of, motion_of, fcm_of      the tokens of an event line, of a motion line, and the words behind `FCM:`
-use Rattle.std.specs.Prelude.{ℕ, ◌+◌, ◌-◌, Bool, true, false, ◌&&◌, ◌||◌, ◌==◌, nat_eq, if◌then◌else◌, List, [], ◌∷◌, length, drop, map, slice_get, slice_index, codes, Option, Some, None, option_and_then, Result, Ok, Err}
+use Rattle.std.specs.Prelude.{ℕ, ◌+◌, ◌-◌, Bool, true, false, ◌&&◌, ◌||◌, ◌==◌, nat_eq, if◌then◌else◌, List, [], ◌∷◌, length, drop, map, slice_get, slice_index, codes, Option, option_and_then, Result, Ok, Err}
 use Rattle.std.specs.Option.{option_map}
 use Rattle.std.specs.Str.{bytes_eq}
 use Rattle.std.specs.Char.{is_ascii_digit}
@@ -14,22 +14,12 @@ use Rattle.cf_base.specs.declared.event.Transition.TheVariants.{Cut, Dissolve, W
 use Rattle.cf_base.specs.declared.timing.Mode.TheVariants.{NonDrop, Drop}
 use Rattle.cf_base.specs.Text.{name_of}
 use Rattle.cf_base.specs.Tokens.{Token, tokens, token_end, is_blank}
+use Rattle.cf_base.specs.Steps.{◌>>=◌, required}
 use Rattle.edl_lines.specs.declared.LineKind.{LineKind}
 use Rattle.edl_lines.specs.declared.LineKind.TheVariants.{Blank, Note, Title, Fcm, Motion, Event, Skipped}
 use Rattle.edl_lines.specs.declared.LineFault.{LineFault}
 use Rattle.edl_lines.specs.declared.LineFault.TheVariants.{BadEvent, BadChannel, Key, BadMotion, BadFcm, BadTransition}
 use Rattle.edl_lines.specs.Numbers.{decimal, speed_of}
-
--- one step after another: the first fault stands
-infixl 10 ◌>>=◌
-abbrev pub ◌>>=◌ : {A B : Type 0} → Result A LineFault → (A → Result B LineFault) → Result B LineFault
-(Ok x) >>= f = f x
-(Err fault) >>= f = Err fault
-
--- what is there, or else the fault
-abbrev pub required : {A : Type 0} → LineFault → Option A → Result A LineFault
-required fault None = Err fault
-required fault (Some x) = Ok x
 
 -- the bytes of the k-th token, from 0
 abbrev pub word : List Token → ℕ → Option (List ℕ)

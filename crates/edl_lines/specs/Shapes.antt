@@ -11,8 +11,9 @@ use Rattle.edl_lines.specs.declared.LineFault.{LineFault}
 use Rattle.edl_lines.specs.declared.LineFault.TheVariants.{Key, BadTransition}
 use Rattle.edl_lines.specs.declared.LineKind.{LineKind}
 use Rattle.cf_base.specs.Tokens.{Token}
+use Rattle.cf_base.specs.Steps.{◌>>=◌, required}
 use Rattle.edl_lines.specs.Numbers.{decimal}
-use Rattle.edl_lines.specs.Lines.{is_wipe, ◌>>=◌, required, word, timed_event}
+use Rattle.edl_lines.specs.Lines.{is_wipe, word, timed_event}
 
 abbrev pub lasting : Shape → ℕ → Transition
 lasting shape.Dissolve d = Dissolve d

@@ -1,6 +1,7 @@
 //! Decoded source frames.
 ghost use Rattle.std.specs.Prelude.{◌≡◌, ◌≤◌, length, IfSome, IfOk};
 ghost use Rattle.dpx_header.specs.Frame.{IsFrame, need_of};
+ghost use Rattle.dpx_pack.specs.Pixels.{pixels};
 ghost use Rattle.scan_source.specs.World.{file_at};
 ghost use Rattle.frame_render.specs.Frame.{AreWordsOf, IsFrontOf, pixel_count};
 
@@ -69,6 +70,7 @@ impl<N: Work> Decoded<N> {
         requires file { IfSome N.files (λ world.
             IsFrontOf N.job (file_at world) key info.now bytes.now) }
         ensures key { IfOk result (λ d. d.key ≡ key) }
+        ensures words { IfOk result (λ d. d.words ≡ pixels info.now bytes.now) }
     {
         match WordBuf::new(alloc, job) {
             Ok(room) => Ok(Decoded::within(room, job, key, info, bytes)),
@@ -87,6 +89,7 @@ impl<N: Work> Decoded<N> {
         requires file { IfSome N.files (λ world.
             IsFrontOf N.job (file_at world) key info.now bytes.now) }
         ensures key { result.key ≡ key }
+        ensures words { result.words ≡ pixels info.now bytes.now }
     {
         let WordBuf { mut words } = room;
         unpack(info, bytes, &mut words);

@@ -32,6 +32,7 @@ pub fn render<N: Work>(
     requires new { HasKeyOf (need_at N.job i).new (option_copied new) }
     requires room { length buf ≡ frame_size N.job }
     ensures index { result.index ≡ i }
+    ensures bytes { result.bytes ≡ file_by N.job i (words_kept (option_copied old.entry)) (words_kept (option_copied new.entry)) }
 {
     job.recall();
     let FrameBuf { mut bytes } = buf;
@@ -62,6 +63,7 @@ pub fn render_forked<N: Work, R: Threads + Sync>(
     requires new { HasKeyOf (need_at N.job i).new (option_copied new) }
     requires room { length buf ≡ frame_size N.job }
     ensures index { result.index ≡ i }
+    ensures bytes { result.bytes ≡ file_by N.job i (words_kept (option_copied old.entry)) (words_kept (option_copied new.entry)) }
 {
     job.recall();
     let FrameBuf { mut bytes } = buf;

@@ -1,6 +1,7 @@
 -- Jobs of projects over one world have one look where they have one cube.
 use Rattle.std.proofs.Common.{◌≡◌, List, ℕ, refl, sym, ap, subst, ◌∙◌}
 use Rattle.std.specs.Prelude.{Option, Some, None, IfSome, Result, Ok, Err}
+use Rattle.cf_base.specs.Steps.{◌>>=◌}
 use Rattle.scan_source.specs.World.{World, file_at}
 use Rattle.conform_job.specs.Job.{JobData}
 use Rattle.conform_job.specs.Refusals.{Files, first_refusal}
@@ -13,7 +14,7 @@ use Rattle.source_reels.specs.Reels.{table_of}
 use Rattle.tetra_look.specs.Look.{Lattice}
 use Rattle.outcome_line.specs.declared.outcome.Refused.{Refused}
 use Rattle.outcome_line.specs.declared.outcome.Refused.TheVariants as refused
-use Rattle.project_job.specs.Jobs.{FileComesTo, job_of, list_in, look_in, parts_of, unless_job, unless_refused, ◌>>=◌}
+use Rattle.project_job.specs.Jobs.{FileComesTo, job_of, list_in, look_in, parts_of, unless_job, unless_refused}
 use Rattle.reconform.specs.Adopt.{HaveOneLook}
 use Rattle.project_adopt.specs.Adopt.{IsJobOver}
 

@@ -9,7 +9,8 @@ use Rattle.toml.specs.declared.value.Value.{Value}
 use Rattle.cf_base.specs.declared.reel.ReelEntry.{ReelEntry}
 use Rattle.cf_base.specs.declared.timing.Rate.{Rate}
 use Rattle.cf_base.specs.Text.{path_text_of}
-use Rattle.project_file.specs.Keys.{◌>>=◌, count_items, text_at}
+use Rattle.cf_base.specs.Steps.{◌>>=◌}
+use Rattle.project_file.specs.Keys.{count_items, text_at}
 use Rattle.project_file.specs.Projects.{is_among, knows_reel, knows_reels, paths_of, reel_at, reels_from, rgb_of, top, IsReelInRange}
 use Rattle.project_file.specs.declared.fault.ProjectFault.{ProjectFault}
 

@@ -6,6 +6,7 @@ use Rattle.std.specs.Prelude.{◌≡◌, ◌&&◌, if◌then◌else◌, ℕ, ℤ
 use Rattle.cf_base.specs.Text.{is_within}
 use Rattle.cf_base.specs.declared.fail.Fail.{Fail}
 use Rattle.cf_base.specs.declared.fail.Fail.TheVariants.{Fault, NoMemory}
+use Rattle.cf_base.specs.Steps.{◌>>=◌, required}
 use Rattle.toml.specs.Data.{Data, Items, Members, as_array, as_bool, as_integer, as_str, as_table, item, member, no_items, no_members}
 use Rattle.project_file.specs.declared.fault.Place.{Place}
 use Rattle.project_file.specs.declared.fault.ProjectFault.{ProjectFault}
@@ -14,17 +15,6 @@ use Rattle.project_file.specs.declared.fault.ProjectKind.TheVariants.{MissingKey
 
 abbrev pub fault : ProjectKind → Place → ProjectFault
 fault kind place = record { kind = kind; key = place.key; reel = place.reel }
-
--- one step after another
-infixl 10 ◌>>=◌
-abbrev pub ◌>>=◌ : {A B : Type 0} → Result A ProjectFault → (A → Result B ProjectFault) → Result B ProjectFault
-(Ok x) >>= f = f x
-(Err e) >>= f = Err e
-
--- what is there, or else the fault
-abbrev pub required : {A : Type 0} → ProjectFault → Option A → Result A ProjectFault
-required e None = Err e
-required e (Some x) = Ok x
 
 -- the same of what is seen of a value
 abbrev pub seen_as : {A B : Type 0} → (A → B) → Result A ProjectFault → Result B ProjectFault

@@ -14,7 +14,7 @@ use Rattle.std.proofs.lemmas.Bool.{leb-true}
 use Rattle.std.specs.List.{list_any, All}
 use Rattle.std.specs.Str.{bytes_eq, IsUtf8}
 use Rattle.cf_base.specs.Text.{kept_if, is_name, is_path_text, path_text_of, title_text_of}
-use Rattle.cf_base.specs.Timing.{frames_in_day}
+use Rattle.cf_base.specs.Timing.{can_count, frames_in_day}
 use Rattle.cf_base.specs.declared.fail.Fail.{Fail}
 use Rattle.cf_base.specs.declared.fail.Fail.TheVariants.{Fault, NoMemory}
 use Rattle.cf_base.specs.declared.pixel.Rgb.{Rgb}
@@ -23,15 +23,16 @@ use Rattle.cf_base.specs.declared.timing.Rate.{Rate}
 use Rattle.cf_base.specs.declared.timing.Rate.TheVariants.{R24, R25, R30}
 use Rattle.cf_base.specs.declared.timing.Mode.{Mode}
 use Rattle.cf_base.specs.declared.timing.Mode.TheVariants.{NonDrop, Drop}
+use Rattle.cf_base.specs.Steps.{◌>>=◌, required}
 use Rattle.cf_timecode.specs.declared.Label.{Label}
 use Rattle.cf_timecode.specs.declared.TcFault.{TcFault}
 use Rattle.cf_timecode.specs.Counting.{number_of}
 use Rattle.cf_timecode.specs.Spelling.{parsed}
 use Rattle.toml.specs.Data.{Data, Items, Members, as_integer, get_member, item, no_items, table}
 use Rattle.toml.specs.Parse.{parse_document}
-use Rattle.project_file.specs.Keys.{◌>>=◌, all_keys, count_items, fault, flag_at}
+use Rattle.project_file.specs.Keys.{all_keys, count_items, fault, flag_at}
 use Rattle.project_file.specs.Keys.{is_table, is_text, is_whole, list_at, needed, optional}
-use Rattle.project_file.specs.Keys.{required, text_at, whole_at}
+use Rattle.project_file.specs.Keys.{text_at, whole_at}
 use Rattle.project_file.specs.declared.fault.Place.{Place}
 use Rattle.project_file.specs.declared.fault.ProjectFault.{ProjectFault}
 use Rattle.project_file.specs.declared.fault.ProjectKind.TheVariants.{Text, WrongType, OutOfRange, UnknownKey}
@@ -173,17 +174,10 @@ abbrev pub mode_of : Bool → Mode
 mode_of false = NonDrop
 mode_of true = Drop
 
--- drop-frame counting is defined at 30 alone
-abbrev pub counts : Rate → Mode → Bool
-counts rate NonDrop = true
-counts R24 Drop = false
-counts R25 Drop = false
-counts R30 Drop = true
-
 abbrev pub mode_at : ℕ → Rate → Data → Result Mode ProjectFault
 mode_at reel rate d = do
   drop ← flag_at (place reel 13) d
-  if counts rate (mode_of drop) then Ok (mode_of drop) else Err (fault OutOfRange (place reel 13))
+  if can_count rate (mode_of drop) then Ok (mode_of drop) else Err (fault OutOfRange (place reel 13))
 
 abbrev pub numbered : Rate → Mode → Result Label TcFault → Option ℕ
 numbered rate mode (Ok label) = Some (number_of rate mode label)

@@ -1,17 +1,17 @@
 //! The reels of a project file.
-ghost use Rattle.std.specs.Prelude.{◌≡◌, ◌≤◌, ◌<◌, IfOk, IfSome, IsTrue, codes, false, length};
+ghost use Rattle.std.specs.Prelude.{◌≡◌, ◌≤◌, ◌<◌, IfOk, IfSome, codes, false, length};
 ghost use Rattle.std.specs.List.{All};
 ghost use Rattle.toml.specs.View.{items_view, table_view, view};
 ghost use Rattle.toml.specs.Data.{get_member};
 ghost use Rattle.cf_base.specs.Timing.{CanCount, frames_in_day};
 ghost use Rattle.cf_base.specs.declared.timing.Mode.TheVariants.{NonDrop};
 ghost use Rattle.project_file.specs.Keys.{all_items, is_table, needed, optional, seen_as, text_at, whole_at, GivesSeen};
-ghost use Rattle.project_file.specs.Projects.{counts, mode_of, mode_at, label_number, prefix_of, reel_at, reel_name_of};
+ghost use Rattle.project_file.specs.Projects.{mode_of, mode_at, label_number, prefix_of, reel_at, reel_name_of};
 ghost use Rattle.project_file.specs.Projects.{reel_of, reels_at, reels_from, reels_in, IsReelInRange};
 
 use crate::fault::{Place, ProjectFault, ProjectKind};
 use crate::keys::{flag_at, member, whole_at};
-use cf_base::{Fail, Mode, Name, PathText, Rate, ReelEntry, day};
+use cf_base::{Fail, Mode, Name, PathText, Rate, ReelEntry, can_count, day};
 use cf_timecode::{counting_laws, frames_of, parse};
 use std::alloc::Global;
 use toml::{Table, Value};
@@ -178,7 +178,7 @@ fn mode_at(reel: u32, rate: Rate, value: &Value) -> Result<Mode, ProjectFault>
 {
     let place = Place { key: 13, reel };
     let mode = mode_of(flag_at(place, value)?);
-    if counts(rate, mode) {
+    if can_count(rate, mode) {
         Ok(mode)
     } else {
         Err(place.fault(ProjectKind::OutOfRange))
@@ -189,18 +189,6 @@ fn mode_of(drop: bool) -> Mode
     ensures { result ≡ mode_of drop }
 {
     if drop { Mode::Drop } else { Mode::NonDrop }
-}
-
-/// Whether labels are counted so at the rate.
-fn counts(rate: Rate, mode: Mode) -> bool
-    ensures test { result ≡ counts rate mode }
-    ensures fact { IsTrue result → CanCount rate mode }
-{
-    match (rate, mode) {
-        (_, Mode::NonDrop) => true,
-        (Rate::R30, Mode::Drop) => true,
-        (_, Mode::Drop) => false,
-    }
 }
 
 /// Key 12.

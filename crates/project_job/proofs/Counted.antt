@@ -1,18 +1,19 @@
 -- The reels of a project are counted in modes that its rate has.
 use Rattle.std.proofs.Common.{◌≡◌, ℕ, ◌+◌, Bool, true, false, cond, List, [], ◌∷◌, Option, Some, None, Result, Ok, Err, codes, refl, sym, ap, subst, inl, inr}
-use Rattle.std.proofs.lemmas.Bool.{false≢true}
 use Rattle.std.proofs.lemmas.List.Elements.{All-cons, All-nil}
-use Rattle.cf_base.specs.Timing.{CanCount, frames_in_day}
+use Rattle.cf_base.specs.Timing.{CanCount, can_count, frames_in_day}
 use Rattle.cf_base.specs.declared.reel.ReelEntry.{ReelEntry}
 use Rattle.cf_base.specs.declared.timing.Mode.{Mode}
-use Rattle.cf_base.specs.declared.timing.Mode.TheVariants.{NonDrop, Drop}
+use Rattle.cf_base.specs.declared.timing.Mode.TheVariants.{NonDrop}
 use Rattle.cf_base.specs.declared.timing.Rate.{Rate}
-use Rattle.cf_base.specs.declared.timing.Rate.TheVariants.{R24, R25, R30}
+use Rattle.cf_base.specs.Steps.{◌>>=◌}
+use Rattle.cf_base.proofs.StepLaws.{bind_ok}
+use Rattle.cf_base.proofs.TimingLaws.{counts_of}
 use Rattle.conform_job.specs.Job.{ArePlanned}
 use Rattle.conform_job.specs.declared.parts.JobParts.{JobParts}
 use Rattle.toml.specs.Data.{Data, Items, Members, get_member, item, no_items, table}
-use Rattle.project_file.specs.Keys.{◌>>=◌, fault, flag_at, needed, optional, text_at, whole_at}
-use Rattle.project_file.specs.Projects.{Means, counts, cuts_in, knows_reels, knows_top, label_number, mode_at, mode_of, place, prefix_of, project_of, reel_at, reel_name_of, reel_of, reels_from, reels_in, settings_in}
+use Rattle.project_file.specs.Keys.{fault, flag_at, needed, optional, text_at, whole_at}
+use Rattle.project_file.specs.Projects.{Means, cuts_in, knows_reels, knows_top, label_number, mode_at, mode_of, place, prefix_of, project_of, reel_at, reel_name_of, reel_of, reels_from, reels_in, settings_in}
 use Rattle.project_file.specs.declared.Project.{Project}
 use Rattle.project_file.specs.declared.fault.ProjectFault.{ProjectFault}
 use Rattle.project_file.specs.declared.fault.ProjectKind.TheVariants.{OutOfRange}
@@ -32,32 +33,21 @@ bound : {A B : Type 0} (r : Result A ProjectFault) (f : A → Result B ProjectFa
 bound (Ok a) f b h = (a, h)
 bound (Err e) f b h = no_ok e b h
 
--- and the first one is kept
-kept : {A B : Type 0} (r : Result A ProjectFault) (f : A → Result B ProjectFault) (b : B) → (r >>= f) ≡ Ok b → (a : A) × (r ≡ Ok a) × (f a ≡ Ok b)
-kept (Ok a) f b h = (a, refl, h)
-kept (Err e) f b h = no_ok e b h
-
-can_count : (rate : Rate) (mode : Mode) → counts rate mode ≡ true → CanCount rate mode
-can_count rate NonDrop h = tt
-can_count R24 Drop h = absurd (false≢true h)
-can_count R25 Drop h = absurd (false≢true h)
-can_count R30 Drop h = tt
-
-mode_flagged : (rate : Rate) (reel : ℕ) (flagged : Mode) (b : Bool) (mode : Mode) → counts rate flagged ≡ b → ◌≡◌ {A = Result Mode ProjectFault} (cond b (Ok flagged) (Err (fault OutOfRange (place reel 13)))) (Ok mode) → CanCount rate mode
-mode_flagged rate reel flagged true mode is h = subst (CanCount rate) (same_ok flagged mode h) (can_count rate flagged is)
+mode_flagged : (rate : Rate) (reel : ℕ) (flagged : Mode) (b : Bool) (mode : Mode) → can_count rate flagged ≡ b → ◌≡◌ {A = Result Mode ProjectFault} (cond b (Ok flagged) (Err (fault OutOfRange (place reel 13)))) (Ok mode) → CanCount rate mode
+mode_flagged rate reel flagged true mode is h = subst (CanCount rate) (same_ok flagged mode h) (counts_of rate flagged is)
 mode_flagged rate reel flagged false mode is h = no_ok _ mode h
 
 mode_read : (rate : Rate) (reel : ℕ) (d : Option Data) (mode : Mode) → optional NonDrop (mode_at reel rate) d ≡ Ok mode → CanCount rate mode
 mode_read rate reel None mode h = subst (CanCount rate) (same_ok NonDrop mode h) tt
 mode_read rate reel (Some d) mode h =
     let flag = bound (flag_at (place reel 13) d) _ mode h in
-    mode_flagged rate reel (mode_of flag.0) (counts rate (mode_of flag.0)) mode refl flag.1
+    mode_flagged rate reel (mode_of flag.0) (can_count rate (mode_of flag.0)) mode refl flag.1
 
 reel_counted : (rate : Rate) (reel : ℕ) (ms : Members) (e : ReelEntry) → reel_of rate reel ms ≡ Ok e → IsCounted rate e
 reel_counted rate reel ms e h =
     let name = bound (needed (place reel 10) (text_at (place reel 10) reel_name_of) (get_member (codes "name") ms)) _ e h in
     let prefix = bound (needed (place reel 11) (text_at (place reel 11) prefix_of) (get_member (codes "prefix") ms)) _ e name.1 in
-    let mode = kept (optional NonDrop (mode_at reel rate) (get_member (codes "drop") ms)) _ e prefix.1 in
+    let mode = bind_ok (optional NonDrop (mode_at reel rate) (get_member (codes "drop") ms)) _ e prefix.1 in
     let start = bound (needed (place reel 12) (text_at (place reel 12) (label_number rate mode.0)) (get_member (codes "start") ms)) _ e mode.2 in
     let frames = bound (needed (place reel 14) (whole_at (place reel 14) 1 2592000) (get_member (codes "frames") ms)) _ e start.1 in
     let file = bound (optional start.0 (whole_at (place reel 15) 0 9999999) (get_member (codes "file") ms)) _ e frames.1 in
@@ -70,8 +60,8 @@ one_counted rate reel other e h = no_ok _ e h
 reels_counted : (rate : Rate) (reel : ℕ) (items : Items) (reels : List ReelEntry) → reels_from rate reel items ≡ Ok reels → AreCounted rate reels
 reels_counted rate reel no_items reels h = subst (AreCounted rate) (same_ok [] reels h) (All-nil (IsCounted rate))
 reels_counted rate reel (item d ds) reels h =
-    let first = kept (reel_at rate reel d) _ reels h in
-    let others = kept (reels_from rate (reel + 1) ds) _ reels first.2 in
+    let first = bind_ok (reel_at rate reel d) _ reels h in
+    let others = bind_ok (reels_from rate (reel + 1) ds) _ reels first.2 in
     subst (AreCounted rate) (same_ok (first.0 ∷ others.0) reels others.2)
     (All-cons (IsCounted rate) first.0 others.0 (one_counted rate reel d first.0 first.1) (reels_counted rate (reel + 1) ds others.0 others.1))
 
@@ -80,7 +70,7 @@ members_counted ms project h =
     let settings = bound (settings_in ms) _ project h in
     let items = bound (reels_in ms) _ project settings.1 in
     let cuts = bound (cuts_in ms) _ project items.1 in
-    let reels = kept (reels_from settings.0.rate 1 items.0) _ project cuts.1 in
+    let reels = bind_ok (reels_from settings.0.rate 1 items.0) _ project cuts.1 in
     let top = bound (knows_top ms) _ project reels.2 in
     let known = bound (knows_reels 1 items.0) _ project top.1 in
     subst (λ (p : Project). AreCounted p.rate p.reels) (same_ok _ project known.1) (reels_counted settings.0.rate 1 items.0 reels.0 reels.1)

@@ -22,12 +22,13 @@ use Rattle.conform_job.specs.declared.parts.JobFault.TheVariants as faults
 use Rattle.conform_job.specs.declared.parts.JobParts.{JobParts}
 use Rattle.conform_job.specs.Digest.{digest_of}
 use Rattle.cf_base.specs.declared.reel.ReelEntry.{ReelEntry}
+use Rattle.cf_base.specs.Steps.{◌>>=◌}
 use Rattle.record_timeline.specs.Accepted.{RecordReel, timeline_of}
 use Rattle.source_reels.specs.Reels.{table_of, IsTabled}
 use Rattle.tetra_look.specs.Look.{Lattice, lattice_of}
 use Rattle.scan_source.specs.World.{World, file_at}
 use Rattle.conform_job.specs.Refusals.{Files, first_refusal}
-use Rattle.project_job.specs.Jobs.{list_in, look_in, look_of_text, cube_in, list_and_text, look_and_text, itself, unless_refused, parts_of, outcome_of_fault, MeansFile, FileHasPlanned, HasPlanned, Reaches, AreLoaded, cube_count, ◌>>=◌}
+use Rattle.project_job.specs.Jobs.{list_in, look_in, look_of_text, cube_in, list_and_text, look_and_text, itself, unless_refused, parts_of, outcome_of_fault, MeansFile, FileHasPlanned, HasPlanned, Reaches, AreLoaded, cube_count}
 use Rattle.project_job.specs.Load.{IsFront, IsMissing}
 use Rattle.project_job.specs.declared.loads.Front.{Front}
 use Rattle.project_job.specs.declared.project.ListText.{ListText}

@@ -21,6 +21,7 @@ use Rattle.cf_base.specs.Timing.{CanCount, frames_in_day}
 use Rattle.cf_base.specs.declared.reel.ReelEntry.{ReelEntry}
 use Rattle.cf_base.specs.declared.timing.Mode.{Mode}
 use Rattle.cf_base.specs.declared.timing.Rate.{Rate}
+use Rattle.cf_base.specs.Steps.{◌>>=◌}
 use Rattle.project_file.specs.Projects.{Means}
 use Rattle.project_file.specs.declared.Project.{Project}
 use Rattle.project_file.specs.declared.fault.ProjectFault.{ProjectFault}
@@ -36,12 +37,6 @@ use Rattle.project_job.specs.declared.project.ProjectText.{ProjectText}
 use Rattle.outcome_line.specs.declared.outcome.Refused.TheVariants as refused
 use Rattle.outcome_line.specs.declared.outcome.Which.{Which}
 use Rattle.outcome_line.specs.declared.outcome.Which.TheVariants as which
-
--- one step after another, up to the first refusal
-infixl 10 ◌>>=◌
-abbrev pub ◌>>=◌ : {A B : Type 0} → Result A Refused → (A → Result B Refused) → Result B Refused
-(Ok a) >>= next = next a
-(Err refusal) >>= next = Err refusal
 
 -- the value, or the refusal that its fault is
 abbrev pub unless_refused : {A F : Type 0} → (F → Refused) → Result A F → Result A Refused

@@ -67,7 +67,7 @@ first_same events i e within at none =
 
 -- ---- what they are to each event
 
-end_over : (events : List EventRec) (i : ℕ) (e : EventRec) → slice_get events i ≡ Some e → e.rec_out ≤ end_frame events
+pub end_over : (events : List EventRec) (i : ℕ) (e : EventRec) → slice_get events i ≡ Some e → e.rec_out ≤ end_frame events
 end_over [] i e at = absurd (none-some e at)
 end_over (x ∷ events) zero e at = let same : x.rec_out ≡ e.rec_out = ap (λ (y : EventRec). y.rec_out) (same_Some x e at) in omega (arith, same)
 end_over (x ∷ events) (suc i) e at = let rest = end_over events i e at in omega (arith, rest)
@@ -86,7 +86,7 @@ least_under (n ∷ []) (suc k) m at = absurd (none-some m at)
 least_under (n ∷ l ∷ ns) zero m at = let same : n ≡ m = same_Some n m at in omega (arith, same)
 least_under (n ∷ l ∷ ns) (suc k) m at = let rest = least_under (l ∷ ns) k m at in omega (arith, rest)
 
-begins_has : (events : List EventRec) (i : ℕ) (e : EventRec) → slice_get events i ≡ Some e → e.rec_in < e.rec_out → (k : ℕ) × (slice_get (begins_of events) k ≡ Some e.rec_in)
+pub begins_has : (events : List EventRec) (i : ℕ) (e : EventRec) → slice_get events i ≡ Some e → e.rec_in < e.rec_out → (k : ℕ) × (slice_get (begins_of events) k ≡ Some e.rec_in)
 begins_has [] i e at some = absurd (none-some e at)
 begins_has (x ∷ events) zero e at some =
     let same : x ≡ e = same_Some x e at in
@@ -99,7 +99,7 @@ begins_has (x ∷ events) (suc i) e at some =
       | inr short ↦ (rest.0, rw short rest.1)
     ]
 
-first_under : (events : List EventRec) (i : ℕ) (e : EventRec) → slice_get events i ≡ Some e → e.rec_in < e.rec_out → first_frame events ≤ e.rec_in
+pub first_under : (events : List EventRec) (i : ℕ) (e : EventRec) → slice_get events i ≡ Some e → e.rec_in < e.rec_out → first_frame events ≤ e.rec_in
 first_under events i e at some = let there = begins_has events i e at some in least_under (begins_of events) there.0 e.rec_in there.1
 
 module _ (rate : Rate) (mode : Mode) (events : List EventRec) (made : IsWellMade rate mode events) where

@@ -1,6 +1,6 @@
 mod BuildLaws
 mod CoverLaws
-mod EndLaws
+pub mod EndLaws
 mod OverlapLaws
 mod Rows
 pub mod Samples

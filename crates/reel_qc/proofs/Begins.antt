@@ -1,10 +1,10 @@
 -- The record frames of the cells.
-use Rattle.std.proofs.Common.{◌≡◌, ℕ, zero, suc, ◌+◌, ◌-◌, ◌*◌, ◌/◌, ◌<◌, ◌≤◌, Bool, true, false, cond, inl, inr, List, [], ◌∷◌, ◌++◌, length, map, filter, take, get_or, Some, refl, sym, ap, subst, ◌∙◌, arith, append-nil}
+use Rattle.std.proofs.Common.{◌≡◌, ℕ, ◌+◌, ◌-◌, ◌*◌, ◌/◌, ◌<◌, ◌≤◌, Bool, true, false, cond, List, [], ◌∷◌, ◌++◌, length, map, filter, take, get_or, Some, refl, sym, ap, subst, ◌∙◌, arith, append-nil}
 use Rattle.std.specs.Prelude.{nat_lt, slice_get}
 use Rattle.std.specs.List.{All}
-use Rattle.std.proofs.lemmas.Bool.{cases_Bool, lt-ltb}
+use Rattle.std.proofs.lemmas.Bool.{lt-ltb}
 use Rattle.std.proofs.lemmas.Bool.Decides.{nat_tests}
-use Rattle.std.proofs.lemmas.Option.{none-some, same_Some, slice_get_read}
+use Rattle.std.proofs.lemmas.Option.{none-some, slice_get_read}
 use Rattle.std.proofs.lemmas.List.{map-append}
 use Rattle.std.proofs.lemmas.List.Elements.{filter_more}
 use Rattle.cf_base.specs.declared.event.EventRec.{EventRec}
@@ -13,38 +13,11 @@ use Rattle.cf_base.specs.declared.timing.Rate.{Rate}
 use Rattle.cf_base.specs.Events.{IsWellMade, record_length}
 use Rattle.std.proofs.Math.Nat.{div-le_self}
 use Rattle.std.proofs.lemmas.Nat.{le-div}
-use Rattle.record_timeline.specs.Accepted.{end_frame, first_frame, frame_count, least}
+use Rattle.record_timeline.specs.Accepted.{first_frame, frame_count}
+use Rattle.record_timeline.proofs.EndLaws.{begins_of, begins_has, end_over, first_under}
 
 abbrev is_long : EventRec → Bool
 is_long e = nat_lt 0 (record_length e)
-
-abbrev begins_of : List EventRec → List ℕ
-begins_of events = map (λ (e : EventRec). e.rec_in) (filter is_long events)
-
-end_over : (events : List EventRec) (i : ℕ) (e : EventRec) → slice_get events i ≡ Some e → e.rec_out ≤ end_frame events
-end_over [] i e at = absurd (none-some e at)
-end_over (x ∷ events) zero e at = let same : x.rec_out ≡ e.rec_out = ap (λ (y : EventRec). y.rec_out) (same_Some x e at) in omega (arith, same)
-end_over (x ∷ events) (suc i) e at = let rest = end_over events i e at in omega (arith, rest)
-
-least_under : (ns : List ℕ) (k m : ℕ) → slice_get ns k ≡ Some m → least ns ≤ m
-least_under [] k m at = absurd (none-some m at)
-least_under (n ∷ []) zero m at = let same : n ≡ m = same_Some n m at in omega (arith, same)
-least_under (n ∷ []) (suc k) m at = absurd (none-some m at)
-least_under (n ∷ l ∷ ns) zero m at = let same : n ≡ m = same_Some n m at in omega (arith, same)
-least_under (n ∷ l ∷ ns) (suc k) m at = let rest = least_under (l ∷ ns) k m at in omega (arith, rest)
-
-begins_has : (events : List EventRec) (i : ℕ) (e : EventRec) → slice_get events i ≡ Some e → e.rec_in < e.rec_out → (k : ℕ) × (slice_get (begins_of events) k ≡ Some e.rec_in)
-begins_has [] i e at some = absurd (none-some e at)
-begins_has (x ∷ events) zero e at some =
-    let same : x ≡ e = same_Some x e at in
-    let long : is_long x ≡ true = rw same (lt-ltb 0 (record_length e) (omega arith)) in
-    (0, rw long (ap (λ (y : EventRec). Some y.rec_in) same))
-begins_has (x ∷ events) (suc i) e at some =
-    let rest = begins_has events i e at some in
-    elim (cases_Bool (is_long x)) [
-      | inl long ↦ (suc rest.0, rw long rest.1)
-      | inr short ↦ (rest.0, rw short rest.1)
-    ]
 
 long_map : (f : EventRec → ℕ) (events : List EventRec) → length (map f events) ≡ length events
 long_map f [] = refl
@@ -59,7 +32,7 @@ module _ (events : List EventRec) (i : ℕ) (e : EventRec) (within : i < length 
   there = slice_get_read events (length events) i e refl within is
 
   pub not_before : first_frame events ≤ e.rec_in
-  not_before = let at = begins_has events i e there long in least_under (begins_of events) at.0 e.rec_in at.1
+  not_before = first_under events i e there long
 
   pub in_reel : e.rec_in - first_frame events < frame_count events
   in_reel = let last = end_over events i e there in let first = not_before in omega (arith, last, first, long)
@@ -71,7 +44,7 @@ some_begin rate mode events made =
     let e : EventRec = some.1 in
     let at : slice_get events some.0 ≡ Some e = slice_get_read events (length events) some.0 e refl some.2 (sym some.3) in
     let begin = begins_has events some.0 e at (omega (arith, some.4)) in
-    let long = some_of (begins_of events) begin.0 e.rec_in begin.1 in
+    let long : 0 < length (map (λ (e : EventRec). e.rec_in) (filter is_long events)) = some_of (begins_of events) begin.0 e.rec_in begin.1 in
     let one = long_map (λ (e : EventRec). e.rec_in) (filter is_long events) in
     let two = long_map (λ (e : EventRec). e.rec_in - first_frame events) (filter is_long events) in
     omega (arith, long, one, two)
