@@ -1,5 +1,6 @@
 pub mod DecimalLaws
 pub mod DigitLaws
+pub mod FileIdLaws
 pub mod FirstLaws
 pub mod LineLaws
 pub mod RangeLaws

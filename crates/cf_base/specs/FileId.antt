@@ -1,7 +1,6 @@
 -- The names of the files of a reel folder.
 use Rattle.std.specs.Prelude.{◌≡◌, ◌≢◌, ◌⊎◌, ℕ, Bool, true, false, ◌&&◌, nat_eq, refl}
-use Rattle.std.proofs.Common.{inl, inr, ap, arith}
-use Rattle.std.proofs.lemmas.Bool.Decides.{nat_tests}
+use Rattle.std.proofs.Common.{inl, inr, ap}
 use Rattle.std.proofs.lemmas.Bool.{cases_eq}
 use Rattle.cf_base.specs.declared.file.FileId.{FileId}
 use Rattle.cf_base.specs.declared.file.FileId.TheVariants.{Seal, Body, Seal2, Body2, Sheet, Frame}
@@ -39,27 +38,3 @@ decide_id (Frame r f) (Frame s g) = elim (cases_eq r s) [
     frame_or (Frame reel frame) = frame
     frame_or a = 0
 decide_id a b = inr (λ e. cc)
-
-pub same_id_self : (a : FileId) → same_id a a ≡ true
-same_id_self Seal = refl
-same_id_self Body = refl
-same_id_self Seal2 = refl
-same_id_self Body2 = refl
-same_id_self Sheet = refl
-same_id_self (Frame r f) = grind (arith, nat_tests)
-
--- the test tells two names apart
-pub same_id_other : (a b : FileId) → a ≢ b → same_id a b ≡ false
-same_id_other Seal Seal other = absurd (other refl)
-same_id_other Body Body other = absurd (other refl)
-same_id_other Seal2 Seal2 other = absurd (other refl)
-same_id_other Body2 Body2 other = absurd (other refl)
-same_id_other Sheet Sheet other = absurd (other refl)
-same_id_other (Frame r f) (Frame s g) other = elim (cases_eq r s) [
-  | inl same_reel ↦ elim (cases_eq f g) [
-    | inl same_frame ↦ absurd (other (λ i. Frame (same_reel i) (same_frame i)))
-    | inr apart ↦ grind (arith, nat_tests)
-  ]
-  | inr apart ↦ grind (arith, nat_tests)
-]
-same_id_other a b other = refl

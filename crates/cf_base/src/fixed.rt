@@ -138,7 +138,7 @@ fn are_digits_in_two(whole: &[u8], decimals: &[u8]) -> bool
 fn has_mark(token: &[u8]) -> bool
     ensures { result ≡ list_any is_exponent_mark token.now }
 {
-    token.iter().any(|c| *c == b'e' || *c == b'E')
+    token.iter().any(|c| is_mark(*c))
 }
 
 /// Whether the token is a number.

@@ -16,7 +16,8 @@ use Rattle.edl_lines.specs.declared.LineKind.{LineKind}
 use Rattle.edl_lines.specs.declared.LineKind.TheVariants.{Note, Title, Fcm, Motion, Event, Skipped}
 use Rattle.edl_lines.specs.declared.LineFault.{LineFault}
 use Rattle.edl_lines.specs.declared.LineFault.TheVariants.{BadEvent, BadMotion, BadFcm}
-use Rattle.edl_lines.specs.Numbers.{decimal, speed_of, hundredths, fraction, is_point}
+use Rattle.cf_base.specs.Fixed.{is_point}
+use Rattle.edl_lines.specs.Numbers.{decimal, speed_of, hundredths, fraction}
 use Rattle.cf_base.specs.Text.{name_of}
 use Rattle.cf_base.specs.Steps.{◌>>=◌, required}
 use Rattle.edl_lines.specs.Lines.{word, is_picture, transition_of, token_count, times_of, timed_event, picture_of, event_of, motion_of, begin_with, fcm_of, trimmed_from, kind_of, reading}

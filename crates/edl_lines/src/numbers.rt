@@ -1,7 +1,8 @@
 //! Numbers in tokens.
 ghost use Rattle.std.specs.Prelude.{◌≡◌, ◌≤◌, ◌<◌, ◌^◌, length, IfSome, nat_abs};
 ghost use Rattle.std.specs.List.{position_or_len};
-ghost use Rattle.edl_lines.specs.Numbers.{decimal, speed_of, hundredths, fraction, is_point};
+ghost use Rattle.cf_base.specs.Fixed.{is_point};
+ghost use Rattle.edl_lines.specs.Numbers.{decimal, speed_of, hundredths, fraction};
 
 use cf_base::{are_digits, digits_value};
 

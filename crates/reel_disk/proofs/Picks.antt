@@ -5,7 +5,8 @@ use Rattle.std.specs.List.{list_any}
 use Rattle.std.proofs.lemmas.Bool.{cases_Bool}
 use Rattle.std.proofs.lemmas.Bool.Decides.{nat_tests}
 use Rattle.cf_base.specs.declared.file.FileId.{FileId}
-use Rattle.cf_base.specs.FileId.{same_id, same_id_self, same_id_other, decide_id}
+use Rattle.cf_base.specs.FileId.{same_id, decide_id}
+use Rattle.cf_base.proofs.FileIdLaws.{same_id_self, same_id_other}
 use Rattle.reel_disk.specs.declared.disk.Place.{Place}
 use Rattle.reel_disk.specs.declared.disk.Place.TheVariants.{Whole, Range}
 use Rattle.reel_disk.specs.Disk.{IsLoose, IsLooseAt}

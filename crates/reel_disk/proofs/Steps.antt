@@ -5,7 +5,8 @@ use Rattle.std.specs.declared.alloc.Global.{Global}
 use Rattle.std.proofs.lemmas.Bool.{cases_Bool}
 use Rattle.std.proofs.lemmas.List.{drop_all}
 use Rattle.cf_base.specs.declared.file.FileId.{FileId}
-use Rattle.cf_base.specs.FileId.{same_id, same_id_self, same_id_other, decide_id}
+use Rattle.cf_base.specs.FileId.{same_id, decide_id}
+use Rattle.cf_base.proofs.FileIdLaws.{same_id_self, same_id_other}
 use Rattle.reel_disk.specs.declared.disk.Place.{Place}
 use Rattle.reel_disk.specs.declared.store.Step.{Step}
 use Rattle.reel_disk.specs.declared.store.Step.TheVariants.{Loosened, Wrote, Patched, Synced}
