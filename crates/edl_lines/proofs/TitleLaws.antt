@@ -16,16 +16,17 @@ module _ (p : ℕ → Bool) where
       by true rest e = let less : prefix_len p xs < length xs = rest e in omega arith
       by false rest e = omega arith
 
-  pub ends_apart : (xs : List ℕ) → list_all p xs ≡ false → prefix_len p xs + suffix_len p xs ≤ length xs
-  ends_apart xs e =
+  -- where they met, the one that stops those at the front would pass
+  met : (xs : List ℕ) → list_all p xs ≡ false → length xs - 1 - prefix_len p xs < suffix_len p xs → ⊥
+  met xs e meets =
       let front = prefix_len p xs in
       let less : front < length xs = some_stops xs e in
-      elim (cases_lt (length xs - 1 - front) (suffix_len p xs)) [
-        | inl meets ↦ absurd (
-          let back : length xs - 1 - (length xs - 1 - front) ≡ front = omega arith in
-          true≢false (
-            sym (prefix_len_passes p (reverse xs) (length xs - 1 - front) 0 meets)
-            ∙ ap p (get_or-reverse xs (length xs - 1 - front) 0 (omega arith) ∙ ap (λ k. get_or xs k 0) back)
-            ∙ prefix_len_stops p xs 0 less))
-        | inr apart ↦ omega arith
-      ]
+      let back : length xs - 1 - (length xs - 1 - front) ≡ front = omega arith in
+      let passes : p (get_or (reverse xs) (length xs - 1 - front) 0) ≡ true = prefix_len_passes p (reverse xs) (length xs - 1 - front) 0 meets in
+      let same = get_or-reverse xs (length xs - 1 - front) 0 (omega arith) ∙ ap (λ k. get_or xs k 0) back in
+      true≢false (sym passes ∙ ap p same ∙ prefix_len_stops p xs 0 less)
+
+  pub ends_apart : (xs : List ℕ) → list_all p xs ≡ false → prefix_len p xs + suffix_len p xs ≤ length xs
+  ends_apart xs e =
+      let less : prefix_len p xs < length xs = some_stops xs e in
+      elim (cases_lt (length xs - 1 - prefix_len p xs) (suffix_len p xs)) [ inl meets ↦ absurd (met xs e meets) | inr apart ↦ omega arith ]

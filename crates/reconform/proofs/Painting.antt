@@ -28,7 +28,7 @@ use Rattle.conform_job.specs.Job.{JobData}
 use Rattle.conform_job.specs.Keys.{key_at, key_of_ask, place_at}
 use Rattle.conform_job.specs.Refusals.{Files}
 use Rattle.frame_render.specs.Frame.{words_of_file, words_of_key, side_words, black_of, side_colour, transition_colour, two_colour, shot_colour, old_words, new_words, picture, some_lines, frame_file, out_head}
-use Rattle.frame_render.proofs.Sizes.{length-header}
+use Rattle.dpx_header.proofs.Header.{length-header}
 use Rattle.reconform.specs.declared.plan.PlanSide.{PlanSide}
 use Rattle.reconform.specs.declared.plan.PlanSide.TheVariants as plan_side
 use Rattle.reconform.specs.declared.plan.FramePlan.{FramePlan}
