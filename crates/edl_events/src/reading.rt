@@ -84,26 +84,10 @@ pub fn read_more(rate: Rate, reading: &mut Reading, line: &[u8]) -> Result<(), F
     requires short { length line.now ≤ 4194304 }
     ensures { ReadsLine rate (line_of line.now) reading.old result reading.new }
 {
-    match read_line(line) {
-        Err(fault) => Err(Fail::Fault(ListKind::Line(fault))),
-        Ok(kind) => read_kind(rate, reading, line, kind),
-    }
-}
-
-/// Reads a line more by its kind.
-fn read_kind(
-    rate: Rate,
-    reading: &mut Reading,
-    line: &[u8],
-    kind: LineKind,
-) -> Result<(), Fail<ListKind>>
-    requires counts { CanCount rate reading.old.state.mode }
-    requires record_counts { CanCount rate (unwrap_or reading.old.state.record_mode reading.old.state.mode) }
-    requires few { reading.old.state.lines ≤ 4194304 }
-    requires few_pictures { reading.old.state.pictures ≤ 10000 }
-    requires within { IsIn line.now kind }
-    ensures { ReadsLine rate (record { bytes = line.now; kind = Ok kind }) reading.old result reading.new }
-{
+    let kind = match read_line(line) {
+        Ok(kind) => kind,
+        Err(fault) => return Err(Fail::Fault(ListKind::Line(fault))),
+    };
     match kind {
         LineKind::Motion {
             reel,
