@@ -1,7 +1,7 @@
 -- Jobs of projects over one world have one look where they have one cube.
-use Rattle.std.proofs.Common.{◌≡◌, List, ℕ, refl, sym, ap, subst, ◌∙◌}
-use Rattle.std.specs.Prelude.{Option, Some, None, IfSome, Result, Ok, Err}
-use Rattle.cf_base.specs.Steps.{◌>>=◌}
+use Rattle.std.proofs.Common.{◌≡◌, List, ℕ, sym, ap, subst, ◌∙◌}
+use Rattle.std.specs.Prelude.{Option, Some, None, IfSome, Result, Ok}
+use Rattle.cf_base.proofs.StepLaws.{bind_ok}
 use Rattle.scan_source.specs.World.{World, file_at}
 use Rattle.conform_job.specs.Job.{JobData}
 use Rattle.conform_job.specs.Refusals.{Files, first_refusal}
@@ -21,36 +21,31 @@ use Rattle.project_adopt.specs.Adopt.{IsJobOver}
 ok_same : {A E : Type 0} {a b : A} → ◌≡◌ {A = Result A E} (Ok a) (Ok b) → a ≡ b
 ok_same e = cc
 
--- both steps of a result gave a value
-stepped : {A B : Type 0} (first : Result A Refused) (next : A → Result B Refused) (b : B) → Ok b ≡ (first >>= next) → (a : A) × (first ≡ Ok a) × (Ok b ≡ next a)
-stepped (Ok a) next b is = (a, refl, is)
-stepped (Err refusal) next b is = absurd (cc)
-
 -- the look of a cube, if the project names one
 abbrev HasLook : Files → JobParts → Type 0
 HasLook files parts = (text : Option (List ℕ)) × (look_in files parts.project.cube ≡ Ok (text, parts.look))
 
-parts_look : (files : Files) (text : List ℕ) (project : Project) (parts : JobParts) → Ok parts ≡ parts_of files text project → HasLook files parts
+parts_look : (files : Files) (text : List ℕ) (project : Project) (parts : JobParts) → parts_of files text project ≡ Ok parts → HasLook files parts
 parts_look files text project parts is =
-    let reels = stepped (unless_refused refused.Reels (table_of project.reels)) _ parts is in
-    let edl = stepped (list_in project.rate (files project.edl)) _ parts reels.2 in
-    let timeline = stepped (unless_refused refused.Timeline (timeline_of project.rate edl.0.1)) _ parts edl.2 in
-    let cube = stepped (look_in files project.cube) _ parts timeline.2 in
-    subst (HasLook files) (sym (ok_same cube.2)) (cube.0.0, cube.1)
+    let reels = bind_ok (unless_refused refused.Reels (table_of project.reels)) _ parts is in
+    let edl = bind_ok (list_in project.rate (files project.edl)) _ parts reels.2 in
+    let timeline = bind_ok (unless_refused refused.Timeline (timeline_of project.rate edl.0.1)) _ parts edl.2 in
+    let cube = bind_ok (look_in files project.cube) _ parts timeline.2 in
+    subst (HasLook files) (ok_same cube.2) (cube.0.0, cube.1)
 
-job_parts : (parts job : JobParts) (fault : Option JobFault) → Ok job ≡ unless_job parts fault → job ≡ parts
+job_parts : (parts job : JobParts) (fault : Option JobFault) → unless_job parts fault ≡ Ok job → parts ≡ job
 job_parts parts job None is = ok_same is
 job_parts parts job (Some fault) is = absurd (cc)
 
-job_look : (files : Files) (text : List ℕ) (read : Result Project ProjectFault) (job : JobParts) → Ok job ≡ job_of files text read → HasLook files job
+job_look : (files : Files) (text : List ℕ) (read : Result Project ProjectFault) (job : JobParts) → job_of files text read ≡ Ok job → HasLook files job
 job_look files text read job is =
-    let project = stepped (unless_refused refused.Project read) _ job is in
-    let parts = stepped (parts_of files text project.0) _ job project.2 in
-    subst (HasLook files) (sym (job_parts parts.0 job (first_refusal parts.0 files) parts.2)) (parts_look files text project.0 parts.0 (sym parts.1))
+    let project = bind_ok (unless_refused refused.Project read) _ job is in
+    let parts = bind_ok (parts_of files text project.0) _ job project.2 in
+    subst (HasLook files) (job_parts parts.0 job (first_refusal parts.0 files) parts.2) (parts_look files text project.0 parts.0 parts.1)
 
 file_look : (files : Files) (file : Option (List ℕ)) (job : JobParts) → FileComesTo files file (Ok job) → HasLook files job
 file_look files None job is = absurd (cc)
-file_look files (Some text) job come = job_look files text come.0 job come.2
+file_look files (Some text) job come = job_look files text come.0 job (sym come.2)
 
 same_look : (files : Files) (new old : JobData) → HasLook files new.parts → HasLook files old.parts → HaveOneLook new old
 same_look files new old look old_look cube =

@@ -6,7 +6,6 @@ use Rattle.cf_base.specs.declared.reel.ReelEntry.{ReelEntry}
 use Rattle.cf_base.specs.declared.timing.Mode.{Mode}
 use Rattle.cf_base.specs.declared.timing.Mode.TheVariants.{NonDrop}
 use Rattle.cf_base.specs.declared.timing.Rate.{Rate}
-use Rattle.cf_base.specs.Steps.{◌>>=◌}
 use Rattle.cf_base.proofs.StepLaws.{bind_ok}
 use Rattle.cf_base.proofs.TimingLaws.{counts_of}
 use Rattle.conform_job.specs.Job.{ArePlanned}
@@ -28,11 +27,6 @@ no_ok e a h = absurd (cc)
 same_ok : {A E : Type 0} (a b : A) → ◌≡◌ {A = Result A E} (Ok a) (Ok b) → a ≡ b
 same_ok a b h = cc
 
--- both steps of a result gave a value
-bound : {A B : Type 0} (r : Result A ProjectFault) (f : A → Result B ProjectFault) (b : B) → (r >>= f) ≡ Ok b → (a : A) × (f a ≡ Ok b)
-bound (Ok a) f b h = (a, h)
-bound (Err e) f b h = no_ok e b h
-
 mode_flagged : (rate : Rate) (reel : ℕ) (flagged : Mode) (b : Bool) (mode : Mode) → can_count rate flagged ≡ b → ◌≡◌ {A = Result Mode ProjectFault} (cond b (Ok flagged) (Err (fault OutOfRange (place reel 13)))) (Ok mode) → CanCount rate mode
 mode_flagged rate reel flagged true mode is h = subst (CanCount rate) (same_ok flagged mode h) (counts_of rate flagged is)
 mode_flagged rate reel flagged false mode is h = no_ok _ mode h
@@ -40,18 +34,18 @@ mode_flagged rate reel flagged false mode is h = no_ok _ mode h
 mode_read : (rate : Rate) (reel : ℕ) (d : Option Data) (mode : Mode) → optional NonDrop (mode_at reel rate) d ≡ Ok mode → CanCount rate mode
 mode_read rate reel None mode h = subst (CanCount rate) (same_ok NonDrop mode h) tt
 mode_read rate reel (Some d) mode h =
-    let flag = bound (flag_at (place reel 13) d) _ mode h in
-    mode_flagged rate reel (mode_of flag.0) (can_count rate (mode_of flag.0)) mode refl flag.1
+    let flag = bind_ok (flag_at (place reel 13) d) _ mode h in
+    mode_flagged rate reel (mode_of flag.0) (can_count rate (mode_of flag.0)) mode refl flag.2
 
 reel_counted : (rate : Rate) (reel : ℕ) (ms : Members) (e : ReelEntry) → reel_of rate reel ms ≡ Ok e → IsCounted rate e
 reel_counted rate reel ms e h =
-    let name = bound (needed (place reel 10) (text_at (place reel 10) reel_name_of) (get_member (codes "name") ms)) _ e h in
-    let prefix = bound (needed (place reel 11) (text_at (place reel 11) prefix_of) (get_member (codes "prefix") ms)) _ e name.1 in
-    let mode = bind_ok (optional NonDrop (mode_at reel rate) (get_member (codes "drop") ms)) _ e prefix.1 in
-    let start = bound (needed (place reel 12) (text_at (place reel 12) (label_number rate mode.0)) (get_member (codes "start") ms)) _ e mode.2 in
-    let frames = bound (needed (place reel 14) (whole_at (place reel 14) 1 2592000) (get_member (codes "frames") ms)) _ e start.1 in
-    let file = bound (optional start.0 (whole_at (place reel 15) 0 9999999) (get_member (codes "file") ms)) _ e frames.1 in
-    (mode.0, mode_read rate reel (get_member (codes "drop") ms) mode.0 mode.1, sym (ap (λ (e : ReelEntry). e.day) (same_ok _ e file.1)))
+    let name = bind_ok (needed (place reel 10) (text_at (place reel 10) reel_name_of) (get_member (codes "name") ms)) _ e h in
+    let prefix = bind_ok (needed (place reel 11) (text_at (place reel 11) prefix_of) (get_member (codes "prefix") ms)) _ e name.2 in
+    let mode = bind_ok (optional NonDrop (mode_at reel rate) (get_member (codes "drop") ms)) _ e prefix.2 in
+    let start = bind_ok (needed (place reel 12) (text_at (place reel 12) (label_number rate mode.0)) (get_member (codes "start") ms)) _ e mode.2 in
+    let frames = bind_ok (needed (place reel 14) (whole_at (place reel 14) 1 2592000) (get_member (codes "frames") ms)) _ e start.2 in
+    let file = bind_ok (optional start.0 (whole_at (place reel 15) 0 9999999) (get_member (codes "file") ms)) _ e frames.2 in
+    (mode.0, mode_read rate reel (get_member (codes "drop") ms) mode.0 mode.1, sym (ap (λ (e : ReelEntry). e.day) (same_ok _ e file.2)))
 
 one_counted : (rate : Rate) (reel : ℕ) (d : Data) (e : ReelEntry) → reel_at rate reel d ≡ Ok e → IsCounted rate e
 one_counted rate reel (table ms) e h = reel_counted rate reel ms e h
@@ -67,13 +61,13 @@ reels_counted rate reel (item d ds) reels h =
 
 members_counted : (ms : Members) (project : Project) → project_of ms ≡ Ok project → AreCounted project.rate project.reels
 members_counted ms project h =
-    let settings = bound (settings_in ms) _ project h in
-    let items = bound (reels_in ms) _ project settings.1 in
-    let cuts = bound (cuts_in ms) _ project items.1 in
-    let reels = bind_ok (reels_from settings.0.rate 1 items.0) _ project cuts.1 in
-    let top = bound (knows_top ms) _ project reels.2 in
-    let known = bound (knows_reels 1 items.0) _ project top.1 in
-    subst (λ (p : Project). AreCounted p.rate p.reels) (same_ok _ project known.1) (reels_counted settings.0.rate 1 items.0 reels.0 reels.1)
+    let settings = bind_ok (settings_in ms) _ project h in
+    let items = bind_ok (reels_in ms) _ project settings.2 in
+    let cuts = bind_ok (cuts_in ms) _ project items.2 in
+    let reels = bind_ok (reels_from settings.0.rate 1 items.0) _ project cuts.2 in
+    let top = bind_ok (knows_top ms) _ project reels.2 in
+    let known = bind_ok (knows_reels 1 items.0) _ project top.2 in
+    subst (λ (p : Project). AreCounted p.rate p.reels) (same_ok _ project known.2) (reels_counted settings.0.rate 1 items.0 reels.0 reels.1)
 
 pub counted_project : (text : List ℕ) (project : Project) → Means text (Ok project) → AreCounted project.rate project.reels
 counted_project text project (inl unread) = no_ok _ project (sym unread.1)

@@ -31,20 +31,16 @@ pub returns-clause-stage : goal.returns-clause-stage
 returns-clause-stage g c = memory_stage 1
 
 pub returns-in-Err-clause-scan : goal.returns-in-Err-clause-scan
-returns-in-Err-clause-scan g c =
-    leaves_as g.S.Scans.world g.S.Scans.faults g.S.Scans.same _ _ (err_as _ _) (err_as _ _) c.in-Err.ensures.scan
+returns-in-Err-clause-scan g c = leaves_as g.S.Scans.world g.S.Scans.faults g.S.Scans.same _ _ (err_as _ _) (err_as _ _) c.in-Err.ensures.scan
 
 pub returns-in-Ok-read_project-clause-scan : goal.returns-in-Ok-read_project-clause-scan
-returns-in-Ok-read_project-clause-scan g c =
-    leaves_done g.S.Scans.world g.S.Scans.faults g.S.Scans.same _ _ (no_err _ _) (no_err _ _) c.in-Ok.ensures.scan
+returns-in-Ok-read_project-clause-scan g c = leaves_done g.S.Scans.world g.S.Scans.faults g.S.Scans.same _ _ (no_err _ _) (no_err _ _) c.in-Ok.ensures.scan
 
 pub returns-in-Err-Fault-clause-scan : goal.returns-in-Err-Fault-clause-scan
-returns-in-Err-Fault-clause-scan g c =
-    leaves_done g.S.Scans.world g.S.Scans.faults g.S.Scans.same _ _ (no_err _ _) (refused_apart _) c.in-Ok.ensures.scan
+returns-in-Err-Fault-clause-scan g c = leaves_done g.S.Scans.world g.S.Scans.faults g.S.Scans.same _ _ (no_err _ _) (refused_apart _) c.in-Ok.ensures.scan
 
 pub returns-clause-scan : goal.returns-clause-scan
-returns-clause-scan g c =
-    leaves_done g.S.Scans.world g.S.Scans.faults g.S.Scans.same _ _ (no_err _ _) memory_apart c.in-Ok.ensures.scan
+returns-clause-scan g c = leaves_done g.S.Scans.world g.S.Scans.faults g.S.Scans.same _ _ (no_err _ _) memory_apart c.in-Ok.ensures.scan
 
 -- no file but the project's was loaded
 pub returns-in-Err-Fault-clause-loads : goal.returns-in-Err-Fault-clause-loads
