@@ -18,7 +18,7 @@ use Rattle.shared_station.specs.declared.leaving.Leave.{Leave}
 use Rattle.shared_station.specs.declared.leaving.Leave.TheVariants as leaves
 use Rattle.shared_station.specs.StationSteps.{why_by}
 use Rattle.conform_job.specs.Answers.{count_after}
-use Rattle.frame_fetch.specs.Scanned.{HasLoaded, IsScanned}
+use Rattle.frame_fetch.specs.Scanned.{HasFetched, IsScanned}
 use Rattle.crew_seat.specs.Stepped.{HasStepped, HasWorked}
 use Rattle.crew_seat.specs.Worked.{HasCauses, HasMarked}
 use Rattle.crew_seat.specs.declared.seat.Seat.{Seat}
@@ -171,19 +171,20 @@ module _ {S N C A B D E F : Type 0} (told : Option World) (world : S → Option 
 
   -- a frame was made or could not be, and its stop was counted
   pub stepped_made : {T : Type 0} (most : ℕ) (old new : Seat S N C A B D E F) (made : Result T RunEnd) (fault : Bool) → (fault ≡ true) ↔ (made ≡ Err SourceFault) → new.has_failed ≡ (old.has_failed || fault)
-      → HasLoaded most old.loads new.loads old.units new.units → IsScanned world faults loads (new.loads - old.loads) (made ≡ Err SourceFault) old.scan new.scan → same old.scan new.scan
-      → IfErr made (λ end. IsChange end → old.loads < new.loads) → HasMarked told made old.marks new.marks → Stepped most old new
-  stepped_made {T = T} most old new made fault is has counted scanned lent changed marked = record {
-    more = new.loads - old.loads;
-    failed = fault;
-    few = omega (arith, counted.few, counted.later);
-    counts = omega (arith, counted.later);
-    fails = has;
-    units = record { parts = counted.parts; amount = omega (arith, counted.misses, counted.later) };
-    scanned = scanned_as world faults loads old.scan new.scan _ _ _ (fault ≡ true) refl is.0 is.1 scanned;
-    lent = lent;
-    causes = marked (new.loads - old.loads) fault is.1 (loaded made changed);
-  }
+      → HasFetched world faults loads same most made old.loads new.loads old.units new.units old.scan new.scan → HasMarked told made old.marks new.marks → Stepped most old new
+  stepped_made {T = T} most old new made fault is has fetched marked =
+      let counted = fetched.loaded in
+      record {
+        more = new.loads - old.loads;
+        failed = fault;
+        few = omega (arith, counted.few, counted.later);
+        counts = omega (arith, counted.later);
+        fails = has;
+        units = record { parts = counted.parts; amount = omega (arith, counted.misses, counted.later) };
+        scanned = scanned_as world faults loads old.scan new.scan _ _ _ (fault ≡ true) refl is.0 is.1 fetched.scan;
+        lent = fetched.lent;
+        causes = marked (new.loads - old.loads) fault is.1 (loaded made fetched.changed);
+      }
     where
       loaded : (made : Result T RunEnd) → IfErr made (λ end. IsChange end → old.loads < new.loads) → IfErr made (λ end. IsChange end → 1 ≤ new.loads - old.loads)
       loaded (Ok frame) more = tt

@@ -1,14 +1,12 @@
 //! A frame of the reel from source frames that the workers share. A source frame that isn't there is loaded outside the lock.
-ghost use Rattle.std.specs.Prelude.{◌≡◌, ◌+◌, ◌-◌, ◌<◌, ◌^◌, Some, Err, length, IfSome, IfOk, IfErr, OnOk};
+ghost use Rattle.std.specs.Prelude.{◌≡◌, ◌<◌, Some, length, IfSome, IfOk, IfErr};
 ghost use Rattle.std.specs.Arc.{arc_value};
 ghost use Rattle.std.specs.Option.{option_map};
-ghost use Rattle.conform_job.specs.Answers.{AreInfosOf};
 ghost use Rattle.conform_job.specs.Keys.{info_at};
-ghost use Rattle.conform_job.specs.Names.{Tells};
 ghost use Rattle.frame_render.specs.Frame.{HasKeyOf, frame_size};
 ghost use Rattle.reel_writer.specs.Reel.{frames_of};
-ghost use Rattle.frame_fetch.specs.Ends.{IsChange, IsUnrendered};
-ghost use Rattle.frame_fetch.specs.Scanned.{HasLoaded, IsScanned};
+ghost use Rattle.frame_fetch.specs.Ends.{IsUnrendered};
+ghost use Rattle.frame_fetch.specs.Scanned.{CanFetch, HasFetched};
 
 use crate::shared_frames::SharedFrames;
 use cf_base::Key;
@@ -37,27 +35,18 @@ fn frame_of<N: Work, F: Ledger, S: Scans, R: Wait>(
     units: &mut Units<F>,
     loads: &mut u64,
 ) -> Result<Arc<Decoded<N>>, RunEnd>
-    requires job { job.now ≡ N.job }
-    requires files { Tells N.files (S.world scan.old) }
-    requires infos { AreInfosOf N.job.parts N.files N.job.infos }
+    requires ready { CanFetch N.job N.files job.now (S.world scan.old) 1 loads.old units.old }
     requires known { info_at N.job.infos key ≡ Some info }
-    requires closed { units.old.pending ≡ 0 }
-    requires few { loads.old + 1 < 2 ^ 64 }
     ensures key { IfOk result (λ frame. (arc_value frame).key ≡ key) }
     ensures stop { IfErr result (IsUnrendered N.job N.files) }
-    ensures closed { OnOk result (units.new.pending ≡ 0) }
-    ensures loads { HasLoaded 1 loads.old loads.new units.old units.new }
-    ensures changed { IfErr result (λ end. IsChange end → loads.old < loads.new) }
-    ensures scan { IsScanned S.world S.faults S.loads (loads.new - loads.old) (result ≡ Err RunEnd.SourceFault) scan.old scan.new }
-    ensures same { S.same scan.old scan.new }
+    ensures fetched { HasFetched S.world S.faults S.loads S.same 1 result loads.old loads.new units.old units.new scan.old scan.new }
 {
     let ticket = match share.ask(rt, key, units) {
         Ask::Hit(frame) => return Ok(frame),
         Ask::NoMemory => return Err(RunEnd::NoMemory),
         Ask::Miss(ticket) => ticket,
     };
-    *loads += 1;
-    let (frame, ours) = match fetch_to_share::<N, S>(alloc, job, scan, key, info, rooms) {
+    let (frame, ours) = match fetch_to_share::<N, S>(alloc, job, scan, key, info, rooms, loads) {
         Ok(frames) => frames,
         Err(end) => return Err(end),
     };
@@ -80,19 +69,11 @@ fn side_of<N: Work, F: Ledger, S: Scans, R: Wait>(
     units: &mut Units<F>,
     loads: &mut u64,
 ) -> Result<Option<Arc<Decoded<N>>>, RunEnd>
-    requires job { job.now ≡ N.job }
-    requires files { Tells N.files (S.world scan.old) }
-    requires infos { AreInfosOf N.job.parts N.files N.job.infos }
+    requires ready { CanFetch N.job N.files job.now (S.world scan.old) 1 loads.old units.old }
     requires known { IfSome need (λ n. info_at N.job.infos n.0 ≡ Some n.1) }
-    requires closed { units.old.pending ≡ 0 }
-    requires few { loads.old + 1 < 2 ^ 64 }
     ensures key { IfOk result (λ frame. HasKeyOf need (option_map (λ f. arc_value f) frame)) }
     ensures stop { IfErr result (IsUnrendered N.job N.files) }
-    ensures closed { OnOk result (units.new.pending ≡ 0) }
-    ensures loads { HasLoaded 1 loads.old loads.new units.old units.new }
-    ensures changed { IfErr result (λ end. IsChange end → loads.old < loads.new) }
-    ensures scan { IsScanned S.world S.faults S.loads (loads.new - loads.old) (result ≡ Err RunEnd.SourceFault) scan.old scan.new }
-    ensures same { S.same scan.old scan.new }
+    ensures fetched { HasFetched S.world S.faults S.loads S.same 1 result loads.old loads.new units.old units.new scan.old scan.new }
 {
     let Some((key, info)) = need else {
         return Ok(None);
@@ -122,20 +103,12 @@ pub(crate) fn make_shared<N: Work, F: Ledger, S: Scans, R: Threads + Wait + Sync
     units: &mut Units<F>,
     loads: &mut u64,
 ) -> Result<Rendered<N>, RunEnd>
-    requires job { job.now ≡ N.job }
-    requires files { Tells N.files (S.world scan.old) }
-    requires infos { AreInfosOf N.job.parts N.files N.job.infos }
+    requires ready { CanFetch N.job N.files job.now (S.world scan.old) 2 loads.old units.old }
     requires index { i < frames_of N.job }
     requires room { length room ≡ frame_size N.job }
-    requires closed { units.old.pending ≡ 0 }
-    requires few { loads.old + 2 < 2 ^ 64 }
     ensures index { IfOk result (λ frame. frame.index ≡ i) }
     ensures stop { IfErr result (IsUnrendered N.job N.files) }
-    ensures closed { OnOk result (units.new.pending ≡ 0) }
-    ensures loads { HasLoaded 2 loads.old loads.new units.old units.new }
-    ensures changed { IfErr result (λ end. IsChange end → loads.old < loads.new) }
-    ensures scan { IsScanned S.world S.faults S.loads (loads.new - loads.old) (result ≡ Err RunEnd.SourceFault) scan.old scan.new }
-    ensures same { S.same scan.old scan.new }
+    ensures fetched { HasFetched S.world S.faults S.loads S.same 2 result loads.old loads.new units.old units.new scan.old scan.new }
 {
     let need = job.need(i);
     let old = match side_of(

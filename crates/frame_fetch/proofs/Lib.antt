@@ -4,3 +4,4 @@ pub mod Fetching
 mod Heads
 pub mod Logs
 pub mod Scanning
+pub mod Shared

@@ -1,13 +1,11 @@
 //! A record frame, made of the source frames that it needs.
-ghost use Rattle.std.specs.Prelude.{◌≡◌, ◌+◌, ◌-◌, ◌<◌, ◌^◌, Ok, Err, length, IfOk, IfErr, OnOk, OnErr};
-ghost use Rattle.conform_job.specs.Answers.{AreInfosOf};
+ghost use Rattle.std.specs.Prelude.{◌≡◌, ◌<◌, length, IfOk, IfErr, OnOk, OnErr};
 ghost use Rattle.conform_job.specs.Job.{need_at};
-ghost use Rattle.conform_job.specs.Names.{Tells};
 ghost use Rattle.frame_render.specs.Frame.{frame_size};
 ghost use Rattle.record_timeline.specs.Accepted.{frame_count};
 ghost use Rattle.frame_fetch.specs.Asks.{keys_of_need};
-ghost use Rattle.frame_fetch.specs.Ends.{IsChange, IsUnrendered};
-ghost use Rattle.frame_fetch.specs.Scanned.{HasLoaded, IsScanned};
+ghost use Rattle.frame_fetch.specs.Ends.{IsUnrendered};
+ghost use Rattle.frame_fetch.specs.Scanned.{CanFetch, HasFetched};
 ghost use Rattle.frame_fetch.specs.Sharing.{HasAsked, HasTried};
 
 use crate::RunEnd;
@@ -32,23 +30,14 @@ pub fn make_frame<N: Work, L: Ledger, S: Scans>(
     units: &mut Units<L>,
     loads: &mut u64,
 ) -> Result<Rendered<N>, RunEnd>
-    requires job { job.now ≡ N.job }
-    requires files { Tells N.files (S.world scan.old) }
-    requires infos { AreInfosOf N.job.parts N.files N.job.infos }
+    requires ready { CanFetch N.job N.files job.now (S.world scan.old) 2 loads.old units.old }
     requires index { i < frame_count N.job.parts.timeline.events }
     requires room { length room ≡ frame_size N.job }
-    requires closed { units.old.pending ≡ 0 }
-    requires few { loads.old + 2 < 2 ^ 64 }
     ensures index { IfOk result (λ frame. frame.index ≡ i) }
     ensures stop { IfErr result (IsUnrendered N.job N.files) }
     ensures asked { OnOk result (HasAsked share.old share.new (keys_of_need (need_at N.job i))) }
     ensures tried { OnErr result (HasTried share.old share.new (keys_of_need (need_at N.job i))) }
-    ensures closed { OnOk result (units.new.pending ≡ 0) }
-    ensures loads { HasLoaded 2 loads.old loads.new units.old units.new }
-    ensures changed { IfErr result (λ end. IsChange end → loads.old < loads.new) }
-    ensures scan { IsScanned S.world S.faults S.loads (loads.new - loads.old) (result
-        ≡ Err RunEnd.SourceFault) scan.old scan.new }
-    ensures same { S.same scan.old scan.new }
+    ensures fetched { HasFetched S.world S.faults S.loads S.same 2 result loads.old loads.new units.old units.new scan.old scan.new }
 {
     let need = job.need(i);
     let old = match side_of(alloc, job, scan, need.old, rooms, share, units, loads) {

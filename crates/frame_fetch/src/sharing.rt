@@ -1,15 +1,12 @@
 //! Source frames by way of the share: one that is there isn't loaded again.
-ghost use Rattle.std.specs.Prelude.{◌≡◌, ◌+◌, ◌-◌, ◌<◌, ◌^◌, ◌∷◌, [], Some, Err, IfSome, IfOk, IfErr, OnOk, OnErr};
+ghost use Rattle.std.specs.Prelude.{◌≡◌, ◌∷◌, [], Some, IfSome, IfOk, IfErr, OnOk, OnErr};
 ghost use Rattle.std.specs.Arc.{arc_value};
 ghost use Rattle.std.specs.Option.{option_copied, option_map};
-ghost use Rattle.dpx_header.specs.declared.info.FrameInfo.{FrameInfo};
-ghost use Rattle.conform_job.specs.Answers.{AreInfosOf};
 ghost use Rattle.conform_job.specs.Keys.{info_at};
-ghost use Rattle.conform_job.specs.Names.{Tells};
 ghost use Rattle.frame_render.specs.Frame.{HasKeyOf};
 ghost use Rattle.frame_fetch.specs.Asks.{key_of_side};
-ghost use Rattle.frame_fetch.specs.Ends.{IsChange, IsUnrendered};
-ghost use Rattle.frame_fetch.specs.Scanned.{HasLoaded, IsScanned};
+ghost use Rattle.frame_fetch.specs.Ends.{IsUnrendered};
+ghost use Rattle.frame_fetch.specs.Scanned.{CanFetch, HasFetched};
 ghost use Rattle.frame_fetch.specs.Sharing.{HasAsked, HasTried};
 
 use crate::RunEnd;
@@ -37,30 +34,20 @@ fn frame_of<N: Work, L: Ledger, S: Scans>(
     units: &mut Units<L>,
     loads: &mut u64,
 ) -> Result<Arc<Decoded<N>>, RunEnd>
-    requires job { job.now ≡ N.job }
-    requires files { Tells N.files (S.world scan.old) }
-    requires infos { AreInfosOf N.job.parts N.files N.job.infos }
+    requires ready { CanFetch N.job N.files job.now (S.world scan.old) 1 loads.old units.old }
     requires known { info_at N.job.infos key ≡ Some info }
-    requires closed { units.old.pending ≡ 0 }
-    requires few { loads.old + 1 < 2 ^ 64 }
     ensures key { IfOk result (λ frame. (arc_value frame).key ≡ key) }
     ensures stop { IfErr result (IsUnrendered N.job N.files) }
     ensures asked { OnOk result (HasAsked share.old share.new (key ∷ [])) }
     ensures tried { OnErr result (HasTried share.old share.new (key ∷ [])) }
-    ensures closed { OnOk result (units.new.pending ≡ 0) }
-    ensures loads { HasLoaded 1 loads.old loads.new units.old units.new }
-    ensures changed { IfErr result (λ end. IsChange end → loads.old < loads.new) }
-    ensures scan { IsScanned S.world S.faults S.loads (loads.new - loads.old) (result
-        ≡ Err RunEnd.SourceFault) scan.old scan.new }
-    ensures same { S.same scan.old scan.new }
+    ensures fetched { HasFetched S.world S.faults S.loads S.same 1 result loads.old loads.new units.old units.new scan.old scan.new }
 {
     let ticket = match share.ask(key, units) {
         Ask::Hit(frame) => return Ok(frame),
         Ask::NoMemory => return Err(RunEnd::NoMemory),
         Ask::Miss(ticket) => ticket,
     };
-    *loads += 1;
-    let (frame, ours) = match fetch_to_share::<N, S>(alloc, job, scan, key, info, rooms) {
+    let (frame, ours) = match fetch_to_share::<N, S>(alloc, job, scan, key, info, rooms, loads) {
         Ok(frames) => frames,
         Err(end) => return Err(end),
     };
@@ -81,22 +68,13 @@ pub(crate) fn side_of<N: Work, L: Ledger, S: Scans>(
     units: &mut Units<L>,
     loads: &mut u64,
 ) -> Result<Option<Arc<Decoded<N>>>, RunEnd>
-    requires job { job.now ≡ N.job }
-    requires files { Tells N.files (S.world scan.old) }
-    requires infos { AreInfosOf N.job.parts N.files N.job.infos }
+    requires ready { CanFetch N.job N.files job.now (S.world scan.old) 1 loads.old units.old }
     requires known { IfSome need (λ n. info_at N.job.infos n.0 ≡ Some n.1) }
-    requires closed { units.old.pending ≡ 0 }
-    requires few { loads.old + 1 < 2 ^ 64 }
     ensures key { IfOk result (λ frame. HasKeyOf need (option_map (λ f. arc_value f) frame)) }
     ensures stop { IfErr result (IsUnrendered N.job N.files) }
     ensures asked { OnOk result (HasAsked share.old share.new (key_of_side need)) }
     ensures tried { OnErr result (HasTried share.old share.new (key_of_side need)) }
-    ensures closed { OnOk result (units.new.pending ≡ 0) }
-    ensures loads { HasLoaded 1 loads.old loads.new units.old units.new }
-    ensures changed { IfErr result (λ end. IsChange end → loads.old < loads.new) }
-    ensures scan { IsScanned S.world S.faults S.loads (loads.new - loads.old) (result
-        ≡ Err RunEnd.SourceFault) scan.old scan.new }
-    ensures same { S.same scan.old scan.new }
+    ensures fetched { HasFetched S.world S.faults S.loads S.same 1 result loads.old loads.new units.old units.new scan.old scan.new }
 {
     let Some((key, info)) = need else {
         return Ok(None);

@@ -1,11 +1,10 @@
 -- The words that were handed in are those of the shot's sides.
-use Rattle.std.proofs.Common.{◌≡◌, ℕ, List, ◌++◌, refl, sym, ap, ◌∙◌, Option}
+use Rattle.std.proofs.Common.{◌≡◌, ℕ, List, refl, sym, ap, ◌∙◌, Option}
 use Rattle.std.specs.Prelude.{Some, None, IfSome, IsSome}
 use Rattle.std.specs.Option.{option_map, option_and_then}
 use Rattle.std.proofs.lemmas.Bool.{false≢true}
 use Rattle.cf_base.specs.declared.key.Key.{Key}
 use Rattle.dpx_header.specs.declared.info.FrameInfo.{FrameInfo}
-use Rattle.dpx_header.specs.Writing.{header_of}
 use Rattle.record_timeline.specs.declared.Side.{Side}
 use Rattle.record_timeline.specs.declared.Side.TheVariants.{Black, Frame}
 use Rattle.record_timeline.specs.declared.Shot.{Shot}
@@ -15,7 +14,7 @@ use Rattle.conform_job.specs.Asks.{shot_of_frame}
 use Rattle.conform_job.specs.Job.{JobData, need_of_side, need_of_shot, need_at, info_of_key, IsMet, AreMet}
 use Rattle.conform_job.specs.Keys.{info_at, key_of_ask}
 use Rattle.conform_job.specs.Refusals.{Files}
-use Rattle.frame_render.specs.Frame.{KeyWords, words_of_key, side_words, old_words, new_words, words_kept, IsDecoded, HasKeyOf, IsFileOf, picture, frame_file, out_head}
+use Rattle.frame_render.specs.Frame.{AreSidesOf, KeyWords, words_of_key, side_words, old_words, new_words, words_kept, IsDecoded, HasKeyOf, IsFileOf, file_by, frame_file}
 
 none_some : {A : Type 0} (x : A) → ◌≡◌ {A = Option A} None (Some x) → ⊥
 none_some x h = cc
@@ -73,18 +72,15 @@ told_both None P Q R f h k = tt
 told_both (Some a) P Q R f h k = f a h k
 
 -- the bytes that were made of the handed-in words are those of the frame's file
-pub rendered : (job : JobData) (told : Option World) (i : ℕ) (old new : Option KeyWords) (o n : Option (List ℕ)) (bytes : List ℕ)
-    → AreMet (shot_of_frame job.parts.timeline i) (need_at job i)
-    → HasKeyOf (need_at job i).old old → HasKeyOf (need_at job i).new new
+pub rendered : (job : JobData) (told : Option World) (i : ℕ) (old new : Option KeyWords) (bytes : List ℕ)
+    → AreMet (shot_of_frame job.parts.timeline i) (need_at job i) → AreSidesOf job i old new
     → IfSome told (λ world. IsDecoded job (file_at world) old) → IfSome told (λ world. IsDecoded job (file_at world) new)
-    → o ≡ words_kept old → n ≡ words_kept new
-    → bytes ≡ header_of (out_head job i) ++ picture job (shot_of_frame job.parts.timeline i) o n
-    → IsFileOf job told i bytes
+    → bytes ≡ file_by job i (words_kept old) (words_kept new) → IsFileOf job told i bytes
 unfolding frame_file
-rendered job told i old new o n bytes met has_old has_new is_old is_new o_is n_is bytes_are =
+rendered job told i old new bytes met sides is_old is_new bytes_are =
     let shot : Shot = shot_of_frame job.parts.timeline i in
     told_both told _ _ _ (λ world is_o is_n.
     bytes_are
-    ∙ ap (λ o. header_of (out_head job i) ++ picture job shot o n) (o_is ∙ old_met job (file_at world) shot old met has_old is_o)
-    ∙ ap (λ n. header_of (out_head job i) ++ picture job shot (old_words job (file_at world) shot) n) (n_is ∙ new_met job (file_at world) shot new met has_new is_n))
+    ∙ ap (λ o. file_by job i o (words_kept new)) (old_met job (file_at world) shot old met sides.old_key is_o)
+    ∙ ap (λ n. file_by job i (old_words job (file_at world) shot) n) (new_met job (file_at world) shot new met sides.new_key is_n))
     is_old is_new

@@ -6,7 +6,7 @@
 --     file_by job i old new      the file of record frame i: its header, then its picture
 --     frame_file job files i      the same over these files
 -- Colours are lists of codes by channel: red, green, blue.
-use Rattle.std.specs.Prelude.{◌≡◌, ℕ, ◌+◌, ◌-◌, ◌*◌, List, take, [], ◌++◌, length, map, flat_map, slice_index, Option, Some, None, IfSome, IsSomeAnd, Result, Ok, Err, if◌then◌else◌}
+use Rattle.std.specs.Prelude.{◌≡◌, ℕ, ◌+◌, ◌-◌, ◌*◌, ◌<◌, List, take, [], ◌++◌, length, map, flat_map, slice_index, Option, Some, None, IfSome, IsSomeAnd, Result, Ok, Err, if◌then◌else◌}
 use Rattle.std.specs.Option.{option_map}
 use Rattle.std.specs.List.{range_with_len}
 use Rattle.byteorder.specs.Endian.{big_bytes}
@@ -32,10 +32,10 @@ use Rattle.record_timeline.specs.declared.Side.{Side}
 use Rattle.record_timeline.specs.declared.Side.TheVariants.{Black, Frame}
 use Rattle.record_timeline.specs.declared.Shot.{Shot}
 use Rattle.record_timeline.specs.declared.Shot.TheVariants.{Gap, One, Two}
-use Rattle.record_timeline.specs.Accepted.{first_frame}
+use Rattle.record_timeline.specs.Accepted.{first_frame, frame_count}
 use Rattle.conform_job.specs.Asks.{shot_of_frame}
 use Rattle.conform_job.specs.Cuts.{record_reel, reel_span}
-use Rattle.conform_job.specs.Job.{JobData}
+use Rattle.conform_job.specs.Job.{JobData, need_at}
 use Rattle.conform_job.specs.Keys.{key_of_ask}
 use Rattle.conform_job.specs.Refusals.{Files, file_of_key}
 
@@ -199,3 +199,14 @@ words_kept decoded = option_map (λ (d : KeyWords). d.words) decoded
 -- what was decoded is the key's file
 abbrev pub IsDecoded : JobData → Files → Option KeyWords → Type 0
 IsDecoded job files decoded = IfSome decoded (λ d. d.words ≡ words_of_key job files d.key)
+
+-- record frame i is one of the job's, and these are the source frames that it needs
+pub record AreSidesOf (job : JobData) (i : ℕ) (old new : Option KeyWords) : Type 0 where
+  pub index : i < frame_count job.parts.timeline.events
+  pub old_key : HasKeyOf (need_at job i).old old
+  pub new_key : HasKeyOf (need_at job i).new new
+
+-- it is record frame i, of these source frames
+pub record IsRenderedOf (job : JobData) (i : ℕ) (old new : Option KeyWords) (frame : FrameBytes) : Type 0 where
+  pub index : frame.index ≡ i
+  pub bytes : frame.bytes ≡ file_by job i (words_kept old) (words_kept new)

@@ -1,12 +1,12 @@
 //! The file of a frame: its header, and then its picture.
-ghost use Rattle.std.specs.Prelude.{◌≡◌, ◌+◌, ◌<◌, ◌≤◌, length, take, IfSome};
+ghost use Rattle.std.specs.Prelude.{◌≡◌, ◌<◌, ◌≤◌, length, take, IfSome};
 ghost use Rattle.std.specs.Option.{option_copied};
 ghost use Rattle.cf_base.specs.Timing.{frames_in_day};
 ghost use Rattle.dpx_header.specs.Writing.{IsOutHead, header_of};
 ghost use Rattle.record_timeline.specs.Accepted.{frame_count};
-ghost use Rattle.conform_job.specs.Job.{ArePlanned, need_at};
+ghost use Rattle.conform_job.specs.Job.{ArePlanned};
 ghost use Rattle.scan_source.specs.World.{file_at};
-ghost use Rattle.frame_render.specs.Frame.{HasKeyOf, HasWords, IsDecoded, file_by, frame_size, out_head, timecode_of, words_kept};
+ghost use Rattle.frame_render.specs.Frame.{AreSidesOf, HasWords, IsDecoded, IsRenderedOf, file_by, frame_size, out_head, timecode_of, words_kept};
 
 use crate::picture::{render_bands, render_parts};
 use crate::{Decoded, FrameBuf, Rendered};
@@ -27,22 +27,13 @@ pub fn render<N: Work>(
     buf: FrameBuf,
 ) -> Rendered<N>
     requires job { job.now ≡ N.job }
-    requires index { i < frame_count N.job.parts.timeline.events }
-    requires old { HasKeyOf (need_at N.job i).old (option_copied old) }
-    requires new { HasKeyOf (need_at N.job i).new (option_copied new) }
+    requires sides { AreSidesOf N.job i (option_copied old) (option_copied new) }
     requires room { length buf ≡ frame_size N.job }
-    ensures index { result.index ≡ i }
-    ensures bytes { result.bytes ≡ file_by N.job i (words_kept (option_copied old.entry)) (words_kept (option_copied new.entry)) }
+    ensures frame { IsRenderedOf N.job i (option_copied old.entry) (option_copied new.entry) result }
 {
-    job.recall();
     let FrameBuf { mut bytes } = buf;
     render_file(job, i, words_of(old), words_of(new), &mut bytes);
-    Rendered {
-        index: i,
-        file: job.file_of(i),
-        bytes,
-        of: PhantomData,
-    }
+    record_frame(job, i, old, new, bytes)
 }
 
 /// The same file, whose lines are made in `threads` threads side by side, this one among them: in at most as many as the job
@@ -58,14 +49,10 @@ pub fn render_forked<N: Work, R: Threads + Sync>(
     threads: u32,
 ) -> Rendered<N>
     requires job { job.now ≡ N.job }
-    requires index { i < frame_count N.job.parts.timeline.events }
-    requires old { HasKeyOf (need_at N.job i).old (option_copied old) }
-    requires new { HasKeyOf (need_at N.job i).new (option_copied new) }
+    requires sides { AreSidesOf N.job i (option_copied old) (option_copied new) }
     requires room { length buf ≡ frame_size N.job }
-    ensures index { result.index ≡ i }
-    ensures bytes { result.bytes ≡ file_by N.job i (words_kept (option_copied old.entry)) (words_kept (option_copied new.entry)) }
+    ensures frame { IsRenderedOf N.job i (option_copied old.entry) (option_copied new.entry) result }
 {
-    job.recall();
     let FrameBuf { mut bytes } = buf;
     render_file_forked(
         rt,
@@ -76,6 +63,26 @@ pub fn render_forked<N: Work, R: Threads + Sync>(
         threads,
         &mut bytes,
     );
+    record_frame(job, i, old, new, bytes)
+}
+
+/// Record frame `i` of N's job, rendered from these source frames into these bytes.
+fn record_frame<N: Work>(
+    job: &Job,
+    i: u32,
+    old: Option<&Decoded<N>>,
+    new: Option<&Decoded<N>>,
+    bytes: Vec<u8>,
+) -> Rendered<N>
+    requires job { job.now ≡ N.job }
+    requires sides { AreSidesOf N.job i (option_copied old) (option_copied new) }
+    requires old { IfSome N.files (λ world. IsDecoded N.job (file_at world) (option_copied old)) }
+    requires new { IfSome N.files (λ world. IsDecoded N.job (file_at world) (option_copied new)) }
+    requires bytes { bytes.items ≡ file_by N.job i (words_kept (option_copied old)) (words_kept (option_copied new)) }
+    requires size { length bytes.items ≡ frame_size N.job }
+    ensures frame { IsRenderedOf N.job i (option_copied old.entry) (option_copied new.entry) result }
+{
+    job.recall();
     Rendered {
         index: i,
         file: job.file_of(i),

@@ -1,5 +1,5 @@
 //! The frames of a run, in order.
-ghost use Rattle.std.specs.Prelude.{◌≡◌, ◌+◌, ◌-◌, ◌<◌, ◌≤◌, ◌^◌, [], false, Ok, Err, length, slice_index_or, IfOk, IfErr, OnOk, OnErr};
+ghost use Rattle.std.specs.Prelude.{◌≡◌, ◌<◌, ◌≤◌, [], false, length, slice_index_or, IfOk, IfErr, OnOk, OnErr};
 ghost use Rattle.conform_job.specs.Answers.{AreInfosOf};
 ghost use Rattle.conform_job.specs.Job.{need_at};
 ghost use Rattle.conform_job.specs.Names.{Tells};
@@ -11,7 +11,7 @@ ghost use Rattle.frame_fetch.specs.Ends.{IsChange};
 ghost use Rattle.single_run.specs.Ends.{IsEnd, IsStop};
 ghost use Rattle.single_run.specs.Ran.{WereFinished};
 ghost use Rattle.single_run.specs.Run.{HasRunFrame, HasRunOver};
-ghost use Rattle.frame_fetch.specs.Scanned.{HasLoaded, IsScanned};
+ghost use Rattle.frame_fetch.specs.Scanned.{CanFetch, HasFetched, IsScanned};
 ghost use Rattle.frame_fetch.specs.Sharing.{HasAsked, HasTried};
 
 use conform_job::{Job, Work};
@@ -47,13 +47,9 @@ fn run_frame<N: Work, L: Ledger, S: Scans, D: Disk>(
     units: &mut Units<L>,
     loads: &mut u64,
 ) -> Result<FrameBuf, RunEnd>
-    requires job { job.now ≡ N.job }
-    requires files { Tells N.files (S.world scan.old) }
-    requires infos { AreInfosOf N.job.parts N.files N.job.infos }
+    requires ready { CanFetch N.job N.files job.now (S.world scan.old) 2 loads.old units.old }
     requires index { i < frames_of N.job }
     requires room { length room ≡ frame_size N.job }
-    requires closed { units.old.pending ≡ 0 }
-    requires few { loads.old + 2 < 2 ^ 64 }
     requires is_open { reel.old.ledger.closed ≡ false }
     requires size { length reel.old.ledger.gates ≡ frames_of N.job }
     requires reel { IsReelOf N.job D.tells D.history reel.old }
@@ -66,12 +62,7 @@ fn run_frame<N: Work, L: Ledger, S: Scans, D: Disk>(
 
     ensures asked { OnOk result (HasAsked share.old share.new (keys_of_need (need_at N.job i))) }
     ensures tried { OnErr result (HasTried share.old share.new (keys_of_need (need_at N.job i))) }
-    ensures closed { OnOk result (units.new.pending ≡ 0) }
-    ensures loads { HasLoaded 2 loads.old loads.new units.old units.new }
-    ensures changed { IfErr result (λ end. IsChange end → loads.old < loads.new) }
-    ensures scan { IsScanned S.world S.faults S.loads (loads.new - loads.old) (result
-        ≡ Err RunEnd.SourceFault) scan.old scan.new }
-    ensures same_scan { S.same scan.old scan.new }
+    ensures fetched { HasFetched S.world S.faults S.loads S.same 2 result loads.old loads.new units.old units.new scan.old scan.new }
 {
     let frame = match make_frame(alloc, job, scan, i, rooms, room, share, units, loads) {
         Ok(frame) => frame,

@@ -1,34 +1,27 @@
-use Rattle.std.proofs.Common.{◌-◌, refl, sym, ◌∙◌, ap, subst, arith}
-use Rattle.std.specs.Prelude.{Err}
+use Rattle.std.proofs.Common.{rules, sym, ◌∙◌, ap, subst}
 use Rattle.conform_job.specs.Job.{JobData, need_at}
 use Rattle.conform_job.specs.declared.need.Need.{Need}
 use Rattle.frame_fetch.proofs.Asking.{IsKnown, known_at}
-use Rattle.frame_fetch.proofs.Counting.{loaded_along, loaded_within, err_same}
-use Rattle.frame_fetch.proofs.Scanning.{scanned_along, scanned_as}
+use Rattle.frame_fetch.proofs.Shared.{fetched_both, fetched_first, fetched_second}
 use Rattle.crew_worker.proofs.sharing.make_shared.Goals as goal
 
 pub side_of-requires-clause-known : goal.side_of-requires-clause-known
 side_of-requires-clause-known g c =
-    subst (λ (n : Need). IsKnown g.N.Work.job.infos n.old) (sym (c.need-need.ensures.need ∙ ap (λ (j : JobData). need_at j c.args.i) c.requires.job)) (known_at g.N.Work.job c.args.i).0
+    subst (λ (n : Need). IsKnown g.N.Work.job.infos n.old) (sym (c.need-need.ensures.need ∙ ap (λ (j : JobData). need_at j c.args.i) c.requires.ready.named)) (known_at g.N.Work.job c.args.i).0
 
 pub side_of-requires-2-clause-known : goal.side_of-requires-2-clause-known
 side_of-requires-2-clause-known g c =
-    subst (λ (n : Need). IsKnown g.N.Work.job.infos n.new) (sym (c.need-need.ensures.need ∙ ap (λ (j : JobData). need_at j c.args.i) c.requires.job)) (known_at g.N.Work.job c.args.i).1
+    subst (λ (n : Need). IsKnown g.N.Work.job.infos n.new) (sym (c.need-need.ensures.need ∙ ap (λ (j : JobData). need_at j c.args.i) c.requires.ready.named)) (known_at g.N.Work.job c.args.i).1
 
-pub returns-in-Err-side_of-clause-scan : goal.returns-in-Err-side_of-clause-scan
-returns-in-Err-side_of-clause-scan g c =
-    let first = c.side_of.ensures.loads.later in
-    let second = c.side_of-2.ensures.loads.later in
-    scanned_along g.S.Scans.world g.S.Scans.faults g.S.Scans.loads c.args.scan.now c.side_of.new.scan c.side_of-2.new.scan (c.side_of.new.loads - c.args.loads.now) (c.side_of-2.new.loads - c.side_of.new.loads) (c.side_of-2.new.loads - c.args.loads.now) _ _
-    (omega (arith, first, second)) (λ same. cc) c.in-Ok.ensures.scan
-    (scanned_as g.S.Scans.world g.S.Scans.faults g.S.Scans.loads c.side_of.new.scan c.side_of-2.new.scan _ _ _ _ refl (λ is. ap Err (err_same _ _ is)) (λ is. ap Err (err_same _ _ is)) c.in-Err-side_of.ensures.scan)
+pub render_forked-frame-requires-clause-sides : goal.render_forked-frame-requires-clause-sides
+render_forked-frame-requires-clause-sides g c _ _ = record { index = c.requires.index; old_key = search rules; new_key = search rules }
 
 -- at most one load a side
-pub returns-in-Err-clause-loads : goal.returns-in-Err-clause-loads
-returns-in-Err-clause-loads g c = loaded_within 1 2 _ _ _ _ (omega arith) c.side_of.ensures.loads
+pub returns-in-Err-clause-fetched : goal.returns-in-Err-clause-fetched
+returns-in-Err-clause-fetched g c = fetched_first g.S.Scans.world g.S.Scans.faults g.S.Scans.loads g.S.Scans.same _ _ _ _ _ _ _ c.in-Err.ensures.fetched
 
-pub returns-in-Err-side_of-clause-loads : goal.returns-in-Err-side_of-clause-loads
-returns-in-Err-side_of-clause-loads g c = loaded_along 1 1 2 _ _ _ _ _ _ (omega arith) c.side_of.ensures.loads c.side_of-2.ensures.loads
+pub returns-in-Err-side_of-clause-fetched : goal.returns-in-Err-side_of-clause-fetched
+returns-in-Err-side_of-clause-fetched g c = fetched_second g.S.Scans.world g.S.Scans.faults g.S.Scans.loads g.S.Scans.same g.met.S.Scans.same_trans _ _ _ _ _ _ _ _ _ _ c.in-Ok.ensures.fetched _ c.in-Err-side_of.ensures.fetched
 
-pub returns-clause-loads : goal.returns-clause-loads
-returns-clause-loads g c = loaded_along 1 1 2 _ _ _ _ _ _ (omega arith) c.side_of.ensures.loads c.side_of-2.ensures.loads
+pub returns-clause-fetched : goal.returns-clause-fetched
+returns-clause-fetched g c = fetched_both g.S.Scans.world g.S.Scans.faults g.S.Scans.loads g.S.Scans.same g.met.S.Scans.same_trans _ _ _ _ _ _ _ _ _ _ c.in-Ok.ensures.fetched _ _ c.in-Ok-side_of.ensures.fetched

@@ -89,19 +89,19 @@ loop-i-preserved g c =
           ∙ ap (λ l. asks_of_frames g.N.Work.job (closed_frames c.args.reel.now.ledger.gates c.loop-i.i) ++ l) (asked.asks ∙ sym (asks_if_closed g.N.Work.job c.loop-i.reel.ledger.gates c.loop-i.i reel.fresh) ∙ ap (asks_of_frames g.N.Work.job) still) ∙ sym (asks_more g.N.Work.job c.args.reel.now.ledger.gates c.loop-i.i));
       paired = subst (IsPaired ⊥) (sym asked.steps) (paired_along ⊥ c.loop-i.share.steps asked.more inv.paired asked.paired);
       capacity = asked.room ∙ inv.capacity;
-      parts = step.loads.parts ∙ inv.parts;
-      closed = step.closed;
-      counted = let was = inv.counted in let now = step.loads.misses in omega (arith, was, now);
-      few = let was = inv.few in let two = step.loads.few in omega (arith, was, two);
+      parts = step.fetched.loaded.parts ∙ inv.parts;
+      closed = step.fetched.closed;
+      counted = let was = inv.counted in let now = step.fetched.loaded.misses in omega (arith, was, now);
+      few = let was = inv.few in let two = step.fetched.loaded.few in omega (arith, was, two);
       room = step.room;
       run = λ told. reel_run_along g.N.Work.job g.N.Work.files _ _ _ (inv.run told) (reel.run told) (reel.none_lost told);
       spares = λ told. spares_along _ _ _ (IsRunFile g.N.Work.job c.args.reel.now.ledger.gates) (inv.run told).extends (reel.run told).extends (inv.spares told)
           (spares_wider _ _ (IsRunFile g.N.Work.job c.loop-i.reel.ledger.gates) (IsRunFile g.N.Work.job c.args.reel.now.ledger.gates) (run_file_along c.args.reel.now c.loop-i.reel c.loop-i.i c.requires.none inv.past g.N.Work.job) (reel.spares told));
       faults = steady ∙ inv.faults;
       same_disk = reel.same ∙ inv.same_disk;
-      scan = scanned_along g.S.Scans.world g.S.Scans.faults g.S.Scans.loads _ _ _ c.loop-i.loads (c.run_frame.new.loads - c.loop-i.loads) c.run_frame.new.loads ⊥ ⊥ (let later = step.loads.later in omega (arith, later)) (λ never. never) inv.scan
-          (scanned_as g.S.Scans.world g.S.Scans.faults g.S.Scans.loads _ _ _ _ _ ⊥ refl (λ never. absurd never) (λ same. cc) step.scan);
-      same_scan = g.met.S.Scans.same_trans _ _ _ inv.same_scan step.same_scan;
+      scan = scanned_along g.S.Scans.world g.S.Scans.faults g.S.Scans.loads _ _ _ c.loop-i.loads (c.run_frame.new.loads - c.loop-i.loads) c.run_frame.new.loads ⊥ ⊥ (let later = step.fetched.loaded.later in omega (arith, later)) (λ never. never) inv.scan
+          (scanned_as g.S.Scans.world g.S.Scans.faults g.S.Scans.loads _ _ _ _ _ ⊥ refl (λ never. absurd never) (λ same. cc) step.fetched.scan);
+      same_scan = g.met.S.Scans.same_trans _ _ _ inv.same_scan step.fetched.lent;
     }
 
 -- no room for a frame
@@ -152,8 +152,8 @@ returns-in-Err-run_frame-clause-reel g c = record {
 
 pub returns-in-Err-run_frame-clause-scan : goal.returns-in-Err-run_frame-clause-scan
 returns-in-Err-run_frame-clause-scan g c =
-    scanned_along g.S.Scans.world g.S.Scans.faults g.S.Scans.loads _ _ _ c.loop-i.loads (c.run_frame.new.loads - c.loop-i.loads) c.run_frame.new.loads ⊥ _ (let later = c.run_frame.ensures.loads.later in omega (arith, later)) (λ never. never) c.loop-i.invariant.scan
-    (scanned_as g.S.Scans.world g.S.Scans.faults g.S.Scans.loads _ _ _ _ _ _ refl (λ is. ap Err is) (λ is. err_same _ _ is) c.in-Err-run_frame.ensures.scan)
+    scanned_along g.S.Scans.world g.S.Scans.faults g.S.Scans.loads _ _ _ c.loop-i.loads (c.run_frame.new.loads - c.loop-i.loads) c.run_frame.new.loads ⊥ _ (let later = c.run_frame.ensures.fetched.loaded.later in omega (arith, later)) (λ never. never) c.loop-i.invariant.scan
+    (scanned_as g.S.Scans.world g.S.Scans.faults g.S.Scans.loads _ _ _ _ _ _ refl (λ is. ap Err is) (λ is. err_same _ _ is) c.in-Err-run_frame.ensures.fetched.scan)
 
 -- every frame is finished
 pub returns-clause-reel : goal.returns-clause-reel

@@ -9,10 +9,10 @@ returns-in-Err-clause-stepped g c = stepped_itself g.N.Work.files g.S.Scans.worl
 pub returns-clause-stepped : goal.returns-clause-stepped
 returns-clause-stepped g c =
     stepped_made g.N.Work.files g.S.Scans.world g.S.Scans.faults g.S.Scans.loads g.S.Scans.same 2 c.args.seat.now _ c.make_shared-made.result c.is_source_fault-seat.result c.is_source_fault-seat.ensures (failed_alone _ _ c.requires.unfailed)
-    c.make_shared-made.ensures.loads c.make_shared-made.ensures.scan c.make_shared-made.ensures.same c.make_shared-made.ensures.changed c.deliver.ensures.marks
+    c.make_shared-made.ensures.fetched c.deliver.ensures.marks
 
 pub returns-clause-closed : goal.returns-clause-closed
-returns-clause-closed g c = on_ok_weaker c.deliver.result (λ both. of_ok c.make_shared-made.result _ both.1 c.make_shared-made.ensures.closed) c.deliver.ensures.goes_on
+returns-clause-closed g c = on_ok_weaker c.deliver.result (λ both. of_ok c.make_shared-made.result _ both.1 c.make_shared-made.ensures.fetched.closed) c.deliver.ensures.goes_on
 
 pub returns-clause-goes_on : goal.returns-clause-goes_on
 returns-clause-goes_on g c = on_ok_weaker c.deliver.result (λ both. (both.0, none_failed c.make_shared-made.result c.is_source_fault-seat.result c.is_source_fault-seat.ensures both.1)) c.deliver.ensures.goes_on
