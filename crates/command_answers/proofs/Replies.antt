@@ -1,9 +1,9 @@
 -- From a load to the reply of its command.
-use Rattle.std.proofs.Common.{◌≡◌, ◌≢◌, ℕ, ◌+◌, ◌-◌, ◌≤◌, min, List, ◌++◌, length, take, replicate, Option, None, Some, IfSome, refl, sym, subst, ap, ◌∙◌, arith, inl, inr}
+use Rattle.std.proofs.Common.{◌≡◌, ◌≢◌, ℕ, ◌+◌, ◌-◌, ◌≤◌, min, Global, List, ◌++◌, length, take, replicate, Option, None, Some, IfSome, refl, sym, subst, ap, ◌∙◌, arith, inl, inr}
 use Rattle.std.proofs.lemmas.Bool.{cases_lt}
 use Rattle.std.proofs.Math.Seq.{take-append_seam}
 use Rattle.std.proofs.lemmas.List.{take_all, length-append, length-replicate}
-use Rattle.std.specs.Prelude.{Result, Err}
+use Rattle.std.specs.Prelude.{MatchResult, Result, Ok, Err, Vec}
 use Rattle.cf_base.specs.Count.{HasRisen}
 use Rattle.cf_base.specs.declared.fail.Fail.{Fail}
 use Rattle.cf_base.specs.declared.fail.Fail.TheVariants.{Fault}
@@ -18,14 +18,16 @@ use Rattle.outcome_line.specs.declared.outcome.Which.{Which}
 use Rattle.outcome_line.specs.declared.outcome.Which.TheVariants as which
 use Rattle.command_answers.specs.Faults.{IfFault}
 use Rattle.outcome_line.specs.Output.{line_of}
+use Rattle.project_run.specs.Calls.{LeavesScanFor, Replies}
 use Rattle.project_run.specs.Run.{IsOfRun}
 use Rattle.project_adopt.specs.Adopt.{IsOfAdopt}
 use Rattle.project_run.specs.Look.{IsOfLook}
 use Rattle.project_run.specs.Verify.{IsOfVerify}
 use Rattle.command_answers.specs.ByFile.{ByFile, IsRightBy}
+use Rattle.command_answers.specs.ByJob.{AreJobHeads}
 use Rattle.command_answers.specs.Commands.{meaning_of}
 use Rattle.command_answers.specs.Reply.{CallsDisk, IsKindOf, IsReplyOverScan}
-use Rattle.command_answers.specs.States.{ScanState}
+use Rattle.command_answers.specs.States.{OnScan, ScanState}
 use Rattle.command_words.specs.declared.command.Command.{Command}
 use Rattle.command_words.specs.declared.command.Command.TheVariants as commands
 use Rattle.outcome_line.specs.declared.outcome.Outcome.{Outcome}
@@ -253,3 +255,18 @@ heads_instead (commands.Sheet path) before after reached heads = λ refusal same
 heads_instead (commands.Adopt path old_path) before after reached heads = λ refusal same. absurd (cc)
 heads_instead (commands.Pull path margin) before after reached heads = λ refusal same. absurd (cc)
 heads_instead (commands.Demo count) before after reached heads = heads
+
+-- What was left of the scan is what a command of a project means: of one that is right by a folder, and what it loaded is said there.
+module _ {S : Type 0} (kind : Command) (path : List ℕ) {Kind : Outcome → Type 0} (world : S → Option World) (faults loads heads : S → ℕ) (same : S → S → Type 0) (scan scan_after : S)
+    (kinds : (reached : Outcome) → Kind reached → IsKindOf kind reached)
+    (right : (reached : Outcome) (output : List ℕ) → OnScan world faults loads heads scan scan_after ((meaning_of kind).IsRight reached output))
+    (loaded : (reached : Outcome) → OnScan world faults loads heads scan scan_after (meaning_of kind).HasLoaded reached)
+    (looks : (reached : Outcome) → OnScan world faults loads heads scan scan_after (AreJobHeads path) reached → OnScan world faults loads heads scan scan_after (meaning_of kind).LooksAtHeads reached) where
+  pub replied_over : (result : Result (Vec ℕ Global) Outcome) → MatchResult result (λ text. Unit {0}) Kind → LeavesScanFor world faults heads same path result scan scan_after
+      → Replies result (OnScan world faults loads heads scan scan_after (IsReplyOverScan kind))
+  replied_over (Ok text) is left =
+      reply_of _ _ _ _ _ tt (right Done text.items) (λ not_done. absurd (not_done refl)) (λ is_fault. absurd (cc)) (λ other. left.lent.counts.steady (λ is_fault. cc)) left.lent.counts.cause.later (loaded Done)
+      (looks Done (λ refusal is_refused. absurd (cc))) left.lent.told
+  replied_over (Err reached) is left =
+      reply_of _ _ _ _ _ (kinds reached is) (right reached (line_of reached)) (λ not_done. refl) (λ is_fault. left.lent.counts.cause.failed (error_of _ _ is_fault))
+      (λ other. left.lent.counts.steady (λ is_fault. other (outcome_of _ _ is_fault))) left.lent.counts.cause.later (loaded reached) (looks reached left.refused_heads) left.lent.told

@@ -1,7 +1,7 @@
--- From the reply of a command over the scan to its whole reply. Of one that makes no call on a folder both folders are as they
--- were; what an adoption did to both is said by it.
+-- From what a command came to over the scan to its whole reply. Of one that makes no call on a folder both folders are as they
+-- were; what an adoption did to both is said by it, and so is what another command did to the folder of the reel.
 use Rattle.std.proofs.Common.{◌≡◌, ℕ, Bool, List, Vec, Global, refl, sym, subst, arith}
-use Rattle.std.specs.Prelude.{Option, Result, Ok, Err}
+use Rattle.std.specs.Prelude.{MatchResult, Option, Result, Ok, Err}
 use Rattle.scan_source.specs.World.{World}
 use Rattle.reel_disk.specs.Disk.{History}
 use Rattle.reel_disk.specs.Loan.{Loan}
@@ -12,11 +12,13 @@ use Rattle.command_words.specs.declared.command.Command.TheVariants as commands
 use Rattle.outcome_line.specs.Output.{line_of}
 use Rattle.outcome_line.specs.declared.outcome.Outcome.{Outcome}
 use Rattle.outcome_line.specs.declared.outcome.Outcome.TheVariants as outcomes
-use Rattle.project_run.specs.Calls.{OverScan, Replies}
+use Rattle.project_run.specs.Calls.{DiskState, LeavesDiskFor, LeavesScanFor, OnDisk, OverScan, Replies}
+use Rattle.command_answers.specs.ByFolder.{reel_meaning}
 use Rattle.command_answers.specs.Commands.{meaning_of}
+use Rattle.command_answers.specs.Meaning.{Calls, Meaning}
 use Rattle.command_answers.specs.Reply.{IsKindOf, IsReplyOverScan, IsReplyOverFolders}
-use Rattle.command_answers.specs.States.{Folders, House, OnFolders, OnScan, ScanState}
-use Rattle.command_answers.proofs.Replies.{error_of, outcome_of}
+use Rattle.command_answers.specs.States.{Folders, House, OnFolders, OnScan, ScanState, folders_of, scan_state}
+use Rattle.command_answers.proofs.Replies.{error_of, outcome_of, replied_over}
 
 module _ (house : House) (kind : Command) (scan scan_after : ScanState) (folders : Folders) (no_disk : IsKindOf kind outcomes.DiskFault → ⊥)
     (leaves : (reached : Outcome) (output : List ℕ) → (meaning_of kind).UsesDisk house scan scan_after folders folders reached output) where
@@ -87,3 +89,57 @@ module _ {S D : Type 0} (house : House) (command : Command) (path old_path : Lis
       → Replies result (OnFolders tells history faults disk old disk_after old_after (OnScan world scan_faults loads heads scan scan_after (IsReplyOverFolders house command)))
   adopt_replied result same reply made leaves =
       subst (λ c. Replies result (OnFolders tells history faults disk old disk_after old_after (OnScan world scan_faults loads heads scan scan_after (IsReplyOverFolders house c)))) (sym same) (adopted result reply made leaves)
+
+-- A command that makes calls on the folder of the reel alone. What it made of that and of the scan is what the command means.
+module _ {S D : Type 0} (house : House) (kind : Command) (path : List ℕ) (calls : Calls) (Uses : House → Option World → (loads loads_after : ℕ) → (disk disk_after : DiskState) → Outcome → List ℕ → Type 0)
+    (IsDone : Outcome → Type 0) (means : meaning_of kind ≡ reel_meaning path calls Uses IsDone) {Kind : Outcome → Type 0} (kinds : (reached : Outcome) → Kind reached → IsKindOf kind reached)
+    (world : S → Option World) (scan_faults loads heads : S → ℕ) (same : S → S → Type 0) (scan scan_after : S)
+    (tells : Bool) (history : D → History) (faults : D → ℕ) (loans : D → List Loan) (disk disk_after old : D) where
+  abbrev before : ScanState
+  before = scan_state world scan_faults loads heads scan
+
+  abbrev after : ScanState
+  after = scan_state world scan_faults loads heads scan_after
+
+  abbrev folders : Folders
+  folders = folders_of tells history faults disk old
+
+  abbrev folders_after : Folders
+  folders_after = folders_of tells history faults disk_after old
+
+  as_meant : (P : Meaning → Type 0) → P (reel_meaning path calls Uses IsDone) → P (meaning_of kind)
+  as_meant P holds = subst P (sym means) holds
+
+  over_scan : (result : Result (Vec ℕ Global) Outcome) → MatchResult result (λ text. Unit {0}) Kind → LeavesScanFor world scan_faults heads same path result scan scan_after
+      → Replies result (IsReplyOverScan kind before after)
+  over_scan = replied_over kind path world scan_faults loads heads same scan scan_after kinds (λ reached output. as_meant (λ m. m.IsRight reached output before after) tt) (λ reached. as_meant (λ m. m.HasLoaded before after reached) tt)
+      (λ reached asked. as_meant (λ m. m.LooksAtHeads before after reached) asked)
+
+  on_reel : (result : Result (Vec ℕ Global) Outcome) → Replies result (OnDisk tells history faults disk disk_after (OverScan world loads scan scan_after (Uses house)))
+      → LeavesDiskFor faults loans result disk disk_after → Replies result (IsReplyOverScan kind before after) → Replies result (IsReplyOverFolders house kind before after folders folders_after)
+  on_reel (Ok text) made leaves reply = record {
+    reply = reply;
+    folder = as_meant (λ m. m.UsesDisk house before after folders folders_after outcomes.Done text.items) made;
+    old_folder = λ none. refl;
+    disk_fault = λ is. absurd (cc);
+    disk_steady = λ other. leaves.lent.counts.steady (λ is. cc);
+    old_steady = λ other. refl;
+    disk_later = leaves.lent.counts.cause.later;
+    old_later = omega arith;
+  }
+  on_reel (Err reached) made leaves reply = record {
+    reply = reply;
+    folder = as_meant (λ m. m.UsesDisk house before after folders folders_after reached (line_of reached)) made;
+    old_folder = λ none. refl;
+    disk_fault = λ is. as_meant (λ m. m.HasFailedDisk folders folders_after) (leaves.lent.counts.cause.failed (error_of _ _ is));
+    disk_steady = λ other. leaves.lent.counts.steady (λ is. other (outcome_of _ _ is));
+    old_steady = λ other. refl;
+    disk_later = leaves.lent.counts.cause.later;
+    old_later = omega arith;
+  }
+
+  pub reel_replied : (command : Command) (result : Result (Vec ℕ Global) Outcome) → command ≡ kind → Replies result (OnDisk tells history faults disk disk_after (OverScan world loads scan scan_after (Uses house)))
+      → MatchResult result (λ text. Unit {0}) Kind → LeavesScanFor world scan_faults heads same path result scan scan_after → LeavesDiskFor faults loans result disk disk_after
+      → Replies result (IsReplyOverFolders house command before after folders folders_after)
+  reel_replied command result is made kind_is scanned left =
+      subst (λ c. Replies result (IsReplyOverFolders house c before after folders folders_after)) (sym is) (on_reel result made left (over_scan result kind_is scanned))

@@ -2,7 +2,8 @@
 --     IsJobReply IsForm files path      what is put of the job that the project comes to, or the refusal in its place
 --     IsJobLoaded, AreJobHeads      what was loaded and looked at for it
 --     HasJob world path      the project comes to a job
-use Rattle.std.specs.Prelude.{ℕ, List, [], length, Ok, Err}
+--     printed_meaning      what a command means that puts a text of the job
+use Rattle.std.specs.Prelude.{ℕ, List, [], length, IfSome, Ok, Err}
 use Rattle.cf_base.specs.declared.key.Key.{Key}
 use Rattle.dpx_header.specs.declared.info.FrameInfo.{FrameInfo}
 use Rattle.scan_source.specs.World.{World, file_at}
@@ -16,6 +17,7 @@ use Rattle.project_job.specs.Asked.{HasInspectedFor, HasLoadedFor}
 use Rattle.project_job.specs.Jobs.{AreLoaded, ComesTo}
 use Rattle.outcome_line.specs.declared.outcome.Outcome.{Outcome}
 use Rattle.outcome_line.specs.declared.outcome.Outcome.TheVariants.{Done, Refused as IsRefused, SourceFault, NoMemory}
+use Rattle.command_answers.specs.Meaning.{HasReelFailed, IsThrough, LeavesReel, Meaning, no_calls}
 use Rattle.command_answers.specs.States.{ScanState}
 
 -- Each source frame that the job needs was inspected once: the infos have one entry for each needed key.
@@ -51,3 +53,16 @@ AreJobHeads path before after reached = HasInspectedFor before.world path before
 -- the project comes to a job
 abbrev pub HasJob : World → List ℕ → Type 0
 HasJob world path = (job : JobData) × ComesTo (file_at world) path (Ok job.parts)
+
+-- It puts a text of the job's parts, and makes no call on a folder.
+abbrev pub printed_meaning : List ℕ → (JobParts → List ℕ → Type 0) → Meaning
+printed_meaning path IsForm = record {
+  IsRight = λ reached output before after. IfSome before.world (λ world. IsJobReply IsForm (file_at world) path reached output before after);
+  HasLoaded = IsJobLoaded path;
+  LooksAtHeads = AreJobHeads path;
+  calls = no_calls;
+  UsesDisk = LeavesReel;
+  HasFailedDisk = HasReelFailed;
+  IsAccepted = λ world folders. HasJob world path;
+  IsComplete = IsThrough;
+}

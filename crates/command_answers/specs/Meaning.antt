@@ -1,6 +1,6 @@
 -- What a command means: the facts that are stated of each command in one place, in `specs/Commands`.
 --     Meaning      these facts
---     Calls, no_calls      the calls that a command makes
+--     Calls, no_calls, reel_calls      the calls that a command makes: none, those on the folder of the reel alone
 --     Makes      the fact that it makes them
 --     IsThrough outcome      the command was done, or memory ran out
 --     LeavesReel, HasReelFailed      what a command did to the folder of the reel
@@ -24,6 +24,9 @@ pub record Calls : Type 0 where
 
 abbrev pub no_calls : Calls
 no_calls = record { on_reel = false; on_old = false; loads_frames = false; checks_frames = false }
+
+abbrev pub reel_calls : Calls
+reel_calls = record no_calls { on_reel = true }
 
 abbrev pub Makes : Bool → Type 0
 Makes true = Unit {0}

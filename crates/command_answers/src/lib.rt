@@ -10,16 +10,10 @@
 //! What each command means is one record of `specs/Commands`, and `specs/Commands.antt` has a row for each.
 #![tactic(auto)]
 
-mod adoption;
-mod contact;
 mod frame;
 mod list;
 mod one_thread;
 mod plan;
 mod pull;
-mod quality;
-mod run;
-mod status;
-mod verify;
 
 pub use one_thread::{answer, answer_found, put_line, put_result};

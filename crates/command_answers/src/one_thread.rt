@@ -10,21 +10,17 @@ ghost use Rattle.command_words.specs.Commands.{HasCounts, IsNoCommand, Spells};
 ghost use Rattle.project_run.specs.Calls.{IsLeftAlone, Replies};
 ghost use Rattle.command_words.specs.Lines.{texts_of};
 
-use crate::adoption::adopt;
-use crate::contact::sheet;
 use crate::frame::frame;
 use crate::list::list;
 use crate::plan::plan;
 use crate::pull::pull;
-use crate::quality::qc;
-use crate::run::run;
-use crate::status::status;
-use crate::verify::verify;
 use cf_base::{Put, Sink};
 use command_words::{Command, command_of};
 use demo_run::demo;
 use outcome_line::{Outcome, made_line, plain_line};
+use project_adopt::adopt;
 use project_job::job_laws;
+use project_run::{qc, run, sheet, status, verify};
 use reel_disk::Disk;
 use reel_qc::{Counter, OneThread, Probe, Tone};
 use scan_source::Scans;
@@ -82,7 +78,7 @@ pub fn answer<S: Scans, D: Disk, K: Sink>(
     let Ok(found) = command_of(alloc, words) else {
         return put_line(alloc, &Outcome::NoMemory, out);
     };
-    answer_found(alloc, &OneThread, found, scan, disk, old, out, probes, tone)
+    answer_found(alloc, &OneThread, found, scan, disk, old, probes, tone, out)
 }
 
 /// Does the command that was found in some words, on one thread but for the counts, and puts its output or its line.
@@ -93,9 +89,9 @@ pub fn answer_found<S: Scans, D: Disk, K: Sink, C: Counter>(
     scan: &mut S,
     disk: &mut D,
     old: &mut D,
-    out: &mut K,
     probes: &[Probe],
     tone: &Tone,
+    out: &mut K,
 ) -> Outcome
     requires ready { C.ready }
     requires counts { IfSome found HasCounts }
@@ -122,7 +118,8 @@ pub fn answer_found<S: Scans, D: Disk, K: Sink, C: Counter>(
     }
 }
 
-/// The output of a command, or the outcome that was reached in its place.
+/// The output of a command, or the outcome that was reached in its place. A run is on one thread, however many workers the
+/// command has.
 fn carried_out<S: Scans, D: Disk, C: Counter>(
     alloc: Global,
     counter: &C,
@@ -150,11 +147,7 @@ fn carried_out<S: Scans, D: Disk, C: Counter>(
         Command::Frame(path) => frame(alloc, path, scan),
         Command::List(path, rate) => list(alloc, path, *rate, scan),
         Command::Plan(path) => plan(alloc, path, scan),
-        Command::Run {
-            project,
-            workers,
-            share,
-        } => run(alloc, project, *workers, *share, scan, disk),
+        Command::Run { project, share, .. } => run(alloc, project, *share, scan, disk),
         Command::Status(project) => status(alloc, project, scan, disk),
         Command::Verify(project) => verify(alloc, project, scan, disk),
         Command::Qc(project) => qc(alloc, counter, project, scan, disk, probes),

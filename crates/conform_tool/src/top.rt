@@ -244,9 +244,9 @@ fn by_one<S: Scans, D: Disk, K: Sink, C: Counter>(
         &mut scans[0],
         &mut disk,
         old,
-        out,
         probes,
         tone,
+        out,
     );
     Ended {
         outcome,

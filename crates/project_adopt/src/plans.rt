@@ -1,9 +1,8 @@
 //! From the paths of two projects to their jobs.
 ghost use Rattle.std.specs.Prelude.{◌≡◌, Err, IfErr, MatchResult};
 ghost use Rattle.conform_job.specs.Answers.{AreInfosOf};
-ghost use Rattle.project_job.specs.Asked.{HasInspectedFor};
 ghost use Rattle.scan_source.specs.Leaves.{LeavesScan};
-ghost use Rattle.project_run.specs.Calls.{IsLeftAlone, Replies, OverScan};
+ghost use Rattle.project_run.specs.Calls.{IsLeftAlone, LeavesScanFor, Replies, OverScan};
 ghost use Rattle.reconform.specs.Adopt.{LeavesDisks};
 ghost use Rattle.project_adopt.specs.Adopt.{GoesOn, IsAdoptReply, IsJobOver, IsOfAdopt, OnDisks};
 
@@ -38,9 +37,7 @@ pub fn adopt<S: Scans, D: Disk>(
         (OverScan S.world S.loads scan.old scan.new (IsAdoptReply path.now old_path.now))) }
     ensures kind { MatchResult result (λ text. Unit {0}) IsOfAdopt }
 
-    ensures scan { LeavesScan S.world S.faults S.same (result ≡ Err Outcome.SourceFault) scan.old scan.new }
-    ensures refused_heads { IfErr result (HasInspectedFor (S.world scan.old) path.now (S.heads scan.old) (S.heads scan.new)) }
-
+    ensures scan { LeavesScanFor S.world S.faults S.heads S.same path.now result scan.old scan.new }
     ensures disks { LeavesDisks D.faults D.loans (result ≡ Err Outcome.DiskFault) old.old old.new disk.old disk.new }
     ensures untouched { IfErr result (IsLeftAlone disk.old disk.new) }
     ensures old_untouched { IfErr result (IsLeftAlone old.old old.new) }

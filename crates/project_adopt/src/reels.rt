@@ -3,7 +3,8 @@ ghost use Rattle.std.specs.Prelude.{◌≡◌, true, None, Err, IfSome, MatchRes
 ghost use Rattle.conform_job.specs.Answers.{AreInfosOf};
 ghost use Rattle.conform_job.specs.Names.{Tells};
 ghost use Rattle.scan_source.specs.Leaves.{LeavesScan};
-ghost use Rattle.project_run.specs.Calls.{LeavesDisk, OnDisk, Replies, OverScan};
+ghost use Rattle.project_run.specs.Calls.{OnDisk, Replies, OverScan};
+ghost use Rattle.reel_writer.specs.Leaves.{LeavesDisk};
 ghost use Rattle.project_run.specs.Run.{IsOfRun};
 ghost use Rattle.reconform.specs.Adopt.{CanServe, LeavesDisks};
 ghost use Rattle.reel_disk.specs.Disk.{view_of};
@@ -49,7 +50,7 @@ pub(crate) fn adopt_jobs<S: Scans, D: Disk>(
 
     ensures disks { LeavesDisks D.faults D.loans (result ≡ Err Outcome.DiskFault) old.old old.new disk.old disk.new }
 {
-    adopt_and_run::<Brand, Brand, S, D>(alloc, job, old_job, scan, disk, old)
+    adopt_and_run::<Brand, Brand, S, D>(alloc, job, old_job, scan, old, disk)
 }
 
 /// The same under names of both jobs.
@@ -58,8 +59,8 @@ fn adopt_and_run<N: Work, O: Work, S: Scans, D: Disk>(
     job: &Job,
     old_job: &Job,
     scan: &mut S,
-    disk: &mut D,
     old: &mut D,
+    disk: &mut D,
 ) -> Result<Vec<u8>, Outcome>
     requires job { job.now ≡ N.job }
     requires old_job { old_job.now ≡ O.job }

@@ -1,9 +1,12 @@
 -- Where a project is refused, its job wasn't run or looked at.
-use Rattle.std.proofs.Common.{◌≡◌, ℕ, List, Option, Result, Ok, Err, IfErr, MatchResult, sym, subst, inl, inr}
+use Rattle.std.proofs.Common.{◌≡◌, ◌≢◌, ℕ, List, Vec, Global, Option, Result, Ok, Err, IfErr, MatchResult, refl, sym, subst, arith, inl, inr}
 use Rattle.std.specs.Prelude.{◌⊎◌}
 use Rattle.cf_base.specs.declared.reel.ReelEntry.{ReelEntry}
+use Rattle.scan_source.specs.Leaves.{LeavesScan}
 use Rattle.scan_source.specs.World.{World}
+use Rattle.scan_source.proofs.Leaving.{leaves_as, leaves_done}
 use Rattle.conform_job.specs.Job.{JobData}
+use Rattle.reel_disk.specs.Loan.{Loan}
 use Rattle.resume_ledger.specs.Look.{ViewState}
 use Rattle.resume_ledger.specs.declared.attach.OpenFault.{OpenFault}
 use Rattle.resume_ledger.specs.declared.attach.OpenFault.TheVariants as faults
@@ -15,9 +18,11 @@ use Rattle.frame_fetch.specs.declared.run_end.RunEnd.TheVariants as ends
 use Rattle.outcome_line.specs.declared.outcome.Outcome.{Outcome}
 use Rattle.outcome_line.specs.declared.outcome.Outcome.TheVariants as outcomes
 use Rattle.project_job.specs.Asked.{HasInspectedFor}
+use Rattle.project_job.specs.Jobs.{IsOfJob}
 use Rattle.project_run.specs.Look.{HasFound, IsBehindLook, outcome_of_fault}
 use Rattle.project_run.specs.Quality.{IsTabled}
-use Rattle.project_run.specs.Calls.{DiskState, IsLeftAlone, IsRefusal}
+use Rattle.project_run.specs.Calls.{DiskState, IsLeftAlone, IsRefusal, LeavesDiskFor, LeavesScanFor}
+use Rattle.reel_writer.specs.Leaves.{LeavesDisk}
 use Rattle.project_run.specs.Run.{IsJobRun, outcome_of_end}
 use Rattle.project_run.specs.Sheet.{HasSheet}
 use Rattle.project_run.specs.Status.{IsStatus, outcome_of_peek}
@@ -113,3 +118,41 @@ pub asked_by : {A : Type 0} (r : Result A Outcome) (P : A → Type 0) (Q : Outco
     → ((reached : Outcome) → Q reached → IsRefusal reached → ⊥) → IfErr r (HasInspectedFor told path before after)
 asked_by (Ok a) P Q told path before after is none = tt
 asked_by (Err reached) P Q told path before after is none = λ refusal same. absurd (none reached is (subst IsRefusal (sym same) tt))
+
+-- ---- what is left of the scan and of the disk
+
+module _ {S : Type 0} (world : S → Option World) (faults heads : S → ℕ) (same : S → S → Type 0) (path : List ℕ) (before after : S) where
+  pub scan_left : (result : Result (Vec ℕ Global) Outcome) (P : Vec ℕ Global → Type 0) (Q : Outcome → Type 0)
+      → LeavesScan world faults same (result ≡ Err outcomes.SourceFault) before after
+      → MatchResult result P Q → ((reached : Outcome) → Q reached → IsRefusal reached → ⊥) → LeavesScanFor world faults heads same path result before after
+  scan_left result P Q lent is none = record { lent = lent; refused_heads = asked_by result P Q (world before) path (heads before) (heads after) is none }
+
+  -- a look at the folder behind the plan makes no call on the scan
+  pub scan_looked : {J : Type 0} (job : J) (result : Result (Vec ℕ Global) Outcome) (P : Vec ℕ Global → Type 0) (Q : Outcome → Type 0)
+      → LeavesScan world faults same (◌≡◌ {A = Result J Outcome} (Ok job) (Err outcomes.SourceFault)) before after → result ≢ Err outcomes.SourceFault
+      → MatchResult result P Q → ((reached : Outcome) → Q reached → IsRefusal reached → ⊥) → LeavesScanFor world faults heads same path result before after
+  scan_looked job result P Q planned never is none = scan_left result P Q (leaves_done world faults same before after (λ is. cc) never planned) is none
+
+  -- no job was planned
+  pub scan_unplanned : {J : Type 0} (reached : Outcome) → LeavesScan world faults same (◌≡◌ {A = Result J Outcome} (Err reached) (Err outcomes.SourceFault)) before after
+      → HasInspectedFor (world before) path (heads before) (heads after) reached → LeavesScanFor world faults heads same path (Err reached) before after
+  scan_unplanned reached planned asked = record { lent = leaves_as world faults same before after (λ is. cc) (λ is. cc) planned; refused_heads = asked }
+
+module _ {D : Type 0} (faults : D → ℕ) (loans : D → List Loan) where
+  pub disk_left : (result : Result (Vec ℕ Global) Outcome) (P : Vec ℕ Global → Type 0) (Q : Outcome → Type 0) (before after : D)
+      → LeavesDisk faults loans (result ≡ Err outcomes.DiskFault) before after
+      → MatchResult result P Q → ((reached : Outcome) → Q reached → IsRefusal reached → ⊥) → LeavesDiskFor faults loans result before after
+  disk_left result P Q before after lent is none = record { lent = lent; untouched = left_by result P Q before after is none }
+
+  -- no job was planned, and no call was made
+  pub disk_unplanned : (reached : Outcome) (disk : D) → IsOfJob reached → LeavesDiskFor faults loans (Err reached) disk disk
+  disk_unplanned reached disk kind = record {
+    lent = record {
+      counts = record {
+        cause = record { later = omega arith; failed = λ is. absurd (let same : reached ≡ outcomes.DiskFault = cc in subst IsOfJob same kind) };
+        steady = λ none. refl;
+      };
+      lent = refl;
+    };
+    untouched = λ refused. refl;
+  }

@@ -12,9 +12,10 @@ use Rattle.single_run.specs.Run.{WasOpened, WasUnopened, IsWhyUnopened}
 use Rattle.single_run.specs.declared.report.Report.{Report}
 use Rattle.frame_fetch.specs.declared.run_end.RunEnd.{RunEnd}
 use Rattle.frame_fetch.specs.declared.run_end.RunEnd.TheVariants as ends
-use Rattle.project_job.specs.Jobs.{HasPlanned, IsOfJob, cube_count}
+use Rattle.project_job.specs.Asked.{HasLoadedFor}
+use Rattle.project_job.specs.Jobs.{AreLoaded, HasPlanned, IsOfJob, cube_count}
 use Rattle.project_run.specs.Calls.{DiskState}
-use Rattle.project_run.specs.Run.{IsKnown, IsOfRun, IsJobRun, IsRunReply}
+use Rattle.project_run.specs.Run.{IsKnown, IsOfRun, IsJobRun, IsRunReply, IsUnplanned}
 use Rattle.project_run.specs.Look.{IsLookReply, IsOfLook}
 use Rattle.project_run.specs.Verify.{IsOfVerify}
 use Rattle.outcome_line.specs.declared.outcome.Outcome.{Outcome}
@@ -116,3 +117,8 @@ looked_in Looked job told path disk disk_after loads loads_after reached comes t
   texts = texts;
   looked = looked;
 })
+
+-- no job was planned, and the folder is as it was
+pub unplanned : (told : Option World) (path : List ℕ) (disk : DiskState) (loads loads_after : ℕ) (reached : Outcome) → IfSome told (λ world. HasPlanned (file_at world) path (Err reached))
+    → IsOfJob reached → AreLoaded 1 3 loads loads_after → HasLoadedFor told path loads loads_after reached → IsUnplanned told path disk disk loads loads_after reached
+unplanned told path disk loads loads_after reached why kind texts refused = record { why = why; kind = kind; untouched = refl; texts = texts; refused = refused }

@@ -3,17 +3,19 @@
 --     Replies result IsReply      what it came to is such a reply
 --     DiskState, disk_state      what a disk tells at a moment, and its count of faults
 --     OnDisk, OverScan      what it made of a disk, and over which scan
---     LeavesDisk      what it leaves of a disk, whatever it comes to, as `LeavesScan` says it of a scan
 --     IsLeftAlone before after reached      where a project is refused, it left this alone
-use Rattle.std.specs.Prelude.{◌≡◌, ℕ, Bool, List, Option, Result, MatchResult, Vec}
+--     LeavesScanFor, LeavesDiskFor      what a command of a project leaves of the scan and of the disk
+use Rattle.std.specs.Prelude.{◌≡◌, ℕ, Bool, List, Option, Result, Err, IfErr, MatchResult, Vec}
 use Rattle.std.specs.declared.alloc.Global.{Global}
 use Rattle.reel_disk.specs.Disk.{History}
 use Rattle.reel_disk.specs.Loan.{Loan}
-use Rattle.scan_source.specs.Leaves.{CountsFaults}
+use Rattle.reel_writer.specs.Leaves.{LeavesDisk}
+use Rattle.scan_source.specs.Leaves.{LeavesScan}
 use Rattle.scan_source.specs.World.{World}
 use Rattle.outcome_line.specs.Output.{line_of}
 use Rattle.outcome_line.specs.declared.outcome.Outcome.{Outcome}
 use Rattle.outcome_line.specs.declared.outcome.Outcome.TheVariants as outcome
+use Rattle.project_job.specs.Asked.{HasInspectedFor}
 
 -- what it came to: its output, or an outcome with its line
 abbrev pub Replies : Result (Vec ℕ Global) Outcome → (Outcome → List ℕ → Type 0) → Type 0
@@ -36,11 +38,6 @@ OnDisk tells history faults before after Made = Made (disk_state tells history f
 abbrev pub OverScan : {S : Type 0} {A : Type 1} → (S → Option World) → (S → ℕ) → (before after : S) → (Option World → ℕ → ℕ → A) → A
 OverScan world loads before after Made = Made (world before) (loads before) (loads after)
 
--- The disk is lent as it was.
-pub record LeavesDisk {D : Type 0} (faults : D → ℕ) (loans : D → List Loan) (Failed : Type 0) (before after : D) : Type 0 where
-  pub counts : CountsFaults Failed (faults before) (faults after)
-  pub lent : loans after ≡ loans before
-
 -- a project is refused, the new one or an old one
 abbrev pub IsRefusal : Outcome → Type 0
 IsRefusal (outcome.Refused refusal) = Unit {0}
@@ -50,3 +47,12 @@ IsRefusal other = ⊥
 -- no call is made on what is left alone where a project is refused
 abbrev pub IsLeftAlone : {A : Type 0} → A → A → Outcome → Type 0
 IsLeftAlone before after reached = IsRefusal reached → after ≡ before
+
+-- Of a refused project no more heads were asked for than its refusal determines.
+pub record LeavesScanFor {S : Type 0} (world : S → Option World) (faults heads : S → ℕ) (same : S → S → Type 0) (path : List ℕ) (result : Result (Vec ℕ Global) Outcome) (before after : S) : Type 0 where
+  pub lent : LeavesScan world faults same (result ≡ Err outcome.SourceFault) before after
+  pub refused_heads : IfErr result (HasInspectedFor (world before) path (heads before) (heads after))
+
+pub record LeavesDiskFor {D : Type 0} (faults : D → ℕ) (loans : D → List Loan) (result : Result (Vec ℕ Global) Outcome) (before after : D) : Type 0 where
+  pub lent : LeavesDisk faults loans (result ≡ Err outcome.DiskFault) before after
+  pub untouched : IfErr result (IsLeftAlone before after)

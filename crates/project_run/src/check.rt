@@ -1,11 +1,10 @@
 //! The command `verify`.
-ghost use Rattle.std.specs.Prelude.{◌≡◌, ◌≢◌, true, length, Ok, Err, IfErr, IfOk, MatchResult};
+ghost use Rattle.std.specs.Prelude.{◌≡◌, ◌≢◌, true, length, Err, IfOk, MatchResult};
 ghost use Rattle.reel_disk.specs.Disk.{view_of, IsStill};
 ghost use Rattle.reel_writer.specs.Reel.{frames_of};
 ghost use Rattle.resume_ledger.specs.Look.{IsViewOf};
-ghost use Rattle.project_job.specs.Asked.{HasInspectedFor};
-ghost use Rattle.scan_source.specs.Leaves.{LeavesScan};
-ghost use Rattle.project_run.specs.Calls.{IsLeftAlone, LeavesDisk, OnDisk, Replies, OverScan};
+ghost use Rattle.project_run.specs.Calls.{LeavesDiskFor, LeavesScanFor, OnDisk, Replies, OverScan};
+ghost use Rattle.reel_writer.specs.Leaves.{LeavesDisk};
 ghost use Rattle.project_run.specs.Verify.{IsChecked, IsOfVerify, IsVerified, IsVerifyReply, outcome_of_check, verify_text};
 
 use crate::progress::outcome_of_fault;
@@ -37,11 +36,8 @@ pub fn verify<S: Scans, D: Disk>(
         (OverScan S.world S.loads scan.old scan.new (IsVerifyReply path.now))) }
     ensures kind { MatchResult result (λ text. Unit {0}) IsOfVerify }
 
-    ensures scan { LeavesScan S.world S.faults S.same (result ≡ Err Outcome.SourceFault) scan.old scan.new }
-    ensures refused_heads { IfErr result (HasInspectedFor (S.world scan.old) path.now (S.heads scan.old) (S.heads scan.new)) }
-
-    ensures disk { LeavesDisk D.faults D.loans (result ≡ Err Outcome.DiskFault) disk.old disk.new }
-    ensures untouched { IfErr result (IsLeftAlone disk.old disk.new) }
+    ensures scan { LeavesScanFor S.world S.faults S.heads S.same path.now result scan.old scan.new }
+    ensures disk { LeavesDiskFor D.faults D.loans result disk.old disk.new }
 {
     let job = match planned(alloc, path, scan) {
         Ok(job) => job,

@@ -1,12 +1,11 @@
 //! The command `sheet`.
-ghost use Rattle.std.specs.Prelude.{◌≡◌, ◌≢◌, true, length, Err, IfErr, IfOk, MatchResult};
+ghost use Rattle.std.specs.Prelude.{◌≡◌, ◌≢◌, true, length, Err, IfOk, MatchResult};
 ghost use Rattle.cf_base.specs.declared.file.FileId.TheVariants as file;
 ghost use Rattle.reel_disk.specs.Runs.{Extends, Spares};
 ghost use Rattle.reel_writer.specs.Reel.{frames_of};
-ghost use Rattle.project_job.specs.Asked.{HasInspectedFor};
-ghost use Rattle.scan_source.specs.Leaves.{LeavesScan};
 ghost use Rattle.project_run.specs.Look.{IsOfLook};
-ghost use Rattle.project_run.specs.Calls.{IsLeftAlone, LeavesDisk, OnDisk, Replies, OverScan};
+ghost use Rattle.project_run.specs.Calls.{LeavesDiskFor, LeavesScanFor, OnDisk, Replies, OverScan};
+ghost use Rattle.reel_writer.specs.Leaves.{LeavesDisk};
 ghost use Rattle.project_run.specs.Sheet.{HasSheet, IsSheetReply, IsSheeted, sheet_text};
 
 use crate::progress::outcome_of_fault;
@@ -38,11 +37,8 @@ pub fn sheet<S: Scans, D: Disk>(
         (OverScan S.world S.loads scan.old scan.new (IsSheetReply tone.now.table path.now))) }
     ensures kind { MatchResult result (λ text. Unit {0}) IsOfLook }
 
-    ensures scan { LeavesScan S.world S.faults S.same (result ≡ Err Outcome.SourceFault) scan.old scan.new }
-    ensures refused_heads { IfErr result (HasInspectedFor (S.world scan.old) path.now (S.heads scan.old) (S.heads scan.new)) }
-
-    ensures disk { LeavesDisk D.faults D.loans (result ≡ Err Outcome.DiskFault) disk.old disk.new }
-    ensures untouched { IfErr result (IsLeftAlone disk.old disk.new) }
+    ensures scan { LeavesScanFor S.world S.faults S.heads S.same path.now result scan.old scan.new }
+    ensures disk { LeavesDiskFor D.faults D.loans result disk.old disk.new }
 {
     let job = match planned(alloc, path, scan) {
         Ok(job) => job,

@@ -1,9 +1,8 @@
 //! The command `status`.
-ghost use Rattle.std.specs.Prelude.{◌≡◌, ◌≢◌, Ok, Err, IfErr, IfOk, MatchResult};
-ghost use Rattle.project_job.specs.Asked.{HasInspectedFor};
-ghost use Rattle.scan_source.specs.Leaves.{LeavesScan};
+ghost use Rattle.std.specs.Prelude.{◌≡◌, ◌≢◌, Err, IfOk, MatchResult};
 ghost use Rattle.project_run.specs.Look.{IsOfLook, outcome_of_fault};
-ghost use Rattle.project_run.specs.Calls.{IsLeftAlone, LeavesDisk, OnDisk, Replies, OverScan};
+ghost use Rattle.project_run.specs.Calls.{LeavesDiskFor, LeavesScanFor, OnDisk, Replies, OverScan};
+ghost use Rattle.reel_writer.specs.Leaves.{LeavesDisk};
 ghost use Rattle.project_run.specs.Status.{IsStatus, IsStatusReply, status_text};
 
 use crate::report::put_count;
@@ -31,11 +30,8 @@ pub fn status<S: Scans, D: Disk>(
         (OverScan S.world S.loads scan.old scan.new (IsStatusReply path.now))) }
     ensures kind { MatchResult result (λ text. Unit {0}) IsOfLook }
 
-    ensures scan { LeavesScan S.world S.faults S.same (result ≡ Err Outcome.SourceFault) scan.old scan.new }
-    ensures refused_heads { IfErr result (HasInspectedFor (S.world scan.old) path.now (S.heads scan.old) (S.heads scan.new)) }
-
-    ensures disk { LeavesDisk D.faults D.loans (result ≡ Err Outcome.DiskFault) disk.old disk.new }
-    ensures untouched { IfErr result (IsLeftAlone disk.old disk.new) }
+    ensures scan { LeavesScanFor S.world S.faults S.heads S.same path.now result scan.old scan.new }
+    ensures disk { LeavesDiskFor D.faults D.loans result disk.old disk.new }
 {
     let job = match planned(alloc, path, scan) {
         Ok(job) => job,

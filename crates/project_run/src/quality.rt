@@ -1,13 +1,12 @@
 //! The command `qc`.
-ghost use Rattle.std.specs.Prelude.{◌≡◌, ◌≢◌, true, length, Err, IfErr, MatchResult, map};
+ghost use Rattle.std.specs.Prelude.{◌≡◌, ◌≢◌, true, length, Err, MatchResult, map};
 ghost use Rattle.reel_disk.specs.Disk.{view_of, IsStill};
 ghost use Rattle.reel_writer.specs.Reel.{frames_of};
 ghost use Rattle.resume_ledger.specs.Look.{IsViewOf};
-ghost use Rattle.project_job.specs.Asked.{HasInspectedFor};
-ghost use Rattle.scan_source.specs.Leaves.{LeavesScan};
 ghost use Rattle.project_run.specs.Look.{IsOfLook};
 ghost use Rattle.project_run.specs.Quality.{IsCounted, IsQcReply, IsTabled};
-ghost use Rattle.project_run.specs.Calls.{IsLeftAlone, LeavesDisk, OnDisk, Replies, OverScan};
+ghost use Rattle.project_run.specs.Calls.{LeavesDiskFor, LeavesScanFor, OnDisk, Replies, OverScan};
+ghost use Rattle.reel_writer.specs.Leaves.{LeavesDisk};
 
 use crate::progress::outcome_of_fault;
 use cf_base::PathText;
@@ -39,11 +38,8 @@ pub fn qc<S: Scans, D: Disk, C: Counter>(
         (OverScan S.world S.loads scan.old scan.new (IsQcReply (map (λ p. p.kind) probes.now) path.now))) }
     ensures kind { MatchResult result (λ text. Unit {0}) IsOfLook }
 
-    ensures scan { LeavesScan S.world S.faults S.same (result ≡ Err Outcome.SourceFault) scan.old scan.new }
-    ensures refused_heads { IfErr result (HasInspectedFor (S.world scan.old) path.now (S.heads scan.old) (S.heads scan.new)) }
-
-    ensures disk { LeavesDisk D.faults D.loans (result ≡ Err Outcome.DiskFault) disk.old disk.new }
-    ensures untouched { IfErr result (IsLeftAlone disk.old disk.new) }
+    ensures scan { LeavesScanFor S.world S.faults S.heads S.same path.now result scan.old scan.new }
+    ensures disk { LeavesDiskFor D.faults D.loans result disk.old disk.new }
 {
     let job = match planned(alloc, path, scan) {
         Ok(job) => job,

@@ -7,15 +7,18 @@ use Rattle.std.proofs.lemmas.List.{get_or-set_same, get_or-set_other, length-set
 use Rattle.scan_source.specs.World.{World, file_at}
 use Rattle.conform_job.specs.Job.{JobData, file_of}
 use Rattle.frame_render.specs.Frame.{frame_file}
-use Rattle.reel_disk.specs.Disk.{Files}
+use Rattle.reel_disk.specs.Disk.{Files, History}
 use Rattle.resume_ledger.specs.Look.{ViewState, IsViewOf}
 use Rattle.reel_writer.specs.Reel.{frames_of}
 use Rattle.reel_writer.specs.View.{ReelView, after_finish, after_fault}
+use Rattle.reconform.specs.declared.adopting.AdoptFault.TheVariants.{NoMemory}
 use Rattle.reconform.specs.declared.plan.FramePlan.{FramePlan}
 use Rattle.reconform.specs.Adopt.{CanServe, IsSameReel, IsServed, AreServed}
 use Rattle.reconform.specs.Donor.{IsDonor, IsIntact, HasIntactDonor, IsLeast, AreLeast, donor_in}
 use Rattle.reconform.specs.Laws.{HasTitle}
+use Rattle.reconform.specs.Parts.{HasAdopted}
 use Rattle.reconform.specs.Plan.{AreAlike, plan_at}
+use Rattle.reconform.proofs.Going.{part_itself, still_itself}
 use Rattle.reconform.proofs.Painting.{equal_plans}
 
 -- where the old folder is sound, the pixels of a donor are those of the frame
@@ -167,3 +170,15 @@ same_itself reel = record { kept = refl; size = refl; grows = λ k was. was }
 
 pub same_along : {D : Type 0} (old mid new : ReelView D) → IsSameReel old mid → IsSameReel mid new → IsSameReel old new
 same_along old mid new first second = record { kept = second.kept ∙ first.kept; size = second.size ∙ first.size; grows = λ k was. second.grows k (first.grows k was) }
+
+-- no room: nothing was taken over
+pub adopted_none : {D E : Type 0} (new old : JobData) (told : Option World) (tells : Bool) (history : D → History) (reel_tells : Bool) (reel_history : E → History) (view : ViewState) (disk : D) (reel : ReelView E)
+    → HasAdopted new old told tells history reel_tells reel_history view (Err NoMemory) disk disk reel reel
+adopted_none new old told tells history reel_tells reel_history view disk reel = record {
+  served = tt;
+  stays = same_itself reel;
+  stays_open = tt;
+  end = inr refl;
+  part = part_itself new told reel_tells reel_history reel.ledger.gates reel.disk;
+  still = λ is. still_itself (history disk);
+}

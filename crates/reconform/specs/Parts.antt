@@ -2,21 +2,24 @@
 --     WasLookedAt      the old folder, where a view of its ledger was had
 --     HasDonors      two jobs that are alike, and the map of their donors
 --     IsPart      what a part does to the new folder once that is open
+--     HasAdopted      what the frames that are taken over do to both folders
 --     IsSafeAdoption      what all of it does, the opening among it
-use Rattle.std.specs.Prelude.{◌≡◌, ℕ, Bool, true, List, length, Option, IfSome}
+use Rattle.std.specs.Prelude.{◌≡◌, ℕ, Bool, true, false, List, length, Option, IfSome, Result, OnOk, IfErr}
 use Rattle.std.specs.BTreeMap.{BTreeMap}
 use Rattle.scan_source.specs.World.{World}
 use Rattle.conform_job.specs.Job.{JobData}
-use Rattle.reel_disk.specs.Disk.{Files, History, view_of}
+use Rattle.reel_disk.specs.Disk.{Files, History, view_of, IsStill}
 use Rattle.reel_disk.specs.Runs.{Spares}
 use Rattle.resume_ledger.specs.Look.{ViewState, IsViewOf}
 use Rattle.resume_ledger.specs.Sound.{WritesOnly}
 use Rattle.reel_writer.specs.Changes.{IsOwnFile, IsRunFile, MayWrite}
 use Rattle.reel_writer.specs.Reel.{frames_of, HasFrameFiles, IsReelRun, IsSoundReel, KeepsReel}
-use Rattle.reconform.specs.Adopt.{CanServe}
+use Rattle.reel_writer.specs.View.{ReelView}
+use Rattle.reconform.specs.Adopt.{CanServe, IsReelServed, IsSameReel, IsStop}
 use Rattle.reconform.specs.Donor.{AreLeast}
 use Rattle.reconform.specs.Laws.{HasTitle}
 use Rattle.reconform.specs.Plan.{AreAlike}
+use Rattle.reconform.specs.declared.adopting.AdoptFault.{AdoptFault}
 use Rattle.reconform.specs.declared.plan.FramePlan.{FramePlan}
 
 -- The ledger of the old folder is as the view says. Where the source files are told, the folder can serve.
@@ -38,6 +41,17 @@ pub record IsPart {E : Type 0} (job : JobData) (told : Option World) (tells : Bo
   pub run : tells ≡ true → IsReelRun job told (history before) (history after)
   pub none_lost : tells ≡ true → KeepsReel job (history before) (history after)
   pub spares : tells ≡ true → Spares (history before) (history after) (IsRunFile job gates)
+
+-- Each frame that isn't acknowledged and has an intact donor is taken over, and nothing else of the reel is changed; the old
+-- folder is only read. It ends before where memory or a disk fails.
+pub record HasAdopted {D E : Type 0} (new old : JobData) (told : Option World) (tells : Bool) (history : D → History) (reel_tells : Bool) (reel_history : E → History)
+    (view : ViewState) (result : Result (Unit {0}) AdoptFault) (disk disk_after : D) (reel reel_after : ReelView E) : Type 0 where
+  pub served : OnOk result (tells ≡ true → IsReelServed new old view (view_of (history disk)) reel reel_after)
+  pub stays : IsSameReel reel reel_after
+  pub stays_open : OnOk result (reel_after.ledger.closed ≡ false)
+  pub end : IfErr result IsStop
+  pub part : IsPart new told reel_tells reel_history reel.ledger.gates reel.disk reel_after.disk
+  pub still : tells ≡ true → IsStill (history disk) (history disk_after)
 
 -- What an adoption does to the new folder: a crash at any moment leaves only frames acknowledged that are the reel's, and no
 -- acknowledgement is lost where each frame that version 1 acknowledged had a file of a frame's length, as sound files have. No

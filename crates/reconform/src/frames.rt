@@ -1,13 +1,13 @@
 //! The frames of an adoption, in order.
-ghost use Rattle.std.specs.Prelude.{◌≡◌, ◌+◌, ◌*◌, ◌<◌, ◌≤◌, ◌↔◌, true, false, drop, length, set, slice_index_or, IfOk, IfErr, IfSome, OnOk, IsErr, IsErrOf};
+ghost use Rattle.std.specs.Prelude.{◌≡◌, ◌+◌, ◌*◌, ◌<◌, ◌≤◌, ◌↔◌, true, false, drop, length, set, slice_index_or, IfOk, IfSome, OnOk, IsErr, IsErrOf};
 ghost use Rattle.cf_base.specs.Count.{HasCause};
 ghost use Rattle.frame_render.specs.Frame.{frame_file, frame_size, pixel_count};
 ghost use Rattle.scan_source.specs.World.{file_at};
 ghost use Rattle.reel_disk.specs.Disk.{view_of, IsStill};
 ghost use Rattle.reel_writer.specs.Reel.{frames_of};
-ghost use Rattle.reconform.specs.Adopt.{IsReelServed, IsSameReel, IsServed, IsStop, LeavesBoth};
+ghost use Rattle.reconform.specs.Adopt.{IsSameReel, IsServed, LeavesBoth};
 ghost use Rattle.reconform.specs.Donor.{HasIntactDonor};
-ghost use Rattle.reconform.specs.Parts.{HasDonors, IsPart, WasLookedAt};
+ghost use Rattle.reconform.specs.Parts.{HasAdopted, HasDonors, IsPart, WasLookedAt};
 
 use crate::adopting::AdoptFault;
 use crate::donors::Donors;
@@ -155,13 +155,7 @@ fn adopt_frames<N: Work, O: Work, D: Disk, E: Disk>(
     requires is_open { reel.old.ledger.closed ≡ false }
     requires size { length reel.old.ledger.gates ≡ frames_of N.job }
 
-    ensures served { OnOk result (D.tells ≡ true
-        → IsReelServed N.job O.job view.now (view_of (D.history old.old)) reel.old reel.new) }
-    ensures stays { IsSameReel reel.old reel.new }
-    ensures stays_open { OnOk result (reel.new.ledger.closed ≡ false) }
-    ensures end { IfErr result IsStop }
-    ensures part { IsPart N.job N.files E.tells E.history reel.old.ledger.gates reel.old.disk reel.new.disk }
-    ensures still { D.tells ≡ true → IsStill (D.history old.old) (D.history old.new) }
+    ensures adopted { HasAdopted N.job O.job N.files D.tells D.history E.tells E.history view.now result old.old old.new reel.old reel.new }
     ensures disks { LeavesBoth D.faults D.loans E.faults E.loans (IsErrOf result AdoptFault.DiskFault)
         old.old old.new reel.old.disk reel.new.disk }
 {
@@ -216,13 +210,7 @@ pub(crate) fn adopt_alike<N: Work, O: Work, D: Disk, E: Disk>(
     requires is_open { reel.old.ledger.closed ≡ false }
     requires size { length reel.old.ledger.gates ≡ frames_of N.job }
 
-    ensures served { OnOk result (D.tells ≡ true
-        → IsReelServed N.job O.job view.now (view_of (D.history old.old)) reel.old reel.new) }
-    ensures stays { IsSameReel reel.old reel.new }
-    ensures stays_open { OnOk result (reel.new.ledger.closed ≡ false) }
-    ensures end { IfErr result IsStop }
-    ensures part { IsPart N.job N.files E.tells E.history reel.old.ledger.gates reel.old.disk reel.new.disk }
-    ensures still { D.tells ≡ true → IsStill (D.history old.old) (D.history old.new) }
+    ensures adopted { HasAdopted N.job O.job N.files D.tells D.history E.tells E.history view.now result old.old old.new reel.old reel.new }
     ensures disks { LeavesBoth D.faults D.loans E.faults E.loans (IsErrOf result AdoptFault.DiskFault)
         old.old old.new reel.old.disk reel.new.disk }
 {

@@ -1,4 +1,5 @@
 pub mod Changes
 pub mod Damage
+pub mod Leaves
 pub mod Reel
 pub mod View

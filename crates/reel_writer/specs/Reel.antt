@@ -3,7 +3,8 @@
 --     frames_of job      how many frames the reel has
 --     reel_of job files      for each frame its file and its bytes
 --     IsReelRun job told old new      what each call on the reel keeps, and so does each run of them
-use Rattle.std.specs.Prelude.{◌≡◌, ◌≢◌, ◌⊎◌, ℕ, ◌<◌, List, Option, Some, IfSome, Result}
+--     Acknowledges      what a call that acknowledges a frame makes of the ledger
+use Rattle.std.specs.Prelude.{◌≡◌, ◌≢◌, ◌⊎◌, ℕ, ◌<◌, Bool, true, List, length, set, Option, Some, IfSome, Result, OnOk, OnErr}
 use Rattle.cf_base.specs.declared.file.FileId.{FileId}
 use Rattle.cf_base.specs.declared.file.FileId.TheVariants.{Body2}
 use Rattle.sha2.specs.Sha256.{sha256}
@@ -12,10 +13,11 @@ use Rattle.record_timeline.specs.Accepted.{frame_count}
 use Rattle.conform_job.specs.Job.{JobData, file_of}
 use Rattle.conform_job.specs.Refusals as sources
 use Rattle.frame_render.specs.Frame.{frame_file, frame_size}
-use Rattle.reel_disk.specs.Disk.{Files, History, IsFirm, loose_of, view_of}
-use Rattle.reel_disk.specs.Runs.{Extends, NeverForgets, Spares, StaysSo}
+use Rattle.reel_disk.specs.Disk.{Files, History, IsFirm, Moment, loose_of, view_of}
+use Rattle.reel_disk.specs.declared.disk.DiskFault.{DiskFault}
+use Rattle.reel_disk.specs.Runs.{Extends, NeverForgets, Spares, StaysSo, Surely}
 use Rattle.resume_ledger.specs.Attach.{HasAttached}
-use Rattle.resume_ledger.specs.Ledger.{Acks, LedgerState}
+use Rattle.resume_ledger.specs.Ledger.{Acks, Agrees, LedgerState}
 use Rattle.resume_ledger.specs.declared.attach.OpenFault.{OpenFault}
 use Rattle.resume_ledger.specs.Sound.{Reel, IsFrameFile, IsReel, IsSoundAndFit, StaysSound, KeepsAcks, AddsAtMost, HasItsFiles}
 
@@ -89,3 +91,12 @@ abbrev pub FinishesStored : List ℕ → ℕ → ℕ → List ℕ → History �
 FinishesStored digest count i hash old new = (file : FileId) (bytes : List ℕ) → IsFrameFile file
     → hash ≡ sha256 bytes → view_of old file ≡ Some bytes → IsFirm (loose_of old) file
     → IsFinishing digest count i file bytes old new
+
+-- Frame i is acknowledged, at this moment and after each crash, and its gate is the only one that changed. Where that failed, the
+-- ledger in memory says what it said.
+pub record Acknowledges (tells : Bool) (i : ℕ) (result : Result (Unit {0}) DiskFault) (moment : Moment) (old new : LedgerState) : Type 0 where
+  pub acked : OnOk result (tells ≡ true → Surely moment (Acks old.digest (length old.gates) i))
+  pub agrees : OnOk result (tells ≡ true → Agrees moment new)
+  pub marked : OnOk result (new ≡ record old { gates = set old.gates i true })
+  pub digest : OnErr result (new.digest ≡ old.digest)
+  pub gates : OnErr result (new.gates ≡ old.gates)

@@ -1,7 +1,7 @@
 //! A check of a reel's files against the ledger's records.
-ghost use Rattle.std.specs.Prelude.{◌≡◌, ◌≢◌, ◌+◌, ◌<◌, true, length, IsErrOf, Err};
-ghost use Rattle.cf_base.specs.Count.{HasCause};
+ghost use Rattle.std.specs.Prelude.{◌≡◌, ◌<◌, true, length, Err};
 ghost use Rattle.reel_disk.specs.Disk.{view_of, IsStill};
+ghost use Rattle.reel_writer.specs.Leaves.{LeavesDisk};
 ghost use Rattle.reel_writer.specs.Reel.{frames_of};
 ghost use Rattle.reel_writer.specs.Damage.{HasChecked, IsCheckFor, HasCheckedOne, IsCheckOneFor, IsIntactWhereSound};
 
@@ -51,11 +51,7 @@ pub fn check<D: Disk>(
 
     // The number of records, and which frame is damaged, are known over every disk.
     ensures known { IsCheckFor job.now view.now result }
-    ensures same { D.loans disk.new ≡ D.loans disk.old }
-    ensures cause { HasCause (D.faults disk.old) (D.faults disk.new)
-        (IsErrOf result CheckFault.DiskFault) }
-    ensures steady { result ≢ Err CheckFault.DiskFault
-        → D.faults disk.new ≡ D.faults disk.old }
+    ensures disk { LeavesDisk D.faults D.loans (result ≡ Err CheckFault.DiskFault) disk.old disk.new }
 {
     let Ok(mut piece) = vec![in alloc; 0u8; 65536] else {
         return Err(CheckFault::NoMemory);
@@ -76,11 +72,7 @@ fn check_all<D: Disk>(
         → HasChecked job.now view.now (view_of (D.history disk.old)) result }
     ensures still { D.tells ≡ true → IsStill (D.history disk.old) (D.history disk.new) }
     ensures known { IsCheckFor job.now view.now result }
-    ensures same { D.loans disk.new ≡ D.loans disk.old }
-    ensures cause { HasCause (D.faults disk.old) (D.faults disk.new)
-        (IsErrOf result CheckFault.DiskFault) }
-    ensures steady { result ≢ Err CheckFault.DiskFault
-        → D.faults disk.new ≡ D.faults disk.old }
+    ensures disk { LeavesDisk D.faults D.loans (result ≡ Err CheckFault.DiskFault) disk.old disk.new }
 {
     let mut records = 0;
     for i in 0..job.count() {
@@ -108,11 +100,7 @@ fn check_one<D: Disk>(
     ensures still { D.tells ≡ true → IsStill (D.history disk.old) (D.history disk.new) }
     ensures known { IsCheckOneFor view.now i result }
     ensures piece { length piece.new ≡ 65536 }
-    ensures same { D.loans disk.new ≡ D.loans disk.old }
-    ensures cause { HasCause (D.faults disk.old) (D.faults disk.new)
-        (IsErrOf result CheckFault.DiskFault) }
-    ensures steady { result ≢ Err CheckFault.DiskFault
-        → D.faults disk.new ≡ D.faults disk.old }
+    ensures disk { LeavesDisk D.faults D.loans (result ≡ Err CheckFault.DiskFault) disk.old disk.new }
 {
     let Some(kept) = view.hash_of(i) else {
         return Ok(0);

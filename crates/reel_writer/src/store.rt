@@ -1,13 +1,13 @@
 //! The device calls of a frame.
-ghost use Rattle.std.specs.Prelude.{◌≡◌, ◌<◌, Some, true, false, length, set, slice_index_or, OnOk, OnErr, IsErr};
-ghost use Rattle.cf_base.specs.Count.{HasCause};
+ghost use Rattle.std.specs.Prelude.{◌≡◌, ◌<◌, Some, true, false, length, slice_index_or, OnOk, IsErr};
 ghost use Rattle.cf_base.specs.declared.file.FileId.TheVariants.{Body2};
 ghost use Rattle.sha2.specs.Sha256.{sha256};
 ghost use Rattle.reel_disk.specs.Disk.{moment_of, view_of};
 ghost use Rattle.reel_disk.specs.Runs.{Extends, Spares, Surely};
-ghost use Rattle.resume_ledger.specs.Ledger.{Acks, Agrees};
+ghost use Rattle.resume_ledger.specs.Ledger.{Agrees};
 ghost use Rattle.resume_ledger.specs.Sound.{IsFrameFile};
-ghost use Rattle.reel_writer.specs.Reel.{FinishesStored, HasStored, IsFinishing};
+ghost use Rattle.reel_writer.specs.Leaves.{LeavesDisk};
+ghost use Rattle.reel_writer.specs.Reel.{Acknowledges, FinishesStored, HasStored, IsFinishing};
 
 use cf_base::FileId;
 use reel_disk::{Disk, DiskFault};
@@ -33,23 +33,12 @@ pub(crate) fn store<D: Disk>(
         → IsFinishing ledger.old.digest (length ledger.old.gates) i file bytes.now
         (D.history disk.old) (D.history disk.new) }
 
-    ensures acked { OnOk result (D.tells ≡ true
-        → Surely (moment_of (D.history disk.new))
-        (Acks ledger.old.digest (length ledger.old.gates) i)) }
     ensures shown { OnOk result (D.tells ≡ true
         → view_of (D.history disk.new) file ≡ Some bytes.now) }
     ensures stored { OnOk result (D.tells ≡ true
         → Surely (moment_of (D.history disk.new)) (HasStored file bytes.now)) }
-    ensures agrees { OnOk result (D.tells ≡ true
-        → Agrees (moment_of (D.history disk.new)) ledger.new) }
-    ensures ledger { OnOk result (ledger.new
-        ≡ record ledger.old { gates = set ledger.old.gates i true }) }
-    ensures digest { OnErr result (ledger.new.digest ≡ ledger.old.digest) }
-    ensures gates { OnErr result (ledger.new.gates ≡ ledger.old.gates) }
-
-    ensures same { D.loans disk.new ≡ D.loans disk.old }
-    ensures cause { HasCause (D.faults disk.old) (D.faults disk.new) (IsErr result) }
-    ensures steady { OnOk result (D.faults disk.new ≡ D.faults disk.old) }
+    ensures ledger { Acknowledges D.tells i result (moment_of (D.history disk.new)) ledger.old ledger.new }
+    ensures disk { LeavesDisk D.faults D.loans (IsErr result) disk.old disk.new }
 {
     let Ok(()) = write_firmly(disk, file, bytes) else {
         return Err(DiskFault);
@@ -77,19 +66,8 @@ fn acknowledge<D: Disk>(
     ensures spares { D.tells ≡ true
         → Spares (D.history disk.old) (D.history disk.new) (λ q. q ≡ Body2) }
 
-    ensures acked { OnOk result (D.tells ≡ true
-        → Surely (moment_of (D.history disk.new))
-        (Acks ledger.old.digest (length ledger.old.gates) i)) }
-    ensures agrees { OnOk result (D.tells ≡ true
-        → Agrees (moment_of (D.history disk.new)) ledger.new) }
-    ensures ledger { OnOk result (ledger.new
-        ≡ record ledger.old { gates = set ledger.old.gates i true }) }
-    ensures digest { OnErr result (ledger.new.digest ≡ ledger.old.digest) }
-    ensures gates { OnErr result (ledger.new.gates ≡ ledger.old.gates) }
-
-    ensures same { D.loans disk.new ≡ D.loans disk.old }
-    ensures cause { HasCause (D.faults disk.old) (D.faults disk.new) (IsErr result) }
-    ensures steady { OnOk result (D.faults disk.new ≡ D.faults disk.old) }
+    ensures ledger { Acknowledges D.tells i result (moment_of (D.history disk.new)) ledger.old ledger.new }
+    ensures disk { LeavesDisk D.faults D.loans (IsErr result) disk.old disk.new }
 {
     let Ok(()) = ledger.note(disk, i, hash) else {
         return Err(DiskFault);

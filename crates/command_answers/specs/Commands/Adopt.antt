@@ -1,10 +1,10 @@
 -- The command `adopt PROJECT OLD`: it takes over frames of an old project's reel, and renders the rest of a project's reel.
-use Rattle.std.specs.Prelude.{◌⊎◌, true, false, ℕ, List}
+use Rattle.std.specs.Prelude.{◌⊎◌, true, ℕ, List}
 use Rattle.cf_base.specs.Count.{HasRisen}
 use Rattle.project_adopt.specs.Adopt.{IsAdoptReply}
 use Rattle.command_answers.specs.ByFolder.{HasFitFolder, HasSoundFolder}
 use Rattle.command_answers.specs.ByJob.{AreJobHeads}
-use Rattle.command_answers.specs.Meaning.{HasReelFailed, IsThrough, Meaning}
+use Rattle.command_answers.specs.Meaning.{HasReelFailed, IsThrough, Meaning, reel_calls}
 use Rattle.command_answers.specs.States.{Folders}
 
 -- a call on one of the two folders failed
@@ -17,7 +17,7 @@ adopt_meaning path old_path = record {
   IsRight = λ reached output before after. Unit {0};
   HasLoaded = λ before after reached. Unit {0};
   LooksAtHeads = AreJobHeads path;
-  calls = record { on_reel = true; on_old = true; loads_frames = true; checks_frames = false };
+  calls = record reel_calls { on_old = true; loads_frames = true };
   UsesDisk = λ house before after folders folders_after reached output.
       IsAdoptReply path old_path before.world before.loads after.loads folders.old folders_after.old folders.reel folders_after.reel reached output;
   HasFailedDisk = HasEitherFailed;

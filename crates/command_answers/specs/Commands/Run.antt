@@ -1,20 +1,8 @@
 -- The command `run PROJECT`: it renders the reel of a project into the folder.
-use Rattle.std.specs.Prelude.{true, false, ℕ, List}
+use Rattle.std.specs.Prelude.{true, ℕ, List}
 use Rattle.project_run.specs.Run.{IsRunReply}
-use Rattle.command_answers.specs.ByFolder.{HasFitFolder}
-use Rattle.command_answers.specs.ByJob.{AreJobHeads}
-use Rattle.command_answers.specs.Meaning.{HasReelFailed, IsThrough, Meaning}
+use Rattle.command_answers.specs.ByFolder.{reel_meaning}
+use Rattle.command_answers.specs.Meaning.{IsThrough, Meaning, reel_calls}
 
 abbrev pub run_meaning : List ℕ → ℕ → Meaning
-run_meaning path share = record {
-  -- It is right by the folder: `UsesDisk` says how, and what was loaded.
-  IsRight = λ reached output before after. Unit {0};
-  HasLoaded = λ before after reached. Unit {0};
-  LooksAtHeads = AreJobHeads path;
-  calls = record { on_reel = true; on_old = false; loads_frames = true; checks_frames = false };
-  UsesDisk = λ house before after folders folders_after reached output.
-      IsRunReply path share before.world before.loads after.loads folders.reel folders_after.reel reached output;
-  HasFailedDisk = HasReelFailed;
-  IsAccepted = λ world folders. HasFitFolder world path folders.reel;
-  IsComplete = IsThrough;
-}
+run_meaning path share = reel_meaning path (record reel_calls { loads_frames = true }) (λ house. IsRunReply path share) IsThrough

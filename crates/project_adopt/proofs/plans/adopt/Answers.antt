@@ -1,6 +1,8 @@
 -- The project comes to its job, and the old one is looked at; or it comes to none.
 use Rattle.std.proofs.Common.{inr, refl}
-use Rattle.project_run.proofs.Runs.{match_each}
+use Rattle.scan_source.proofs.Leaving.{leaves_then}
+use Rattle.project_run.proofs.Leaving.{scan_unplanned}
+use Rattle.project_run.proofs.Runs.{match_each, unplanned}
 use Rattle.project_adopt.proofs.Planning.{job_adopts, job_in}
 use Rattle.outcome_line.specs.Output.{line_of}
 use Rattle.project_adopt.proofs.Leaving.{asked_onward}
@@ -15,17 +17,19 @@ returns-clause-folders g c =
 pub returns-in-Err-clause-folders : goal.returns-in-Err-clause-folders
 returns-in-Err-clause-folders g c =
     let planned = c.in-Err.ensures in
-    inr (record {
-      unplanned = record { why = planned.told; kind = planned.kind; untouched = refl; texts = planned.loads; refused = planned.refused };
-      untouched = refl;
-    })
+    inr (record { unplanned = unplanned _ _ _ _ _ _ planned.told planned.kind planned.loads planned.refused; untouched = refl })
 
 pub returns-in-Err-clause-kind : goal.returns-in-Err-clause-kind
 returns-in-Err-clause-kind g c = job_adopts _ c.in-Err.ensures.kind
 
-pub returns-clause-refused_heads : goal.returns-clause-refused_heads
-returns-clause-refused_heads g c =
-    asked_onward _ _ c.in-Ok.job (g.S.Scans.world c.args.scan.now) (g.S.Scans.world c.planned.new.scan) c.args.path.now c.args.old_path.now _ _ _ _ _ _ _ _ line_of c.adopt_onto-reply.ensures.folders
+pub returns-clause-scan : goal.returns-clause-scan
+returns-clause-scan g c =
+    let planned = c.in-Ok.ensures in
+    let reply = c.adopt_onto-reply.ensures in
+    record {
+      lent = leaves_then g.S.Scans.world g.S.Scans.faults g.S.Scans.same g.met.S.Scans.same_trans _ _ _ (λ is. cc) planned.scan reply.scan;
+      refused_heads = asked_onward _ _ c.in-Ok.job (g.S.Scans.world c.args.scan.now) (g.S.Scans.world c.planned.new.scan) c.args.path.now c.args.old_path.now _ _ _ _ _ _ _ _ line_of reply.folders;
+    }
 
-pub returns-in-Err-clause-refused_heads : goal.returns-in-Err-clause-refused_heads
-returns-in-Err-clause-refused_heads g c = c.in-Err.ensures.refused_heads
+pub returns-in-Err-clause-scan : goal.returns-in-Err-clause-scan
+returns-in-Err-clause-scan g c = scan_unplanned g.S.Scans.world g.S.Scans.faults g.S.Scans.heads g.S.Scans.same c.args.path.now _ _ _ c.in-Err.ensures.scan c.in-Err.ensures.refused_heads

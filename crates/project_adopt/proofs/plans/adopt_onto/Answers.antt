@@ -1,6 +1,6 @@
 -- The old project comes to its job, and both are conformed; or it comes to none.
 use Rattle.std.proofs.Common.{inr, refl, sym, subst}
-use Rattle.project_run.proofs.Runs.{match_each}
+use Rattle.project_run.proofs.Runs.{match_each, unplanned}
 use Rattle.project_adopt.specs.Adopt.{IsJobOver, IsOfAdopt}
 use Rattle.project_adopt.proofs.Planning.{adopted_in, all_three, is_over, old_adopts}
 use Rattle.project_run.proofs.Leaving.{left_by}
@@ -27,7 +27,7 @@ returns-in-Err-clause-folders g c =
     inr (record {
       found = c.in-Err.outcome;
       reached_is = c.of_old_project.ensures;
-      unplanned = record { why = planned.told; kind = planned.kind; untouched = refl; texts = planned.loads; refused = planned.refused };
+      unplanned = unplanned _ _ _ _ _ _ planned.told planned.kind planned.loads planned.refused;
       untouched = refl;
     })
 

@@ -1,7 +1,7 @@
 -- The project comes to its job, and the folder is looked at.
-use Rattle.std.proofs.Common.{refl, inr}
-use Rattle.project_run.proofs.Runs.{match_each, job_looks, looked_in}
-use Rattle.project_run.proofs.Leaving.{asked_by, left_by, status_unrefused}
+use Rattle.std.proofs.Common.{inr}
+use Rattle.project_run.proofs.Runs.{job_looks, looked_in, match_each, unplanned}
+use Rattle.project_run.proofs.Leaving.{status_unrefused, disk_left, disk_unplanned, scan_looked, scan_unplanned}
 use Rattle.project_run.proofs.progress.status.Goals as goal
 
 pub returns-clause-folder : goal.returns-clause-folder
@@ -9,16 +9,21 @@ returns-clause-folder g c =
     let job = c.in-Ok.ensures in
     match_each _ _ _ _ _ c.status_of-reply.ensures.status (λ text status. looked_in _ c.in-Ok.job _ _ _ _ _ _ _ job.told job.loaded status) (λ outcome status. looked_in _ c.in-Ok.job _ _ _ _ _ _ _ job.told job.loaded status)
 
-pub returns-in-Err-clause-folder : goal.returns-in-Err-clause-folder
-returns-in-Err-clause-folder g c =
-    let job = c.in-Err.ensures in
-    inr (record { why = job.told; kind = job.kind; untouched = refl; texts = job.loads; refused = job.refused })
+pub returns-clause-scan : goal.returns-clause-scan
+returns-clause-scan g c =
+    let reply = c.status_of-reply.ensures in
+    scan_looked g.S.Scans.world g.S.Scans.faults g.S.Scans.heads g.S.Scans.same c.args.path.now _ _ c.in-Ok.job _ _ _ c.in-Ok.ensures.scan reply.never reply.status (λ reached was. status_unrefused _ _ _ _ _ was)
 
-pub returns-in-Err-clause-kind : goal.returns-in-Err-clause-kind
-returns-in-Err-clause-kind g c = job_looks _ c.in-Err.ensures.kind
+pub returns-clause-disk : goal.returns-clause-disk
+returns-clause-disk g c =
+    let reply = c.status_of-reply.ensures in
+    disk_left g.D.Disk.faults g.D.Disk.loans _ _ _ _ _ reply.disk reply.status (λ reached was. status_unrefused _ _ _ _ _ was)
 
-pub returns-clause-untouched : goal.returns-clause-untouched
-returns-clause-untouched g c = left_by _ _ _ _ _ c.status_of-reply.ensures.status (λ reached was. status_unrefused _ _ _ _ _ was)
-
-pub returns-clause-refused_heads : goal.returns-clause-refused_heads
-returns-clause-refused_heads g c = asked_by _ _ _ (g.S.Scans.world c.args.scan.now) c.args.path.now _ _ c.status_of-reply.ensures.status (λ reached was. status_unrefused _ _ _ _ _ was)
+-- no job was planned
+pub returns-in-Err : goal.returns-in-Err
+returns-in-Err g c = let job = c.in-Err.ensures in record {
+  folder = inr (unplanned _ _ _ _ _ _ job.told job.kind job.loads job.refused);
+  kind = job_looks _ job.kind;
+  scan = scan_unplanned g.S.Scans.world g.S.Scans.faults g.S.Scans.heads g.S.Scans.same c.args.path.now _ _ _ job.scan job.refused_heads;
+  disk = disk_unplanned g.D.Disk.faults g.D.Disk.loans c.in-Err.outcome c.args.disk.now job.kind;
+}

@@ -6,7 +6,7 @@ use Rattle.resume_ledger.proofs.Reading.{still_along}
 use Rattle.reel_writer.specs.Reel.{frames_of}
 use Rattle.reconform.specs.Adopt.{AreServed, IsServed}
 use Rattle.reconform.proofs.Going.{both_behind, both_itself, looked_along, part_along, part_itself, still_itself}
-use Rattle.reconform.proofs.Serving.{same_along, same_itself, served_first, served_more}
+use Rattle.reconform.proofs.Serving.{adopted_none, same_along, same_itself, served_first, served_more}
 use Rattle.reconform.proofs.frames.adopt_frames.Goals as goal
 
 pub loop-i-init : goal.loop-i-init
@@ -57,26 +57,25 @@ loop-i-preserved g c =
     }
 
 -- no room
-pub returns-in-Err-clause-part : goal.returns-in-Err-clause-part
-returns-in-Err-clause-part g c = part_itself g.N.Work.job g.N.Work.files g.E.Disk.tells g.E.Disk.history c.args.reel.now.ledger.gates c.args.reel.now.disk
-
-pub returns-in-Err-clause-stays : goal.returns-in-Err-clause-stays
-returns-in-Err-clause-stays g c = same_itself c.args.reel.now
+pub returns-in-Err-clause-adopted : goal.returns-in-Err-clause-adopted
+returns-in-Err-clause-adopted g c = adopted_none g.N.Work.job g.O.Work.job g.N.Work.files g.D.Disk.tells g.D.Disk.history g.E.Disk.tells g.E.Disk.history c.args.view.now c.args.old.now c.args.reel.now
 
 pub returns-in-Err-clause-disks : goal.returns-in-Err-clause-disks
 returns-in-Err-clause-disks g c = both_itself g.D.Disk.faults g.D.Disk.loans g.E.Disk.faults g.E.Disk.loans _ (λ is. cc) c.args.old.now c.args.reel.now.disk
 
 -- a disk failed
-pub returns-in-Err-adopt_frame-clause-part : goal.returns-in-Err-adopt_frame-clause-part
-returns-in-Err-adopt_frame-clause-part g c =
-    part_along g.N.Work.job g.N.Work.files g.E.Disk.tells g.E.Disk.history c.args.reel.now.ledger.gates c.loop-i.reel.ledger.gates c.loop-i.invariant.stays.grows c.args.reel.now.disk c.loop-i.reel.disk c.adopt_frame.new.reel.disk
-    c.loop-i.invariant.part c.adopt_frame.ensures.part
-
-pub returns-in-Err-adopt_frame-clause-still : goal.returns-in-Err-adopt_frame-clause-still
-returns-in-Err-adopt_frame-clause-still g c told = still_along _ _ _ (c.loop-i.invariant.still told) (c.adopt_frame.ensures.still told)
-
-pub returns-in-Err-adopt_frame-clause-stays : goal.returns-in-Err-adopt_frame-clause-stays
-returns-in-Err-adopt_frame-clause-stays g c = same_along _ _ _ c.loop-i.invariant.stays c.adopt_frame.ensures.stays
+pub returns-in-Err-adopt_frame-clause-adopted : goal.returns-in-Err-adopt_frame-clause-adopted
+returns-in-Err-adopt_frame-clause-adopted g c =
+    let inv = c.loop-i.invariant in
+    let step = c.adopt_frame.ensures in
+    record {
+      served = tt;
+      stays = same_along _ _ _ inv.stays step.stays;
+      stays_open = tt;
+      end = search rules;
+      part = part_along g.N.Work.job g.N.Work.files g.E.Disk.tells g.E.Disk.history c.args.reel.now.ledger.gates c.loop-i.reel.ledger.gates inv.stays.grows c.args.reel.now.disk c.loop-i.reel.disk c.adopt_frame.new.reel.disk inv.part step.part;
+      still = λ told. still_along _ _ _ (inv.still told) (step.still told);
+    }
 
 pub returns-in-Err-adopt_frame-clause-disks : goal.returns-in-Err-adopt_frame-clause-disks
 returns-in-Err-adopt_frame-clause-disks g c =
@@ -84,17 +83,21 @@ returns-in-Err-adopt_frame-clause-disks g c =
     c.in-Err-adopt_frame.ensures.disks
 
 -- every frame was served
-pub returns-clause-served : goal.returns-clause-served
-returns-clause-served g c told =
+pub returns-clause-adopted : goal.returns-clause-adopted
+returns-clause-adopted g c =
     let inv = c.loop-i.invariant in
     let late = c.loop-i-test.false in
     let within = inv.within in
     let ending = inv.ending in
     let all : c.loop-i.i ≡ frames_of g.N.Work.job = omega (arith, late, within, ending) in
-    subst (λ n. AreServed g.N.Work.job g.O.Work.job c.args.view.now (view_of (g.D.Disk.history c.args.old.now)) n c.args.reel.now.ledger.gates c.loop-i.reel.ledger.gates) all (inv.served told)
-
-pub returns-clause-part : goal.returns-clause-part
-returns-clause-part g c = c.loop-i.invariant.part
+    record {
+      served = λ told. subst (λ n. AreServed g.N.Work.job g.O.Work.job c.args.view.now (view_of (g.D.Disk.history c.args.old.now)) n c.args.reel.now.ledger.gates c.loop-i.reel.ledger.gates) all (inv.served told);
+      stays = inv.stays;
+      stays_open = inv.is_open;
+      end = tt;
+      part = inv.part;
+      still = inv.still;
+    }
 
 pub returns-clause-disks : goal.returns-clause-disks
 returns-clause-disks g c =

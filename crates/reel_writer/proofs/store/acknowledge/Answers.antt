@@ -1,4 +1,4 @@
-use Rattle.std.proofs.Common.{◌≡◌, ◌∙◌, ℕ, true, List, length, subst}
+use Rattle.std.proofs.Common.{◌≡◌, ◌∙◌, ℕ, rules, true, List, length, subst}
 use Rattle.reel_disk.specs.Disk.{moment_of, view_of}
 use Rattle.reel_disk.specs.Runs.{Surely}
 use Rattle.resume_ledger.specs.Ledger.{LedgerState, HasRecord, Acks}
@@ -33,6 +33,11 @@ returns-in-Ok-ack-clause-finishing g c = finishing g (goal.at.returns-in-Ok-ack-
 pub returns-in-Err-clause-finishing : goal.returns-in-Err-clause-finishing
 returns-in-Err-clause-finishing g c = finishing g (goal.at.returns-in-Err-clause-finishing g c).After-ack
 
-pub returns-in-Ok-ack-clause-acked : goal.returns-in-Ok-ack-clause-acked
-returns-in-Ok-ack-clause-acked g c told =
-    subst (λ (l : LedgerState). Surely (moment_of (g.D.Disk.history c.ack.new.disk)) (Acks l.digest (length l.gates) c.args.i)) c.in-Ok.ensures.ledger (c.in-Ok-ack.ensures.acked told)
+pub returns-in-Ok-ack-clause-ledger : goal.returns-in-Ok-ack-clause-ledger
+returns-in-Ok-ack-clause-ledger g c = record {
+  acked = λ told. subst (λ (l : LedgerState). Surely (moment_of (g.D.Disk.history c.ack.new.disk)) (Acks l.digest (length l.gates) c.args.i)) c.in-Ok.ensures.ledger (c.in-Ok-ack.ensures.acked told);
+  agrees = search rules;
+  marked = search rules;
+  digest = tt;
+  gates = tt;
+}

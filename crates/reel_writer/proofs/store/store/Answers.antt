@@ -20,8 +20,8 @@ returns-clause-finishing g c told =
     finishing_along _ _ _ _ _ _ _ _ (wrote _ _ (c.requires.agrees told) _ c.requires.fresh _ c.requires.frame _ _ (c.write_firmly.ensures.put told) (c.write_firmly.ensures.spares told))
     (c.acknowledge.ensures.finishing told c.args.file c.args.bytes.now c.requires.frame c.requires.hash firmly.there firmly.firm)
 
-pub returns-clause-acked : goal.returns-clause-acked
-returns-clause-acked g c = c.acknowledge.ensures.acked
+pub returns-clause-ledger : goal.returns-clause-ledger
+returns-clause-ledger g c = c.acknowledge.ensures.ledger
 
 pub returns-clause-shown : goal.returns-clause-shown
 returns-clause-shown g c = given_ok c.acknowledge.result (g.D.Disk.tells ≡ true → view_of (g.D.Disk.history c.acknowledge.new.disk) c.args.file ≡ Some c.args.bytes.now)
@@ -30,15 +30,3 @@ returns-clause-shown g c = given_ok c.acknowledge.result (g.D.Disk.tells ≡ tru
 pub returns-clause-stored : goal.returns-clause-stored
 returns-clause-stored g c = given_ok c.acknowledge.result (g.D.Disk.tells ≡ true → Surely (moment_of (g.D.Disk.history c.acknowledge.new.disk)) (HasStored c.args.file c.args.bytes.now))
     (λ told. let firmly = c.in-Ok.ensures.firmly told in stored_still c.args.file c.requires.frame _ _ (c.acknowledge.ensures.past told) (c.acknowledge.ensures.spares told) c.args.bytes.now firmly.there firmly.firm)
-
-pub returns-clause-agrees : goal.returns-clause-agrees
-returns-clause-agrees g c = c.acknowledge.ensures.agrees
-
-pub returns-clause-ledger : goal.returns-clause-ledger
-returns-clause-ledger g c = c.acknowledge.ensures.ledger
-
-pub returns-clause-digest : goal.returns-clause-digest
-returns-clause-digest g c = c.acknowledge.ensures.digest
-
-pub returns-clause-gates : goal.returns-clause-gates
-returns-clause-gates g c = c.acknowledge.ensures.gates

@@ -74,7 +74,7 @@ returns-in-Err-clause-spares g c told = spares g (goal.at.returns-in-Err-clause-
 pub returns-in-Ok-clause-acked : goal.returns-in-Ok-clause-acked
 returns-in-Ok-clause-acked g c told =
     let index : c.index-i.result ≡ c.args.frame.now.index = c.index-i.ensures.index ∙ ap (λ (f : FrameBytes). f.index) c.frame-frame.ensures in
-    acked_of g.N.Work.job _ _ c.index-i.result c.args.frame.now.index _ c.self.invariant.0.digest c.self.invariant.0.size index (c.in-Ok.ensures.acked told)
+    acked_of g.N.Work.job _ _ c.index-i.result c.args.frame.now.index _ c.self.invariant.0.digest c.self.invariant.0.size index (c.in-Ok.ensures.ledger.acked told)
 
 pub returns-in-Ok-clause-stored : goal.returns-in-Ok-clause-stored
 returns-in-Ok-clause-stored g c told files image =
@@ -108,19 +108,19 @@ invariant_of-self g c =
     let size = of.size in
     let within : c.index-i.result < length c.self.inside.ledger.gates = omega (arith, below, size) in
     let fresh = ap (λ (l : List Bool). get_or l c.index-i.result false) (gates_same _ _ c.self.view_is) ∙ ap (λ n. get_or c.args.self.now.ledger.gates n false) index ∙ c.requires.fresh in
-    let gates : c.store.new.ledger.gates ≡ set c.self.inside.ledger.gates c.index-i.result true = ap (λ (l : LedgerState). l.gates) c.in-Ok.ensures.ledger in
+    let gates : c.store.new.ledger.gates ≡ set c.self.inside.ledger.gates c.index-i.result true = ap (λ (l : LedgerState). l.gates) c.in-Ok.ensures.ledger.marked in
     let acks : c.push_reserved.new.self.items ≡ c.self.inside.acks.items ++ c.index-i.result ∷ [] = c.push_reserved.ensures.items in (
       record {
-        digest = ap (λ (l : LedgerState). l.digest) c.in-Ok.ensures.ledger ∙ of.digest;
+        digest = ap (λ (l : LedgerState). l.digest) c.in-Ok.ensures.ledger.marked ∙ of.digest;
         size = ap length gates ∙ length-set c.self.inside.ledger.gates c.index-i.result true ∙ of.size;
         acked = subst (λ (l : List Bool). (j : ℕ) → j < length c.push_reserved.new.self.items → get_or l (get_or c.push_reserved.new.self.items j 0) false ≡ true) (sym gates)
             (subst (λ (a : List ℕ). (j : ℕ) → j < length a → get_or (set c.self.inside.ledger.gates c.index-i.result true) (get_or a j 0) false ≡ true) (sym acks) (acked_more g.N.Work.job g.D.Disk.tells g.D.Disk.history _ of c.index-i.result within fresh));
         once = subst (λ (a : List ℕ). (j k : ℕ) → j < k → k < length a → get_or a j 0 ≢ get_or a k 0) (sym acks) (once_more g.N.Work.job g.D.Disk.tells g.D.Disk.history _ of c.index-i.result within fresh);
         kept = ap (λ (a : List ℕ). c.self.inside.kept + length a) acks ∙ kept_more g.N.Work.job g.D.Disk.tells g.D.Disk.history _ of c.index-i.result within fresh ∙ sym (ap (λ (l : List Bool). count_by (λ gate. gate) l) gates);
-        agrees = λ _ told. subst (λ b. Agrees (moment_of (g.D.Disk.history c.store.new.disk)) (record { digest = c.store.new.ledger.digest; gates = c.store.new.ledger.gates; closed = b })) (ap (λ (l : LedgerState). l.closed) c.in-Ok.ensures.ledger ∙ open_ledger ∙ sym shut) (c.in-Ok.ensures.agrees told);
+        agrees = λ _ told. subst (λ b. Agrees (moment_of (g.D.Disk.history c.store.new.disk)) (record { digest = c.store.new.ledger.digest; gates = c.store.new.ledger.gates; closed = b })) (ap (λ (l : LedgerState). l.closed) c.in-Ok.ensures.ledger.marked ∙ open_ledger ∙ sym shut) (c.in-Ok.ensures.ledger.agrees told);
       },
       search rules,
-      λ _. ap (λ (l : LedgerState). l.closed) c.in-Ok.ensures.ledger ∙ open_ledger,
+      λ _. ap (λ (l : LedgerState). l.closed) c.in-Ok.ensures.ledger.marked ∙ open_ledger,
     )
 
 -- where the disk failed, the reel is closed and as it was
@@ -128,9 +128,9 @@ pub invariant_of-self-in-Err : goal.invariant_of-self-in-Err
 invariant_of-self-in-Err g c =
     let of = c.self.invariant.0 in
     let room = c.self.invariant.1 in
-    let gates = c.in-Err.ensures.gates in (
+    let gates = c.in-Err.ensures.ledger.gates in (
       record {
-        digest = c.in-Err.ensures.digest ∙ of.digest;
+        digest = c.in-Err.ensures.ledger.digest ∙ of.digest;
         size = ap length gates ∙ of.size;
         acked = subst (λ (l : List Bool). (j : ℕ) → j < length c.self.inside.acks.items → get_or l (get_or c.self.inside.acks.items j 0) false ≡ true) (sym gates) of.acked;
         once = of.once;
@@ -149,5 +149,5 @@ returns-in-Err-clause-closed g c =
       acks = c.self.inside.acks.items;
       kept = c.self.inside.kept;
     } in
-    ap (λ digest. after digest c.store.new.ledger.gates) c.in-Err.ensures.digest ∙ ap (after c.self.inside.ledger.digest) c.in-Err.ensures.gates
+    ap (λ digest. after digest c.store.new.ledger.gates) c.in-Err.ensures.ledger.digest ∙ ap (after c.self.inside.ledger.digest) c.in-Err.ensures.ledger.gates
     ∙ ap (λ (r : ReelView g.row.D.Denot). after_fault r c.store.new.disk) c.self.view_is
