@@ -20,9 +20,9 @@ pub(crate) fn crew_on<S: Scans + Send, D: Disk + Send, R: Threads + Wait + Sync>
     rt: &R,
     alloc: Global,
     job: &Job,
+    disk: D,
     scans: Vec<S>,
     workers: u16,
-    disk: D,
     share_cap: u32,
 ) -> Crew<S, D>
     requires scans { (1 ≤ vec_len scans) × (vec_len scans ≤ 16) }
@@ -51,7 +51,7 @@ fn crew<R: Threads + Wait + Sync>(
     }
     let scans = scans_together(alloc, workers, failing, together, rounds)?;
     let disk = MemoryDisk::new(alloc).ok()?;
-    Some(crew_on(rt, alloc, job, scans, workers, disk, 8))
+    Some(crew_on(rt, alloc, job, disk, scans, workers, 8))
 }
 
 /// With several workers the first loads of two scans wait for one another, so that a run on one thread would wait in vain. In the
@@ -138,7 +138,7 @@ pub(crate) fn crew_over<D: Disk + Drop + Send, R: Threads + Wait + Sync>(
         log: _,
         scans: _,
         disk,
-    } = crew_on(rt, alloc, job, scans, workers, disk, 8);
+    } = crew_on(rt, alloc, job, disk, scans, workers, 8);
     Some((end, report, disk))
 }
 

@@ -138,7 +138,7 @@ fn crew_of_two<R: Threads + Wait + Sync>(
         disk: MemoryDisk::new(alloc).ok()?,
         notes: Writes { seen },
     };
-    Some(crew_on(rt, alloc, job, scans, 2, disk, 2))
+    Some(crew_on(rt, alloc, job, disk, scans, 2, 2))
 }
 
 /// A frame of each reel, and a dissolve of both. With a share for each worker it would take four loads; with puts that are
