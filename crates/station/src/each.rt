@@ -1,5 +1,5 @@
 //! Work on each item of a slice, side by side.
-ghost use Rattle.std.specs.Prelude.{◌<◌, All, length};
+ghost use Rattle.std.specs.Prelude.{◌≡◌, ◌<◌, ◌≤◌, ℕ, All, length, slice_index_or};
 ghost use Rattle.station.specs.Each.{EachBecame};
 
 use std::thread;
@@ -20,11 +20,7 @@ pub(crate) trait Works<T> {
 }
 
 /// Works on each item of a slice, on a thread of its own.
-pub(crate) fn work_on_each<T: Send, X: Works<T> + Sync, R: Threads + Sync>(
-    rt: &R,
-    shared: &X,
-    items: &mut [T],
-)
+fn work_on_each<T: Send, X: Works<T> + Sync, R: Threads + Sync>(rt: &R, shared: &X, items: &mut [T])
     requires some { 0 < length items.old }
     requires may { All (λ item. X.may shared.now item) items.old }
     ensures has { EachBecame (length items.old) (X.has shared.now) items.old items.new }
@@ -39,4 +35,21 @@ pub(crate) fn work_on_each<T: Send, X: Works<T> + Sync, R: Threads + Sync>(
             ensures has { X.has shared.entry.now item.old item.new }
         { shared.work(item) },
     );
+}
+
+/// Works on each of the first items of a slice, on a thread of its own.
+pub(crate) fn work_on_first<T: Send, X: Works<T> + Sync, R: Threads + Sync>(
+    rt: &R,
+    shared: &X,
+    items: &mut [T],
+    count: usize,
+)
+    requires some { 0 < count }
+    requires within { count ≤ length items.old }
+    requires may { All (λ item. X.may shared.now item) items.old }
+    ensures size { length items.new ≡ length items.old }
+    ensures has { EachBecame count (X.has shared.now) items.old items.new }
+    ensures others { (k : ℕ) (d : _) → count ≤ k → slice_index_or items.new k d ≡ slice_index_or items.old k d }
+{
+    work_on_each(rt, shared, &mut items[..count]);
 }

@@ -5,7 +5,7 @@ ghost use Rattle.station.specs.Each.{EachBecame};
 ghost use Rattle.crew_rest.specs.Left.{HasFinished};
 ghost use Rattle.crew_seat.specs.Stepped.{HasWorked, IsReady};
 
-use crate::each::{Works, work_on_each};
+use crate::each::{Works, work_on_first};
 use conform_job::{Job, Work};
 use crew_rest::Rest;
 use crew_seat::Seat;
@@ -33,32 +33,6 @@ impl<S: Scans, D: Disk, N: Work + Start, C: Crewed, R: Threads + Wait + Sync> Wo
     fn work(&self, seat: &mut Seat<S, N, C>) {
         drop(self.worker(seat));
     }
-}
-
-/// Runs a worker in each of the first seats.
-fn work_in_first<
-    S: Scans + Send,
-    D: Disk + Send,
-    N: Work + Start + Send + Sync,
-    C: Crewed + Send + Sync,
-    R: Threads + Wait + Sync,
->(shared: &Shared<'_, D, N, C, R>, seats: &mut [Seat<S, N, C>], threads: usize)
-where
-    C::SourceStops: Send + Sync,
-    C::DiskStops: Send + Sync,
-    C::MemoryStops: Send + Sync,
-    C::ChangeStops: Send + Sync,
-    C::Misses: Send + Sync,
-    requires some { 0 < threads }
-    requires within { threads ≤ length seats.old }
-    requires job { shared.now.job.now ≡ N.job }
-    requires infos { AreInfosOf N.job.parts N.files N.job.infos }
-    requires ready { All (λ s. IsReady N.files S.world s) seats.old }
-    ensures size { length seats.new ≡ length seats.old }
-    ensures worked { EachBecame threads (HasWorked N.files S.world S.faults S.loads S.same 524288) seats.old seats.new }
-    ensures others { (k : ℕ) (d : _) → threads ≤ k → slice_index_or seats.new k d ≡ slice_index_or seats.old k d }
-{
-    work_on_each(shared.rt, shared, &mut seats[..threads]);
 }
 
 /// Whether each miss has had its put.
@@ -109,7 +83,7 @@ where
         station: &station,
         share: &share,
     };
-    work_in_first(&shared, seats, threads);
+    work_on_first(rt, &shared, seats, threads);
     let mut rest = Rest {
         station: station.into_inner(),
         share: share.into_share(),
