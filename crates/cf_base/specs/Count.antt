@@ -1,5 +1,5 @@
 -- Counts, which are kept in 64 bits and stay at their last value.
-use Rattle.std.specs.Prelude.{ℕ, ◌+◌, ◌-◌, ◌^◌, ◌≤◌, min}
+use Rattle.std.specs.Prelude.{◌≡◌, ℕ, ◌+◌, ◌-◌, ◌^◌, ◌≤◌, min}
 
 -- a count as 64 bits keep it
 abbrev pub kept : ℕ → ℕ
@@ -21,3 +21,13 @@ HasRisenByOne before now = now ≤ min (before + 1) (2 ^ 64 - 1)
 pub record HasCause (before now : ℕ) (Failed : Type 0) : Type 0 where
   pub later : before ≤ now
   pub failed : Failed → HasRisen before now
+
+-- a failure has its cause in the count of faults, and where there is none the count stays
+pub record CountsFaults (Failed : Type 0) (before now : ℕ) : Type 0 where
+  pub cause : HasCause before now Failed
+  pub steady : (Failed → ⊥) → now ≡ before
+
+-- one call: the count of faults rises by one where it fails, and else stays
+pub record CountsOneFault (Failed : Type 0) (before now : ℕ) : Type 0 where
+  pub counts : CountsFaults Failed before now
+  pub once : Failed → HasRisenByOne before now

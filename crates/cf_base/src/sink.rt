@@ -1,6 +1,6 @@
 //! Where the output of a command goes.
-ghost use Rattle.std.specs.Prelude.{◌≡◌, ◌≤◌, ℕ, true, false, List, [], ◌++◌, take, Option, Some, IfOk};
-ghost use Rattle.cf_base.specs.Count.{HasRisen, HasRisenByOne, IsKept, kept};
+ghost use Rattle.std.specs.Prelude.{◌≡◌, ℕ, true, List, [], ◌++◌, take, Option, Some, IfOk};
+ghost use Rattle.cf_base.specs.Count.{CountsOneFault, IsKept, kept};
 ghost use Rattle.std.specs.Io.KnownBytes.{Appends};
 ghost use Rattle.cf_base.specs.MemorySink.{plan_of, written_in, faults_in, next_put, fails_next, after_put, IsPut};
 ghost use Rattle.cf_base.specs.Sink.{AppendsPrefix};
@@ -31,10 +31,7 @@ pub trait Sink {
     fn put(&mut self, piece: &[u8]) -> Put
         ensures all { result ≡ Put.All → Appends (written self.old) (written self.new) piece.now }
         ensures prefix { AppendsPrefix (written self.old) (written self.new) piece.now }
-        ensures failed { result ≡ Put.Failed → HasRisen (faults self.old) (faults self.new) }
-        ensures once { result ≡ Put.Failed → HasRisenByOne (faults self.old) (faults self.new) }
-        ensures steady { result ≡ Put.All → faults self.new ≡ faults self.old }
-        ensures later { faults self.old ≤ faults self.new };
+        ensures fault { CountsOneFault (result ≡ Put.Failed) (faults self.old) (faults self.new) };
 
     /// The count is never past 2^64 - 1.
     ghost bounded: { (sink : Self) → IsKept (faults sink) };
@@ -82,10 +79,7 @@ impl MemorySink {
     fn fails_now(&mut self) -> bool
         ensures planned { result ≡ fails_next (plan_of self.old) }
         ensures changed { self.new ≡ record self.old { puts = next_put (plan_of self.old); faults = self.new.faults } }
-        ensures failed { result ≡ true → HasRisen self.old.faults self.new.faults }
-        ensures once { result ≡ true → HasRisenByOne self.old.faults self.new.faults }
-        ensures steady { result ≡ false → self.new.faults ≡ self.old.faults }
-        ensures later { self.old.faults ≤ self.new.faults }
+        ensures fault { CountsOneFault (result ≡ true) self.old.faults self.new.faults }
     {
         self.puts = self.puts.saturating_add(1);
         let fails = self.fails.contains(&self.puts);
@@ -132,10 +126,7 @@ impl Sink for MemorySink {
         ensures next { plan_of self.new ≡ after_put (plan_of self.old) }
         ensures all { result ≡ Put.All → written_in self.new ≡ written_in self.old ++ piece.now }
         ensures prefix { AppendsPrefix (Some (written_in self.old)) (Some (written_in self.new)) piece.now }
-        ensures failed { result ≡ Put.Failed → HasRisen (faults_in self.old) (faults_in self.new) }
-        ensures once { result ≡ Put.Failed → HasRisenByOne (faults_in self.old) (faults_in self.new) }
-        ensures steady { result ≡ Put.All → faults_in self.new ≡ faults_in self.old }
-        ensures later { faults_in self.old ≤ faults_in self.new }
+        ensures fault { CountsOneFault (result ≡ Put.Failed) (faults_in self.old) (faults_in self.new) }
     {
         if self.fails_now() {
             let _ = self.bytes.extend_from_slice(front_of(piece, self.keep));

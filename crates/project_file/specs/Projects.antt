@@ -36,7 +36,6 @@ use Rattle.project_file.specs.Keys.{text_at, whole_at}
 use Rattle.project_file.specs.declared.fault.Place.{Place}
 use Rattle.project_file.specs.declared.fault.ProjectFault.{ProjectFault}
 use Rattle.project_file.specs.declared.fault.ProjectKind.TheVariants.{Text, WrongType, OutOfRange, UnknownKey}
-use Rattle.project_file.specs.declared.settings.Settings.{Settings}
 use Rattle.project_file.specs.declared.Project.{Project}
 
 abbrev pub place : ℕ → ℕ → Place
@@ -115,18 +114,6 @@ some_path bytes = option_map (λ path. Some path) (path_text_of bytes)
 
 abbrev pub cube_in : Members → Result (Option (List ℕ)) ProjectFault
 cube_in ms = optional None (text_at (top 8) some_path) (get_member (codes "cube") ms)
-
-abbrev pub settings_in : Members → Result Settings ProjectFault
-settings_in ms = do
-  title ← title_in ms
-  rate ← rate_in ms
-  width ← width_in ms
-  height ← height_in ms
-  black ← black_in ms
-  bands ← bands_in ms
-  edl ← edl_in ms
-  cube ← cube_in ms
-  Ok (record { title = title; rate = rate; width = width; height = height; black = black; bands = bands; edl = edl; cube = cube })
 
 -- ---- the reels
 
@@ -239,29 +226,33 @@ knows_reels reel (item d ds) = do
 
 -- ---- the whole
 
-abbrev pub project_with : Settings → List ReelEntry → List (List ℕ) → Project
-project_with s reels cuts = record {
-  title = s.title;
-  rate = s.rate;
-  width = s.width;
-  height = s.height;
-  black = s.black;
-  bands = s.bands;
-  edl = s.edl;
-  cube = s.cube;
-  reels = reels;
-  cuts = cuts;
-}
-
 abbrev pub project_of : Members → Result Project ProjectFault
 project_of ms = do
-  settings ← settings_in ms
+  title ← title_in ms
+  rate ← rate_in ms
+  width ← width_in ms
+  height ← height_in ms
+  black ← black_in ms
+  bands ← bands_in ms
+  edl ← edl_in ms
+  cube ← cube_in ms
   items ← reels_in ms
   cuts ← cuts_in ms
-  reels ← reels_from settings.rate 1 items
+  reels ← reels_from rate 1 items
   top_known ← knows_top ms
   reels_known ← knows_reels 1 items
-  Ok (project_with settings reels cuts)
+  Ok (record {
+    title = title;
+    rate = rate;
+    width = width;
+    height = height;
+    black = black;
+    bands = bands;
+    edl = edl;
+    cube = cube;
+    reels = reels;
+    cuts = cuts;
+  })
 
 -- the bytes are the text of this table
 abbrev pub IsRead : List ℕ → Members → Type 0

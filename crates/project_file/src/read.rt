@@ -9,7 +9,9 @@ use crate::Project;
 use crate::cuts::{CutRows, cuts_in};
 use crate::fault::{Place, ProjectFault, ProjectKind};
 use crate::reels::{read_reels, reels_in};
-use crate::settings::settings_in;
+use crate::settings::{
+    bands_in, black_in, cube_in, edl_in, height_in, rate_in, title_in, width_in,
+};
 use crate::unknown::{knows_reels, knows_top};
 use cf_base::{Fail, ReelRows};
 use std::alloc::Global;
@@ -72,21 +74,28 @@ fn project_in(alloc: Global, table: &Table) -> Result<Project, Fail<ProjectFault
     ensures project { Gives result (project_of (table_view table.now)) }
     ensures range { IfOk result IsInRange }
 {
-    let settings = settings_in(table).map_err(Fail::Fault)?;
+    let title = title_in(table).map_err(Fail::Fault)?;
+    let rate = rate_in(table).map_err(Fail::Fault)?;
+    let width = width_in(table).map_err(Fail::Fault)?;
+    let height = height_in(table).map_err(Fail::Fault)?;
+    let black = black_in(table).map_err(Fail::Fault)?;
+    let bands = bands_in(table).map_err(Fail::Fault)?;
+    let edl = edl_in(table).map_err(Fail::Fault)?;
+    let cube = cube_in(table).map_err(Fail::Fault)?;
     let values = reels_in(table).map_err(Fail::Fault)?;
     let cuts = cuts_in(alloc, table)?;
-    let reels = read_reels(alloc, settings.rate, values)?;
+    let reels = read_reels(alloc, rate, values)?;
     knows_top(table).map_err(Fail::Fault)?;
     knows_reels(values).map_err(Fail::Fault)?;
     Ok(Project {
-        title: settings.title,
-        rate: settings.rate,
-        width: settings.width,
-        height: settings.height,
-        black: settings.black,
-        bands: settings.bands,
-        edl: settings.edl,
-        cube: settings.cube,
+        title,
+        rate,
+        width,
+        height,
+        black,
+        bands,
+        edl,
+        cube,
         reels: ReelRows::of(reels),
         cuts: CutRows::of(cuts),
     })

@@ -2,8 +2,8 @@
 ghost use Rattle.std.specs.Prelude.{◌≡◌, ◌≤◌, IfOk, IfSome, option_map};
 ghost use Rattle.toml.specs.View.{items_view, table_view, view};
 ghost use Rattle.toml.specs.Data.{get_member};
-ghost use Rattle.project_file.specs.Projects.{bands_in, black_at, black_in, code_at, cube_in, edl_in, rate_in};
-ghost use Rattle.project_file.specs.Projects.{rate_of, rgb_of, settings_in, title_in};
+ghost use Rattle.project_file.specs.Projects.{bands_in, black_at, black_in, code_at, cube_in, edl_in, height_in, rate_in};
+ghost use Rattle.project_file.specs.Projects.{rate_of, rgb_of, title_in, width_in};
 ghost use Rattle.project_file.specs.Keys.{all_items, is_whole, needed, text_at, whole_at};
 ghost use Rattle.cf_base.specs.Text.{path_text_of};
 
@@ -12,21 +12,8 @@ use crate::keys::{member, number_between, whole_at};
 use cf_base::{PathText, Rate, Rgb, TitleText};
 use toml::{Table, Value};
 
-/// What a project says apart from its reels.
-#[derive(Clone, Copy)]
-pub struct Settings {
-    pub title: TitleText,
-    pub rate: Rate,
-    pub width: u32,
-    pub height: u32,
-    pub black: Rgb,
-    pub bands: u32,
-    pub edl: PathText,
-    pub cube: Option<PathText>,
-}
-
 /// Key 1.
-fn title_in(table: &Table) -> Result<TitleText, ProjectFault>
+pub(crate) fn title_in(table: &Table) -> Result<TitleText, ProjectFault>
     ensures title { result ≡ title_in (table_view table.now) }
 {
     let place = Place::top(1);
@@ -40,7 +27,7 @@ fn title_in(table: &Table) -> Result<TitleText, ProjectFault>
 }
 
 /// Key 2.
-fn rate_in(table: &Table) -> Result<Rate, ProjectFault>
+pub(crate) fn rate_in(table: &Table) -> Result<Rate, ProjectFault>
     ensures rate { result ≡ rate_in (table_view table.now) }
 {
     let place = Place::top(2);
@@ -84,77 +71,24 @@ fn needed_whole(
     whole_at(place, low, high, value)
 }
 
-/// Key 6.
-fn bands_in(table: &Table) -> Result<u32, ProjectFault>
-    ensures bands { result ≡ bands_in (table_view table.now) }
-    ensures range { IfOk result (λ n. (1 ≤ n) × (n ≤ 64)) }
+/// Key 3.
+pub(crate) fn width_in(table: &Table) -> Result<u32, ProjectFault>
+    ensures width { result ≡ width_in (table_view table.now) }
+    ensures range { IfOk result (λ n. (1 ≤ n) × (n ≤ 4096)) }
 {
-    let Some(value) = member(table, "bands") else {
-        return Ok(4);
-    };
-    whole_at(Place::top(6), 1, 64, value)
+    needed_whole(Place::top(3), 1, 4096, table, "width")
 }
 
-/// A text that is a path.
-pub(crate) fn path_at(place: Place, value: &Value) -> Result<PathText, ProjectFault>
-    ensures path { result ≡ text_at place path_text_of (view value.now) }
+/// Key 4.
+pub(crate) fn height_in(table: &Table) -> Result<u32, ProjectFault>
+    ensures height { result ≡ height_in (table_view table.now) }
+    ensures range { IfOk result (λ n. (1 ≤ n) × (n ≤ 4096)) }
 {
-    let Some(text) = value.as_str() else {
-        return Err(place.fault(ProjectKind::WrongType));
-    };
-    PathText::of(text.as_bytes()).ok_or(place.fault(ProjectKind::OutOfRange))
-}
-
-/// Key 7.
-fn edl_in(table: &Table) -> Result<PathText, ProjectFault>
-    ensures edl { result ≡ edl_in (table_view table.now) }
-{
-    let place = Place::top(7);
-    let Some(value) = member(table, "edl") else {
-        return Err(place.fault(ProjectKind::MissingKey));
-    };
-    path_at(place, value)
-}
-
-/// Key 8.
-fn cube_in(table: &Table) -> Result<Option<PathText>, ProjectFault>
-    ensures cube { result ≡ cube_in (table_view table.now) }
-{
-    let Some(value) = member(table, "cube") else {
-        return Ok(None);
-    };
-    path_at(Place::top(8), value).map(Some)
-}
-
-/// The settings, or the first fault of their keys.
-pub(crate) fn settings_in(table: &Table) -> Result<Settings, ProjectFault>
-    ensures settings { result ≡ settings_in (table_view table.now) }
-    ensures width { IfOk result (λ s. (1 ≤ s.width) × (s.width ≤ 4096)) }
-    ensures height { IfOk result (λ s. (1 ≤ s.height) × (s.height ≤ 4096)) }
-    ensures bands { IfOk result (λ s. (1 ≤ s.bands) × (s.bands ≤ 64)) }
-{
-    let title = title_in(table)?;
-    let rate = rate_in(table)?;
-    let width = needed_whole(Place::top(3), 1, 4096, table, "width")?;
-    let height = needed_whole(Place::top(4), 1, 4096, table, "height")?;
-    let black = black_in(table)?;
-    let bands = bands_in(table)?;
-    let edl = edl_in(table)?;
-    let cube = cube_in(table)?;
-    Ok(Settings {
-        title,
-        rate,
-        width,
-        height,
-        black,
-        bands,
-        edl,
-        cube,
-    })
+    needed_whole(Place::top(4), 1, 4096, table, "height")
 }
 
 /// Key 5.
-fn black_in(table: &Table) -> Result<Rgb, ProjectFault>
+pub(crate) fn black_in(table: &Table) -> Result<Rgb, ProjectFault>
     ensures black { result ≡ black_in (table_view table.now) }
 {
     let Some(value) = member(table, "black") else {
@@ -222,4 +156,46 @@ fn code_at(value: &Value) -> Option<u16>
         return None;
     };
     Some(code as u16)
+}
+
+/// Key 6.
+pub(crate) fn bands_in(table: &Table) -> Result<u32, ProjectFault>
+    ensures bands { result ≡ bands_in (table_view table.now) }
+    ensures range { IfOk result (λ n. (1 ≤ n) × (n ≤ 64)) }
+{
+    let Some(value) = member(table, "bands") else {
+        return Ok(4);
+    };
+    whole_at(Place::top(6), 1, 64, value)
+}
+
+/// A text that is a path.
+pub(crate) fn path_at(place: Place, value: &Value) -> Result<PathText, ProjectFault>
+    ensures path { result ≡ text_at place path_text_of (view value.now) }
+{
+    let Some(text) = value.as_str() else {
+        return Err(place.fault(ProjectKind::WrongType));
+    };
+    PathText::of(text.as_bytes()).ok_or(place.fault(ProjectKind::OutOfRange))
+}
+
+/// Key 7.
+pub(crate) fn edl_in(table: &Table) -> Result<PathText, ProjectFault>
+    ensures edl { result ≡ edl_in (table_view table.now) }
+{
+    let place = Place::top(7);
+    let Some(value) = member(table, "edl") else {
+        return Err(place.fault(ProjectKind::MissingKey));
+    };
+    path_at(place, value)
+}
+
+/// Key 8.
+pub(crate) fn cube_in(table: &Table) -> Result<Option<PathText>, ProjectFault>
+    ensures cube { result ≡ cube_in (table_view table.now) }
+{
+    let Some(value) = member(table, "cube") else {
+        return Ok(None);
+    };
+    path_at(Place::top(8), value).map(Some)
 }

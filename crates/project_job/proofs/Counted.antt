@@ -12,7 +12,7 @@ use Rattle.conform_job.specs.Job.{ArePlanned}
 use Rattle.conform_job.specs.declared.parts.JobParts.{JobParts}
 use Rattle.toml.specs.Data.{Data, Items, Members, get_member, item, no_items, table}
 use Rattle.project_file.specs.Keys.{fault, flag_at, needed, optional, text_at, whole_at}
-use Rattle.project_file.specs.Projects.{Means, cuts_in, knows_reels, knows_top, label_number, mode_at, mode_of, place, prefix_of, project_of, reel_at, reel_name_of, reel_of, reels_from, reels_in, settings_in}
+use Rattle.project_file.specs.Projects.{Means, bands_in, black_in, cube_in, cuts_in, edl_in, height_in, knows_reels, knows_top, label_number, mode_at, mode_of, place, prefix_of, project_of, rate_in, reel_at, reel_name_of, reel_of, reels_from, reels_in, title_in, width_in}
 use Rattle.project_file.specs.declared.Project.{Project}
 use Rattle.project_file.specs.declared.fault.ProjectFault.{ProjectFault}
 use Rattle.project_file.specs.declared.fault.ProjectKind.TheVariants.{OutOfRange}
@@ -61,13 +61,20 @@ reels_counted rate reel (item d ds) reels h =
 
 members_counted : (ms : Members) (project : Project) → project_of ms ≡ Ok project → AreCounted project.rate project.reels
 members_counted ms project h =
-    let settings = bind_ok (settings_in ms) _ project h in
-    let items = bind_ok (reels_in ms) _ project settings.2 in
+    let title = bind_ok (title_in ms) _ project h in
+    let rate = bind_ok (rate_in ms) _ project title.2 in
+    let width = bind_ok (width_in ms) _ project rate.2 in
+    let height = bind_ok (height_in ms) _ project width.2 in
+    let black = bind_ok (black_in ms) _ project height.2 in
+    let bands = bind_ok (bands_in ms) _ project black.2 in
+    let edl = bind_ok (edl_in ms) _ project bands.2 in
+    let cube = bind_ok (cube_in ms) _ project edl.2 in
+    let items = bind_ok (reels_in ms) _ project cube.2 in
     let cuts = bind_ok (cuts_in ms) _ project items.2 in
-    let reels = bind_ok (reels_from settings.0.rate 1 items.0) _ project cuts.2 in
+    let reels = bind_ok (reels_from rate.0 1 items.0) _ project cuts.2 in
     let top = bind_ok (knows_top ms) _ project reels.2 in
     let known = bind_ok (knows_reels 1 items.0) _ project top.2 in
-    subst (λ (p : Project). AreCounted p.rate p.reels) (same_ok _ project known.2) (reels_counted settings.0.rate 1 items.0 reels.0 reels.1)
+    subst (λ (p : Project). AreCounted p.rate p.reels) (same_ok _ project known.2) (reels_counted rate.0 1 items.0 reels.0 reels.1)
 
 pub counted_project : (text : List ℕ) (project : Project) → Means text (Ok project) → AreCounted project.rate project.reels
 counted_project text project (inl unread) = no_ok _ project (sym unread.1)

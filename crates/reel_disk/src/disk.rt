@@ -1,6 +1,6 @@
 //! A disk as the layers above see it: what a read answers, what a crash may still change, and each moment so far.
-ghost use Rattle.std.specs.Prelude.{◌≡◌, ◌≢◌, ℕ, Bool, true, List, [], ◌∷◌, length};
-ghost use Rattle.cf_base.specs.Count.{HasCause, HasRisenByOne, IsKept};
+ghost use Rattle.std.specs.Prelude.{◌≡◌, ℕ, Bool, true, List, [], ◌∷◌, length};
+ghost use Rattle.cf_base.specs.Count.{CountsOneFault, IsKept};
 ghost use Rattle.reel_disk.specs.Disk.{History, view_of, HasLength, HasRead, IsStill, IsWithin, HasWrittenWhole, HasWrittenAt, HasSynced, IsInFile};
 ghost use Rattle.reel_disk.specs.Loan.{Loan};
 
@@ -73,9 +73,7 @@ pub trait Disk {
         ensures answer { tells ≡ true → HasLength (view_of (history self.old) id) result }
         ensures time { tells ≡ true → IsStill (history self.old) (history self.new) }
         ensures same { loans self.new ≡ loans self.old }
-        ensures cause { HasCause (faults self.old) (faults self.new) (result ≡ Length.Failed) }
-        ensures once { result ≡ Length.Failed → HasRisenByOne (faults self.old) (faults self.new) }
-        ensures steady { result ≢ Length.Failed → faults self.new ≡ faults self.old };
+        ensures fault { CountsOneFault (result ≡ Length.Failed) (faults self.old) (faults self.new) };
 
     /// Reads a file from byte `start` on, as much as it has there and `into` takes: `Bytes(n)` says how many bytes.
     /// `Absent` exactly where the view has no such file and the call did not fail.
@@ -84,17 +82,13 @@ pub trait Disk {
         ensures answer { tells ≡ true → HasRead (view_of (history self.old) id) start into.new result }
         ensures time { tells ≡ true → IsStill (history self.old) (history self.new) }
         ensures same { loans self.new ≡ loans self.old }
-        ensures cause { HasCause (faults self.old) (faults self.new) (result ≡ Got.Failed) }
-        ensures once { result ≡ Got.Failed → HasRisenByOne (faults self.old) (faults self.new) }
-        ensures steady { result ≢ Got.Failed → faults self.new ≡ faults self.old };
+        ensures fault { CountsOneFault (result ≡ Got.Failed) (faults self.old) (faults self.new) };
 
     /// Gives a file these bytes and no others. Until a sync of the file, a crash may leave anything there.
     fn write_whole(&mut self, id: FileId, bytes: &[u8]) -> Did
         ensures told { tells ≡ true → HasWrittenWhole (history self.old) (history self.new) id bytes.now result }
         ensures same { loans self.new ≡ loans self.old }
-        ensures cause { HasCause (faults self.old) (faults self.new) (result ≡ Did.Failed) }
-        ensures once { result ≡ Did.Failed → HasRisenByOne (faults self.old) (faults self.new) }
-        ensures steady { result ≡ Did.Done → faults self.new ≡ faults self.old };
+        ensures fault { CountsOneFault (result ≡ Did.Failed) (faults self.old) (faults self.new) };
 
     /// Writes over a part of a file that is there, from byte `start` on. Until a sync of the file, a crash may leave any
     /// bytes in this part.
@@ -102,17 +96,13 @@ pub trait Disk {
         requires { tells ≡ true → IsInFile (view_of (history self.old) id) start (length bytes.now) }
         ensures told { tells ≡ true → HasWrittenAt (history self.old) (history self.new) id start bytes.now result }
         ensures same { loans self.new ≡ loans self.old }
-        ensures cause { HasCause (faults self.old) (faults self.new) (result ≡ Did.Failed) }
-        ensures once { result ≡ Did.Failed → HasRisenByOne (faults self.old) (faults self.new) }
-        ensures steady { result ≡ Did.Done → faults self.new ≡ faults self.old };
+        ensures fault { CountsOneFault (result ≡ Did.Failed) (faults self.old) (faults self.new) };
 
     /// After it a crash leaves the file, or its absence, as a read answers it.
     fn sync(&mut self, id: FileId) -> Did
         ensures told { tells ≡ true → HasSynced (history self.old) (history self.new) id result }
         ensures same { loans self.new ≡ loans self.old }
-        ensures cause { HasCause (faults self.old) (faults self.new) (result ≡ Did.Failed) }
-        ensures once { result ≡ Did.Failed → HasRisenByOne (faults self.old) (faults self.new) }
-        ensures steady { result ≡ Did.Done → faults self.new ≡ faults self.old };
+        ensures fault { CountsOneFault (result ≡ Did.Failed) (faults self.old) (faults self.new) };
 
     /// The count is never past 2^64 - 1.
     ghost bounded: { (d : Self) → IsKept (faults d) };

@@ -1,6 +1,6 @@
 //! The folder of a real file system.
 ghost use Rattle.std.specs.Prelude.{◌≡◌, ◌≤◌, length, false, IfOk, ⊤};
-ghost use Rattle.cf_base.specs.Count.{HasCause, HasRisenByOne, kept};
+ghost use Rattle.cf_base.specs.Count.{CountsOneFault, kept};
 
 use crate::names::{LONGEST_NAME, name_of};
 use crate::{Did, Disk, Got, Length};
@@ -198,16 +198,13 @@ impl<R: Files + Drop> FolderDisk<R> {
 
     /// Counts a fault.
     fn fault(&mut self)
-        ensures cause { HasCause self.old.faults self.new.faults ⊤ }
-        ensures once { HasRisenByOne self.old.faults self.new.faults }
+        ensures { CountsOneFault ⊤ self.old.faults self.new.faults }
     {
         self.faults = self.faults.saturating_add(1);
     }
 
     fn done(&mut self, outcome: io::Result<()>) -> Did
-        ensures cause { HasCause self.old.faults self.new.faults (result ≡ Did.Failed) }
-        ensures once { result ≡ Did.Failed → HasRisenByOne self.old.faults self.new.faults }
-        ensures steady { result ≡ Did.Done → self.new.faults ≡ self.old.faults }
+        ensures { CountsOneFault (result ≡ Did.Failed) self.old.faults self.new.faults }
     {
         match outcome {
             Ok(()) => Did::Done,

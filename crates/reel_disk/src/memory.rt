@@ -1,6 +1,6 @@
 //! A disk in memory, whose calls fail by number.
-ghost use Rattle.std.specs.Prelude.{◌≡◌, ◌≢◌, ◌↔◌, true, false, length, IfOk, ⊤};
-ghost use Rattle.cf_base.specs.Count.{HasCause, HasRisenByOne};
+ghost use Rattle.std.specs.Prelude.{◌≡◌, ◌↔◌, true, false, length, IfOk, ⊤};
+ghost use Rattle.cf_base.specs.Count.{CountsOneFault};
 ghost use Rattle.cf_base.specs.declared.file.FileId.{FileId};
 ghost use Rattle.reel_disk.specs.Crash.{IsCrash};
 ghost use Rattle.reel_disk.specs.Disk.{view_of, moment_of, HasLength, HasRead, IsStill, IsWithin, HasWrittenWhole, HasWrittenAt, HasSynced, IsInFile, IsImage, IsNewDisk};
@@ -127,9 +127,7 @@ impl MemoryDisk {
         ensures fails { result ≡ fails_at (script_in self.old) (next_call self.old) }
         ensures next { IsNextCall self.old self.new }
         ensures store { self.new.store ≡ self.old.store }
-        ensures cause { HasCause self.old.faults self.new.faults (result ≡ true) }
-        ensures once { result ≡ true → HasRisenByOne self.old.faults self.new.faults }
-        ensures steady { result ≡ false → self.new.faults ≡ self.old.faults }
+        ensures fault { CountsOneFault (result ≡ true) self.old.faults self.new.faults }
     {
         self.calls = self.calls.saturating_add(1);
         let fails = self.fails.contains(&self.calls) || has_stopped(self.stop, self.calls);
@@ -143,8 +141,7 @@ impl MemoryDisk {
         ensures store { self.new.store ≡ self.old.store }
         ensures calls { self.new.calls ≡ self.old.calls }
         ensures script { script_in self.new ≡ script_in self.old }
-        ensures cause { HasCause self.old.faults self.new.faults ⊤ }
-        ensures once { HasRisenByOne self.old.faults self.new.faults }
+        ensures fault { CountsOneFault ⊤ self.old.faults self.new.faults }
     {
         self.faults = self.faults.saturating_add(1);
     }
@@ -166,9 +163,7 @@ impl Disk for MemoryDisk {
     fn length(&mut self, id: FileId) -> Length
         ensures answer { HasLength (view_of (history_in self.old) id) result }
         ensures time { IsStill (history_in self.old) (history_in self.new) }
-        ensures cause { HasCause (faults_in self.old) (faults_in self.new) (result ≡ Length.Failed) }
-        ensures once { result ≡ Length.Failed → HasRisenByOne (faults_in self.old) (faults_in self.new) }
-        ensures steady { result ≢ Length.Failed → faults_in self.new ≡ faults_in self.old }
+        ensures fault { CountsOneFault (result ≡ Length.Failed) (faults_in self.old) (faults_in self.new) }
         ensures next { IsNextCall self.old self.new }
         ensures fails { (result ≡ Length.Failed) ↔ (fails_at (script_in self.old) (next_call self.old) ≡ true) }
     {
@@ -185,9 +180,7 @@ impl Disk for MemoryDisk {
         ensures bound { IsWithin (length into.old) result }
         ensures answer { HasRead (view_of (history_in self.old) id) start into.new result }
         ensures time { IsStill (history_in self.old) (history_in self.new) }
-        ensures cause { HasCause (faults_in self.old) (faults_in self.new) (result ≡ Got.Failed) }
-        ensures once { result ≡ Got.Failed → HasRisenByOne (faults_in self.old) (faults_in self.new) }
-        ensures steady { result ≢ Got.Failed → faults_in self.new ≡ faults_in self.old }
+        ensures fault { CountsOneFault (result ≡ Got.Failed) (faults_in self.old) (faults_in self.new) }
         ensures next { IsNextCall self.old self.new }
         ensures fails { (result ≡ Got.Failed) ↔ (fails_at (script_in self.old) (next_call self.old) ≡ true) }
     {
@@ -202,9 +195,7 @@ impl Disk for MemoryDisk {
 
     fn write_whole(&mut self, id: FileId, bytes: &[u8]) -> Did
         ensures told { HasWrittenWhole (history_in self.old) (history_in self.new) id bytes.now result }
-        ensures cause { HasCause (faults_in self.old) (faults_in self.new) (result ≡ Did.Failed) }
-        ensures once { result ≡ Did.Failed → HasRisenByOne (faults_in self.old) (faults_in self.new) }
-        ensures steady { result ≡ Did.Done → faults_in self.new ≡ faults_in self.old }
+        ensures fault { CountsOneFault (result ≡ Did.Failed) (faults_in self.old) (faults_in self.new) }
         ensures next { IsNextCall self.old self.new }
         ensures fails { fails_at (script_in self.old) (next_call self.old) ≡ true → result ≡ Did.Failed }
         ensures kept { result ≡ Did.Failed → (q : FileId) → view_of (history_in self.new) q ≡ view_of (history_in self.old) q }
@@ -225,9 +216,7 @@ impl Disk for MemoryDisk {
     fn write_at(&mut self, id: FileId, start: u64, bytes: &[u8]) -> Did
         requires { IsInFile (view_of (history_in self.old) id) start (length bytes.now) }
         ensures told { HasWrittenAt (history_in self.old) (history_in self.new) id start bytes.now result }
-        ensures cause { HasCause (faults_in self.old) (faults_in self.new) (result ≡ Did.Failed) }
-        ensures once { result ≡ Did.Failed → HasRisenByOne (faults_in self.old) (faults_in self.new) }
-        ensures steady { result ≡ Did.Done → faults_in self.new ≡ faults_in self.old }
+        ensures fault { CountsOneFault (result ≡ Did.Failed) (faults_in self.old) (faults_in self.new) }
         ensures next { IsNextCall self.old self.new }
         ensures fails { fails_at (script_in self.old) (next_call self.old) ≡ true → result ≡ Did.Failed }
         ensures kept { result ≡ Did.Failed → (q : FileId) → view_of (history_in self.new) q ≡ view_of (history_in self.old) q }
@@ -248,9 +237,7 @@ impl Disk for MemoryDisk {
 
     fn sync(&mut self, id: FileId) -> Did
         ensures told { HasSynced (history_in self.old) (history_in self.new) id result }
-        ensures cause { HasCause (faults_in self.old) (faults_in self.new) (result ≡ Did.Failed) }
-        ensures once { result ≡ Did.Failed → HasRisenByOne (faults_in self.old) (faults_in self.new) }
-        ensures steady { result ≡ Did.Done → faults_in self.new ≡ faults_in self.old }
+        ensures fault { CountsOneFault (result ≡ Did.Failed) (faults_in self.old) (faults_in self.new) }
         ensures next { IsNextCall self.old self.new }
         ensures fails { fails_at (script_in self.old) (next_call self.old) ≡ true → result ≡ Did.Failed }
         ensures kept { result ≡ Did.Failed → IsStill (history_in self.old) (history_in self.new) }

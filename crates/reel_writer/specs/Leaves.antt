@@ -2,7 +2,7 @@
 -- project's own rule.
 use Rattle.std.specs.Prelude.{◌≡◌, ℕ, List}
 use Rattle.reel_disk.specs.Loan.{Loan}
-use Rattle.scan_source.specs.Leaves.{CountsFaults}
+use Rattle.cf_base.specs.Count.{CountsFaults}
 
 -- The disk is lent as it was.
 pub record LeavesDisk {D : Type 0} (faults : D → ℕ) (loans : D → List Loan) (Failed : Type 0) (before after : D) : Type 0 where

@@ -1,6 +1,6 @@
 //! Source files in memory.
-ghost use Rattle.std.specs.Prelude.{◌≡◌, ◌≤◌, ◌↔◌, Some, None, IsTrue, IsFalse, MatchOption, Contains, is_some};
-ghost use Rattle.cf_base.specs.Count.{HasRisen, HasRisenByOne, kept};
+ghost use Rattle.std.specs.Prelude.{◌≡◌, ◌↔◌, Some, None, IsTrue, MatchOption, Contains, is_some};
+ghost use Rattle.cf_base.specs.Count.{CountsOneFault, kept};
 ghost use Rattle.scan_source.specs.Memory.{memory_of, world_in};
 ghost use Rattle.scan_source.specs.Plan.{one_more};
 ghost use Rattle.scan_source.specs.World.{file_at};
@@ -50,10 +50,7 @@ impl MemoryScans {
     fn fails_now(&mut self) -> bool
         ensures planned { IsTrue result ↔ Contains self.old.fails.items (one_more self.old.calls) }
         ensures changed { self.new ≡ record self.old { calls = one_more self.old.calls; faults = self.new.faults } }
-        ensures failed { IsTrue result → HasRisen self.old.faults self.new.faults }
-        ensures once { IsTrue result → HasRisenByOne self.old.faults self.new.faults }
-        ensures steady { IsFalse result → self.new.faults ≡ self.old.faults }
-        ensures later { self.old.faults ≤ self.new.faults }
+        ensures fault { CountsOneFault (IsTrue result) self.old.faults self.new.faults }
     {
         self.calls = self.calls.saturating_add(1);
         let fails = self.fails.contains(&self.calls);

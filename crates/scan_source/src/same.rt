@@ -1,6 +1,6 @@
 //! Texts in memory, and one head for all other files.
-ghost use Rattle.std.specs.Prelude.{◌≡◌, ◌≢◌, ◌≤◌, None};
-ghost use Rattle.cf_base.specs.Count.{HasRisen, HasRisenByOne, kept};
+ghost use Rattle.std.specs.Prelude.{◌≡◌, None};
+ghost use Rattle.cf_base.specs.Count.{CountsOneFault, kept};
 ghost use Rattle.scan_source.specs.Answers.{Fills};
 ghost use Rattle.scan_source.specs.Memory.{memory_of};
 ghost use Rattle.scan_source.specs.Plan.{one_more};
@@ -58,10 +58,7 @@ impl Scans for SameScans {
         ensures next { same_of self.new ≡ next_same path.now (same_of self.old) }
         ensures fills { Fills result most into.new.items }
 
-        ensures failed { result ≡ Loaded.Failed → HasRisen (faults_in self.old) (faults_in self.new) }
-        ensures once { result ≡ Loaded.Failed → HasRisenByOne (faults_in self.old) (faults_in self.new) }
-        ensures steady { result ≢ Loaded.Failed → faults_in self.new ≡ faults_in self.old }
-        ensures later { faults_in self.old ≤ faults_in self.new }
+        ensures fault { CountsOneFault (result ≡ Loaded.Failed) (faults_in self.old) (faults_in self.new) }
 
         ensures loads { ⟦<SameScans as Scans>⟧.loads self.new ≡ one_more (⟦<SameScans as Scans>⟧.loads self.old) }
         ensures heads { ⟦<SameScans as Scans>⟧.heads self.new ≡ ⟦<SameScans as Scans>⟧.heads self.old }
@@ -78,10 +75,7 @@ impl Scans for SameScans {
         ensures answer { HasLookedSame (same_of self.old) path.now result into.new }
         ensures next { same_of self.new ≡ next_same path.now (same_of self.old) }
 
-        ensures failed { result ≡ Head.Failed → HasRisen (faults_in self.old) (faults_in self.new) }
-        ensures once { result ≡ Head.Failed → HasRisenByOne (faults_in self.old) (faults_in self.new) }
-        ensures steady { result ≢ Head.Failed → faults_in self.new ≡ faults_in self.old }
-        ensures later { faults_in self.old ≤ faults_in self.new }
+        ensures fault { CountsOneFault (result ≡ Head.Failed) (faults_in self.old) (faults_in self.new) }
 
         ensures heads { ⟦<SameScans as Scans>⟧.heads self.new ≡ one_more (⟦<SameScans as Scans>⟧.heads self.old) }
         ensures loads { ⟦<SameScans as Scans>⟧.loads self.new ≡ ⟦<SameScans as Scans>⟧.loads self.old }

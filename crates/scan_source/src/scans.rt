@@ -1,6 +1,6 @@
 //! What reads source files.
-ghost use Rattle.std.specs.Prelude.{◌≡◌, ◌≢◌, ◌≤◌, ℕ, Option, None, IfSome};
-ghost use Rattle.cf_base.specs.Count.{HasRisen, HasRisenByOne, IsKept};
+ghost use Rattle.std.specs.Prelude.{◌≡◌, ℕ, Option, None, IfSome};
+ghost use Rattle.cf_base.specs.Count.{CountsOneFault, IsKept};
 ghost use Rattle.scan_source.specs.Answers.{IsLoaded, Fills, IsHead};
 ghost use Rattle.scan_source.specs.Plan.{Plan, one_more};
 ghost use Rattle.scan_source.specs.Planned.{FollowsIfTold};
@@ -59,10 +59,7 @@ pub trait Scans: Drop {
         ensures told { IfSome (world self.old) (λ files. IsLoaded result (file_at files path.now) most into.new.items) }
         ensures fills { Fills result most into.new.items }
 
-        ensures failed { result ≡ Loaded.Failed → HasRisen (faults self.old) (faults self.new) }
-        ensures once { result ≡ Loaded.Failed → HasRisenByOne (faults self.old) (faults self.new) }
-        ensures steady { result ≢ Loaded.Failed → faults self.new ≡ faults self.old }
-        ensures later { faults self.old ≤ faults self.new }
+        ensures fault { CountsOneFault (result ≡ Loaded.Failed) (faults self.old) (faults self.new) }
         ensures plan { FollowsIfTold (plan self.old) (plan self.new) (result ≡ Loaded.Failed) }
 
         ensures loads { loads self.new ≡ one_more (loads self.old) }
@@ -75,10 +72,7 @@ pub trait Scans: Drop {
     fn head(&mut self, path: &PathText, into: &mut [u8; 2048]) -> Head
         ensures told { IfSome (world self.old) (λ files. IsHead result (file_at files path.now) into.new) }
 
-        ensures failed { result ≡ Head.Failed → HasRisen (faults self.old) (faults self.new) }
-        ensures once { result ≡ Head.Failed → HasRisenByOne (faults self.old) (faults self.new) }
-        ensures steady { result ≢ Head.Failed → faults self.new ≡ faults self.old }
-        ensures later { faults self.old ≤ faults self.new }
+        ensures fault { CountsOneFault (result ≡ Head.Failed) (faults self.old) (faults self.new) }
         ensures plan { FollowsIfTold (plan self.old) (plan self.new) (result ≡ Head.Failed) }
 
         ensures heads { heads self.new ≡ one_more (heads self.old) }

@@ -1,6 +1,6 @@
 //! Source files in memory that change between two calls.
-ghost use Rattle.std.specs.Prelude.{◌≡◌, ◌≢◌, ◌≤◌, None};
-ghost use Rattle.cf_base.specs.Count.{HasRisen, HasRisenByOne, kept};
+ghost use Rattle.std.specs.Prelude.{◌≡◌, None};
+ghost use Rattle.cf_base.specs.Count.{CountsOneFault, kept};
 ghost use Rattle.scan_source.specs.Answers.{Fills};
 ghost use Rattle.scan_source.specs.Memory.{memory_of, HasLoaded, HasLooked};
 ghost use Rattle.scan_source.specs.Plan.{one_more};
@@ -69,10 +69,7 @@ impl Scans for TurningScans {
         ensures next { turning_of self.new ≡ next_turning (turning_of self.old) }
         ensures fills { Fills result most into.new.items }
 
-        ensures failed { result ≡ Loaded.Failed → HasRisen (faults_in self.old) (faults_in self.new) }
-        ensures once { result ≡ Loaded.Failed → HasRisenByOne (faults_in self.old) (faults_in self.new) }
-        ensures steady { result ≢ Loaded.Failed → faults_in self.new ≡ faults_in self.old }
-        ensures later { faults_in self.old ≤ faults_in self.new }
+        ensures fault { CountsOneFault (result ≡ Loaded.Failed) (faults_in self.old) (faults_in self.new) }
 
         ensures loads { ⟦<TurningScans as Scans>⟧.loads self.new ≡ one_more (⟦<TurningScans as Scans>⟧.loads self.old) }
         ensures heads { ⟦<TurningScans as Scans>⟧.heads self.new ≡ ⟦<TurningScans as Scans>⟧.heads self.old }
@@ -89,10 +86,7 @@ impl Scans for TurningScans {
         ensures answer { HasLooked (serving (turning_of self.old)) path.now result into.new }
         ensures next { turning_of self.new ≡ next_turning (turning_of self.old) }
 
-        ensures failed { result ≡ Head.Failed → HasRisen (faults_in self.old) (faults_in self.new) }
-        ensures once { result ≡ Head.Failed → HasRisenByOne (faults_in self.old) (faults_in self.new) }
-        ensures steady { result ≢ Head.Failed → faults_in self.new ≡ faults_in self.old }
-        ensures later { faults_in self.old ≤ faults_in self.new }
+        ensures fault { CountsOneFault (result ≡ Head.Failed) (faults_in self.old) (faults_in self.new) }
 
         ensures heads { ⟦<TurningScans as Scans>⟧.heads self.new ≡ one_more (⟦<TurningScans as Scans>⟧.heads self.old) }
         ensures loads { ⟦<TurningScans as Scans>⟧.loads self.new ≡ ⟦<TurningScans as Scans>⟧.loads self.old }

@@ -4,5 +4,5 @@ use Rattle.project_file.proofs.read.project_in.Goals as goal
 
 pub returns-in_err-values-clause-project : goal.returns-in_err-values-clause-project
 returns-in_err-values-clause-project c =
-    let refused : c.map_err-2.result ≡ Err c.in_err-values.field-0.0 = c.in_err-values.was in
+    let refused : c.map_err-9.result ≡ Err c.in_err-values.field-0.0 = c.in_err-values.was in
     search rules

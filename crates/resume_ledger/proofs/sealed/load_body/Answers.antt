@@ -9,7 +9,7 @@ use Rattle.resume_ledger.proofs.Wholes.{whole_front}
 use Rattle.resume_ledger.proofs.sealed.load_body.Goals as goal
 
 pub returns-in_default-read-clause-cause : goal.returns-in_default-read-clause-cause
-returns-in_default-read-clause-cause g c = record { later = omega (arith, c.length.ensures.cause.later, c.read.ensures.cause.later); failed = λ bad. cc }
+returns-in_default-read-clause-cause g c = record { later = omega (arith, c.length.ensures.fault.counts.cause.later, c.read.ensures.fault.counts.cause.later); failed = λ bad. cc }
 
 -- the whole file was read
 pub returns-in-Bytes-clause-body : goal.returns-in-Bytes-clause-body

@@ -2,8 +2,5 @@
 use Rattle.std.proofs.Common.{arith}
 use Rattle.reel_disk.proofs.memory.MemoryDisk.fault.Goals as goal
 
-pub returns-clause-cause : goal.returns-clause-cause
-returns-clause-cause c = record { later = omega arith; failed = λ _. omega arith }
-
-pub returns-clause-once : goal.returns-clause-once
-returns-clause-once c = omega arith
+pub returns-clause-fault : goal.returns-clause-fault
+returns-clause-fault c = record { counts = record { cause = record { later = omega arith; failed = λ _. omega arith }; steady = λ never. absurd (never tt) }; once = λ _. omega arith }

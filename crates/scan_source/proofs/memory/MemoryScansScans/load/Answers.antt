@@ -1,13 +1,13 @@
 -- A file that isn't there is no failure.
-use Rattle.std.proofs.Common.{rules}
+use Rattle.std.proofs.Common.{arith, rules}
 use Rattle.std.proofs.lemmas.Bool.{false≢true}
 use Rattle.scan_source.proofs.memory.MemoryScansScans.load.Goals as goal
 
-pub returns-in_default-clause-failed : goal.returns-in_default-clause-failed
-returns-in_default-clause-failed c same = absurd (cc)
-
-pub returns-in_default-clause-once : goal.returns-in_default-clause-once
-returns-in_default-clause-once c same = absurd (cc)
+pub returns-in_default-clause-fault : goal.returns-in_default-clause-fault
+returns-in_default-clause-fault c = record {
+  counts = record { cause = record { later = omega (arith, c.fails_now.ensures.fault.counts.cause.later); failed = λ same. absurd (cc) }; steady = search rules };
+  once = λ same. absurd (cc);
+}
 
 pub returns-in_default-clause-plan : goal.returns-in_default-clause-plan
 returns-in_default-clause-plan c = record {
