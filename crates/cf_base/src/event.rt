@@ -1,8 +1,7 @@
 //! The events of an edit decision list (CMX 3600).
 ghost use Rattle.std.specs.Prelude.{◌≡◌};
 
-use crate::{Mode, Name};
-use std::marker::Model;
+use crate::{Items, Mode, Name};
 
 /// How an event comes in. A duration `d` is in record frames.
 #[derive(Clone, Copy, Debug, PartialEq, Eq)]
@@ -46,36 +45,8 @@ impl EventRec {
     }
 }
 
-/// The events of a list, in its order. Contracts see the list of them.
-#[derive(Drop)]
-pub struct EventRows {
-    rows: Vec<EventRec>,
-}
-
-impl Model for EventRows {
-    ghost use Rattle.std.specs.Prelude.{List};
-    ghost use Rattle.cf_base.specs.declared.event.EventRec.{EventRec};
-
-    ghost Value = { List EventRec };
-
-    ghost view = { λ a. a.rows.items };
-}
-
-impl EventRows {
-    /// Of a vector.
-    pub fn of(items: Vec<EventRec>) -> Self
-        ensures { result ≡ items.items }
-    {
-        EventRows { rows: items }
-    }
-
-    /// The events.
-    pub fn items(&self) -> &[EventRec]
-        ensures { result.now ≡ self.now }
-    {
-        &self.rows
-    }
-}
+/// The events of a list, in its order.
+pub type EventRows = Items<EventRec>;
 
 /// An edit list: the mode of its record labels, and its picture lines in list order.
 #[derive(Drop)]

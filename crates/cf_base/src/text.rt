@@ -7,7 +7,7 @@ use crate::inline::Inline;
 use std::marker::Model;
 
 /// The path of a file, relative to the current folder: 1 to 255 bytes from 20 to 7E hexadecimal.
-#[derive(Clone, Copy, Debug, PartialEq, Eq)]
+#[derive(Clone, Copy, Debug, PartialEq, Eq, PartialOrd, Ord)]
 pub struct PathText {
     text: Inline<255>,
 }
@@ -102,7 +102,7 @@ impl TitleText {
 }
 
 /// The name of a reel: 1 to 64 bytes from 21 to 7E hexadecimal.
-#[derive(Clone, Copy, Debug, PartialEq, Eq)]
+#[derive(Clone, Copy, Debug, PartialEq, Eq, PartialOrd, Ord)]
 pub struct Name {
     text: Inline<64>,
 }

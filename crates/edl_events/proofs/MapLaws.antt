@@ -11,7 +11,6 @@ use Rattle.std.specs.Ordering.{is_eq, nat_cmp, ordering_then}
 use Rattle.std.specs.Cmp.Lexicographic.{slice_cmp}
 use Rattle.std.proofs.lemmas.Bool.Decides.{nat_tests}
 use Rattle.std.proofs.lemmas.Map.Text.{is_eq-slice_cmp}
-use Rattle.edl_events.specs.declared.table.ReelKey.{ReelKey}
 use Rattle.edl_events.specs.declared.table.Count.{Count}
 use Rattle.edl_events.specs.Table.{goes_on, reel_cmp, seat_cmp, no_count, count_of, place_of, with_line, with_place}
 
@@ -28,16 +27,16 @@ count_by true c o = refl
 count_by false c o = refl
 
 -- the counts with those of one reel set
-pub count_set : (m n : BTreeMap ReelKey Count) (reel : List ℕ) (c : Count) → Updates reel_cmp m n (record { 0 = reel }) (Some c) → (q : List ℕ) → count_of n q ≡ cond (bytes_eq reel q) c (count_of m q)
+pub count_set : (m n : BTreeMap (List ℕ) Count) (reel : List ℕ) (c : Count) → Updates reel_cmp m n reel (Some c) → (q : List ℕ) → count_of n q ≡ cond (bytes_eq reel q) c (count_of m q)
 count_set m n reel c u q =
-    ap (λ (o : Option Count). unwrap_or o no_count) (u.0 (record { 0 = q }))
-    ∙ ap (λ (b : Bool). unwrap_or (cond b (Some c) (get reel_cmp m (record { 0 = q }))) no_count) (is_eq-slice_cmp reel q)
-    ∙ count_by (bytes_eq reel q) c (get reel_cmp m (record { 0 = q }))
+    ap (λ (o : Option Count). unwrap_or o no_count) (u.0 q)
+    ∙ ap (λ (b : Bool). unwrap_or (cond b (Some c) (get reel_cmp m q)) no_count) (is_eq-slice_cmp reel q)
+    ∙ count_by (bytes_eq reel q) c (get reel_cmp m q)
 
 -- the places with one more
-pub place_set : (m n : BTreeMap (ReelKey × ℕ) ℕ) (reel : List ℕ) (k place : ℕ) → Updates seat_cmp m n (record { 0 = reel }, k) (Some place) → (q : List ℕ) (nth : ℕ) → place_of n q nth ≡ cond (bytes_eq reel q && eqb k nth) (Some place) (place_of m q nth)
+pub place_set : (m n : BTreeMap (List ℕ × ℕ) ℕ) (reel : List ℕ) (k place : ℕ) → Updates seat_cmp m n (reel, k) (Some place) → (q : List ℕ) (nth : ℕ) → place_of n q nth ≡ cond (bytes_eq reel q && eqb k nth) (Some place) (place_of m q nth)
 place_set m n reel k place u q nth =
-    u.0 (record { 0 = q }, nth)
+    u.0 (q, nth)
     ∙ ap (λ (b : Bool). cond b (Some place) (place_of m q nth)) (both_equal (slice_cmp nat_cmp reel q) (nat_cmp k nth) ∙ rw (is_eq-slice_cmp reel q, same_number k nth) refl)
 
 -- counts and places that agree with others before a line agree with them behind it

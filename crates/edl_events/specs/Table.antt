@@ -10,29 +10,28 @@ use Rattle.std.specs.List.{filter, last_or}
 use Rattle.std.specs.Str.{bytes_eq}
 use Rattle.std.specs.BTreeMap.{BTreeMap, get}
 use Rattle.std.specs.declared.cmp.Ordering.{Ordering}
-use Rattle.std.specs.Ordering.{on, nat_cmp, ordering_then}
+use Rattle.std.specs.Ordering.{nat_cmp, ordering_then}
 use Rattle.std.specs.Cmp.Lexicographic.{slice_cmp}
-use Rattle.edl_events.specs.declared.table.ReelKey.{ReelKey}
 use Rattle.edl_events.specs.declared.table.Count.{Count}
 use Rattle.edl_events.specs.declared.table.Table.{Table}
 use Rattle.edl_events.specs.Places.{Line, is_event, passes_at, places}
 use Rattle.edl_events.specs.Motion.{has_reel, motions_from, number_at, run_after}
 
 -- reels in the order of their bytes
-abbrev pub reel_cmp : ReelKey → ReelKey → Ordering
-reel_cmp = on (λ (key : ReelKey). key.0) (slice_cmp nat_cmp)
+abbrev pub reel_cmp : List ℕ → List ℕ → Ordering
+reel_cmp = slice_cmp nat_cmp
 
-abbrev pub seat_cmp : ReelKey × ℕ → ReelKey × ℕ → Ordering
+abbrev pub seat_cmp : List ℕ × ℕ → List ℕ × ℕ → Ordering
 seat_cmp x y = ordering_then (reel_cmp x.0 y.0) (nat_cmp x.1 y.1)
 
 abbrev pub no_count : Count
 no_count = record { lines = 0; moved = 0 }
 
-abbrev pub count_of : BTreeMap ReelKey Count → List ℕ → Count
-count_of counts reel = unwrap_or (get reel_cmp counts (record { 0 = reel })) no_count
+abbrev pub count_of : BTreeMap (List ℕ) Count → List ℕ → Count
+count_of counts reel = unwrap_or (get reel_cmp counts reel) no_count
 
-abbrev pub place_of : BTreeMap (ReelKey × ℕ) ℕ → List ℕ → ℕ → Option ℕ
-place_of places reel nth = get seat_cmp places (record { 0 = reel }, nth)
+abbrev pub place_of : BTreeMap (List ℕ × ℕ) ℕ → List ℕ → ℕ → Option ℕ
+place_of places reel nth = get seat_cmp places (reel, nth)
 
 -- the number of the last event line
 abbrev pub run_number : List Line → Option ℕ

@@ -6,69 +6,7 @@ ghost use Rattle.edl_events.specs.Table.{count_of, place_of, HasCounts, HasPlace
 
 use cf_base::Name;
 use std::alloc::AllocError;
-use std::cmp::Ordering;
 use std::collections::BTreeMap;
-
-/// The name of a reel as a key, in the order of its bytes.
-#[derive(Clone, Copy)]
-pub struct ReelKey(pub Name);
-
-impl PartialEq for ReelKey {
-    ghost use Rattle.std.specs.Prelude.{nat_eq};
-    ghost use Rattle.std.specs.Cmp.{partial_equiv_from_equiv};
-    ghost use Rattle.std.specs.Cmp.Lexicographic.{pointwise};
-    ghost use Rattle.std.specs.Ordering.{on};
-    ghost use Rattle.std.proofs.lemmas.Cmp.{on_equiv, nat_list_eq_equiv};
-
-    ghost eq = { on (λ key. key.0) (pointwise nat_eq) };
-
-    ghost laws = { partial_equiv_from_equiv (on_equiv (λ key. key.0) nat_list_eq_equiv) };
-
-    fn eq(&self, other: &ReelKey) -> bool {
-        self.0.bytes() == other.0.bytes()
-    }
-}
-
-impl Eq for ReelKey {
-    ghost use Rattle.std.proofs.lemmas.Cmp.{on_equiv, nat_list_eq_equiv};
-
-    ghost laws = { on_equiv (λ key. key.0) nat_list_eq_equiv };
-}
-
-impl PartialOrd for ReelKey {
-    ghost use Rattle.std.proofs.Common.{rules};
-    ghost use Rattle.std.specs.Cmp.{partial_order_from_own_ties};
-    ghost use Rattle.std.specs.Cmp.Rules.{comparing};
-    ghost use Rattle.std.specs.Cmp.Lexicographic.{slice_cmp};
-    ghost use Rattle.std.specs.Ordering.{on, nat_cmp, as_partial_cmp};
-
-    ghost partial_cmp = { as_partial_cmp (on (λ key. key.0) (slice_cmp nat_cmp)) };
-
-    ghost laws = { partial_order_from_own_ties (Prim.search (comparing, rules)) (Prim.search (comparing, rules)) };
-
-    fn partial_cmp(&self, other: &ReelKey) -> Option<Ordering> {
-        Some(self.cmp(other))
-    }
-}
-
-impl Ord for ReelKey {
-    ghost use Rattle.std.proofs.Common.{rules};
-    ghost use Rattle.std.specs.Cmp.Rules.{comparing};
-    ghost use Rattle.std.specs.Cmp.Lexicographic.{slice_cmp};
-    ghost use Rattle.std.specs.Ordering.{on, nat_cmp};
-
-    ghost cmp = { on (λ key. key.0) (slice_cmp nat_cmp) };
-
-    ghost total = { Prim.search (comparing, rules) };
-
-    ghost matches_partial_cmp = { Prim.search (comparing, rules) };
-
-    ghost matches_eq = { Prim.search (comparing, rules) };
-
-    fn cmp(&self, other: &ReelKey) -> Ordering {
-        self.0.bytes().cmp(other.0.bytes())
-    }
-}
 
 /// How many event lines, and how many motion lines, of a reel stand in the run.
 #[derive(Clone, Copy)]
@@ -85,9 +23,9 @@ pub struct Table {
     /// Their number, once an event line has come.
     pub number: Option<u32>,
     /// How often each reel stands in the run, and has moved since the run's first line.
-    pub counts: BTreeMap<ReelKey, Count>,
+    pub counts: BTreeMap<Name, Count>,
     /// The place of each line of the run, by its reel and by how many lines of that reel stand before it in the run.
-    pub places: BTreeMap<(ReelKey, u32), u32>,
+    pub places: BTreeMap<(Name, u32), u32>,
 }
 
 impl Table {
@@ -96,7 +34,7 @@ impl Table {
         ensures count { result ≡ count_of self.now.counts reel.now }
     {
         self.counts
-            .get(&ReelKey(*reel))
+            .get(reel)
             .copied()
             .unwrap_or(Count { lines: 0, moved: 0 })
     }
@@ -106,7 +44,7 @@ impl Table {
         ensures owner { result ≡ place_of self.now.places reel.now (count_of self.now.counts reel.now).moved }
     {
         let moved = self.count_of(reel).moved;
-        self.places.get(&(ReelKey(*reel), moved)).copied()
+        self.places.get(&(*reel, moved)).copied()
     }
 
     /// A motion line of the reel stands behind the run.
@@ -121,7 +59,7 @@ impl Table {
             lines,
             moved: moved.saturating_add(1),
         };
-        self.counts.insert(ReelKey(*reel), count)?;
+        self.counts.insert(*reel, count)?;
         Ok(())
     }
 
@@ -156,13 +94,13 @@ impl Table {
         ensures places { OnOk result (HasPlaces self.new (more_places self.old place reel.now)) }
     {
         let Count { lines, moved } = self.count_of(reel);
-        self.places.insert((ReelKey(*reel), lines), place)?;
+        self.places.insert((*reel, lines), place)?;
         // A text has far too few lines for the count to stop.
         let count = Count {
             lines: lines.saturating_add(1),
             moved,
         };
-        self.counts.insert(ReelKey(*reel), count)?;
+        self.counts.insert(*reel, count)?;
         Ok(())
     }
 }

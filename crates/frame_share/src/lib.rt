@@ -5,14 +5,12 @@
 mod laws;
 mod place;
 mod share;
-mod share_log;
 mod step;
 mod ticket;
 mod units;
 
 pub use laws::share_laws;
 pub use share::{Ask, Placed, Share};
-pub use share_log::ShareLog;
-pub use step::ShareStep;
+pub use step::{ShareLog, ShareStep};
 pub use ticket::Ticket;
 pub use units::Units;

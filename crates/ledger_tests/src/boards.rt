@@ -95,7 +95,7 @@ fn a_run_without_a_stop_takes_each_free_frame_once(rt: HostRuntime) {
         },
     ];
     assert!(rt; board.history() == steps.as_slice());
-    assert!(rt; board.into_history().steps() == steps.as_slice());
+    assert!(rt; board.into_history().items() == steps.as_slice());
     board_laws();
 }
 
@@ -127,7 +127,7 @@ fn after_a_stop_none_is_claimed_and_others_may_finish(rt: HostRuntime) {
     assert!(rt; stop(&mut board, 0, Why::Disk));
     assert!(rt; !stop(&mut board, 0, Why::Memory));
     assert!(rt;
-        board.into_history().steps()
+        board.into_history().items()
             == [
                 Step::Claim {
                     worker: 1,

@@ -17,7 +17,7 @@ pub fn pull_of(alloc: Global, job: &Job, list: &PullList) -> Result<Vec<u8>, All
     ensures { IfOk result (λ text. text.items ≡ pull_of job.now.parts.project.rate job.now.parts.reels list.now) }
 {
     let entries = job.reels().entries();
-    let ranges = list.ranges();
+    let ranges = list.items();
     let mut text = Vec::new(alloc);
     for range in ranges {
         put_range(&mut text, job.rate(), entries, range)?;

@@ -7,41 +7,12 @@ ghost use Rattle.project_file.specs.Projects.{cut_texts_at, cuts_at, cuts_in, pa
 use crate::fault::{Place, ProjectFault, ProjectKind};
 use crate::keys::member;
 use crate::settings::path_at;
-use cf_base::{Fail, PathText};
+use cf_base::{Fail, Items, PathText};
 use std::alloc::Global;
-use std::marker::Model;
 use toml::{Table, Value};
 
-/// The cuts of a project, in its order: each is the text of the record label with which a further reel begins. Contracts see
-/// the list of them.
-#[derive(Drop)]
-pub struct CutRows {
-    rows: Vec<PathText>,
-}
-
-impl Model for CutRows {
-    ghost use Rattle.std.specs.Prelude.{ℕ, List};
-
-    ghost Value = { List (List ℕ) };
-
-    ghost view = { λ a. a.rows.items };
-}
-
-impl CutRows {
-    /// Of a vector. Takes no memory.
-    pub fn of(items: Vec<PathText>) -> CutRows
-        ensures { result ≡ items.items }
-    {
-        CutRows { rows: items }
-    }
-
-    /// The cuts. Takes no memory.
-    pub fn items(&self) -> &[PathText]
-        ensures { result.now ≡ self.now }
-    {
-        &self.rows
-    }
-}
+/// The cuts of a project, in its order: each is the text of the record label with which a further reel begins.
+pub type CutRows = Items<PathText>;
 
 /// Key 16: the cuts, none where there is no list.
 pub(crate) fn cuts_in(alloc: Global, table: &Table) -> Result<Vec<PathText>, Fail<ProjectFault>>

@@ -3,9 +3,8 @@ ghost use Rattle.std.specs.Prelude.{◌≡◌, ◌+◌, ◌≤◌, ◌<◌, None
 ghost use Rattle.source_reels.specs.Reels.{reels_fault};
 ghost use Rattle.pull_list.specs.Spans.{HasKey, IsSpan, place_of, span_at, span_in};
 
-use cf_base::{Key, ReelEntry};
+use cf_base::{Items, Key, ReelEntry};
 use source_reels::reel_laws;
-use std::marker::Model;
 
 /// Source frames of one reel.
 #[derive(Clone, Copy, Debug, PartialEq, Eq)]
@@ -18,36 +17,8 @@ pub struct PullRange {
     pub end: u32,
 }
 
-/// Ranges in the order of the project's reels and then of their starts. Contracts see the list of them.
-#[derive(Drop)]
-pub struct PullList {
-    ranges: Vec<PullRange>,
-}
-
-impl Model for PullList {
-    ghost use Rattle.std.specs.Prelude.{List};
-    ghost use Rattle.pull_list.specs.declared.range.PullRange.{PullRange};
-
-    ghost Value = { List PullRange };
-
-    ghost view = { λ l. l.ranges.items };
-}
-
-impl PullList {
-    /// Of a vector.
-    pub(crate) fn of(ranges: Vec<PullRange>) -> PullList
-        ensures { result ≡ ranges.items }
-    {
-        PullList { ranges }
-    }
-
-    /// The ranges, in order. Takes no memory.
-    pub fn ranges(&self) -> &[PullRange]
-        ensures { result.now ≡ self.now }
-    {
-        &self.ranges
-    }
-}
+/// Ranges in the order of the project's reels and then of their starts.
+pub type PullList = Items<PullRange>;
 
 /// The frames of a reel that are at most `margin` away from one of its frames.
 pub fn span_at(entries: &[ReelEntry], key: Key, margin: u32) -> PullRange

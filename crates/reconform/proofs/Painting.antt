@@ -39,7 +39,7 @@ use Rattle.reconform.specs.Plan.{key_path, path_of_side, side_by, one_by, plan_o
 -- a side's words, by its path
 plan_words : Files → PlanSide → Option (List ℕ)
 plan_words files plan_side.Black = None
-plan_words files (plan_side.Frame path) = Some (words_of_file (files path.0))
+plan_words files (plan_side.Frame path) = Some (words_of_file (files path))
 
 has_path : (entries : List ReelEntry) (place : Option ℕ) (source : ℤ) (key : Key) → key_at entries source place ≡ Some key → IsSome (path_of_key entries key)
 has_path entries None source key h = absurd (none-some key h)
@@ -73,7 +73,7 @@ transition_by w h (Some code) k d x y old new = if is_incoming code x y w h k d 
 -- what a plan shows at a pixel
 plan_colour : (w h : ℕ) → List ℕ → Files → FramePlan → (x y : ℕ) → List ℕ
 plan_colour w h black files Solid x y = black
-plan_colour w h black files (One path) x y = colour_by w black (Some (words_of_file (files path.0))) x y
+plan_colour w h black files (One path) x y = colour_by w black (Some (words_of_file (files path))) x y
 plan_colour w h black files (Two old new wipe k d) x y = transition_by w h wipe k d x y (colour_by w black (plan_words files old) x y) (colour_by w black (plan_words files new) x y)
 
 -- the picture of a plan

@@ -11,7 +11,6 @@ use Rattle.std.specs.declared.cmp.Ordering.TheVariants.{Less, Equal, Greater}
 use Rattle.std.specs.Cmp.Lexicographic.{slice_cmp}
 use Rattle.std.proofs.lemmas.Map.Lookups.{exact_unsigned, exact_bytes}
 use Rattle.std.proofs.lemmas.Map.Text.{is_eq-slice_cmp}
-use Rattle.reconform.specs.declared.plan.SourcePath.{SourcePath}
 use Rattle.reconform.specs.declared.plan.PlanSide.{PlanSide}
 use Rattle.reconform.specs.declared.plan.PlanSide.TheVariants.{Black, Frame}
 use Rattle.reconform.specs.contracts.plan.PlanSideOrd.TheImpl.{cmp-value}
@@ -32,8 +31,8 @@ both Less s h = absurd (false≢true h)
 both Equal s h = (refl, h)
 both Greater s h = absurd (false≢true h)
 
-same_path : (a b : SourcePath) → is_eq (slice_cmp nat_cmp a.0 b.0) ≡ true → a ≡ b
-same_path a b h = ap (λ (p : List ℕ). record { 0 = p }) (exact_bytes a.0 b.0 (tied (slice_cmp nat_cmp a.0 b.0) h))
+same_path : (a b : List ℕ) → is_eq (slice_cmp nat_cmp a b) ≡ true → a ≡ b
+same_path a b h = exact_bytes a b (tied (slice_cmp nat_cmp a b) h)
 
 same_number : (a b : ℕ) → is_eq (nat_cmp a b) ≡ true → a ≡ b
 same_number a b h = exact_unsigned a b (tied (nat_cmp a b) h)
@@ -82,7 +81,7 @@ self_number n = grind (arith, nat_tests)
 
 self_side : (a : PlanSide) → is_eq (side_cmp a a) ≡ true
 self_side Black = refl
-self_side (Frame p) = self_path p.0
+self_side (Frame p) = self_path p
 
 self_wipe : (a : Option ℕ) → is_eq (option_cmp nat_cmp a a) ≡ true
 self_wipe None = refl
@@ -91,7 +90,7 @@ self_wipe (Some n) = self_number n
 -- each plan ties with itself
 pub self_plan : (a : FramePlan) → is_eq (plan_cmp a a) ≡ true
 self_plan Solid = refl
-self_plan (One p) = self_path p.0
+self_plan (One p) = self_path p
 self_plan (Two o n t k d) =
     joined (side_cmp o o) _ (self_side o)
     (joined (side_cmp n n) _ (self_side n)

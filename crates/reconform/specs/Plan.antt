@@ -31,12 +31,12 @@ path_of_side job (side.Frame event source) =
 
 abbrev pub side_by : Option (List ℕ) → PlanSide
 side_by None = plan_side.Black
-side_by (Some path) = plan_side.Frame (record { 0 = path })
+side_by (Some path) = plan_side.Frame path
 
 -- a lone black side is a frame of black
 abbrev pub one_by : Option (List ℕ) → FramePlan
 one_by None = Solid
-one_by (Some path) = One (record { 0 = path })
+one_by (Some path) = One path
 
 -- A transition without its duration: a dissolve has no code. A cut shows the new side alone.
 abbrev pub two_by : (old new : Option (List ℕ)) → Transition → (k d : ℕ) → FramePlan

@@ -9,4 +9,4 @@ mod intact;
 mod plan;
 
 pub use adopting::{AdoptFault, Adopted, adopt};
-pub use plan::{FramePlan, PlanSide, SourcePath, are_alike, plan_at, plan_laws};
+pub use plan::{FramePlan, PlanSide, are_alike, plan_at, plan_laws};

@@ -10,76 +10,14 @@ use cf_base::{Key, PathText, Rgb, Transition};
 use conform_job::Job;
 use dpx_header::FrameInfo;
 use record_timeline::Shot;
-use std::cmp::Ordering;
-
-/// The path of a source frame's file, in the order of its bytes.
-#[derive(Clone, Copy)]
-pub struct SourcePath(pub PathText);
-
-impl PartialEq for SourcePath {
-    ghost use Rattle.std.specs.Prelude.{nat_eq};
-    ghost use Rattle.std.specs.Cmp.{partial_equiv_from_equiv};
-    ghost use Rattle.std.specs.Cmp.Lexicographic.{pointwise};
-    ghost use Rattle.std.specs.Ordering.{on};
-    ghost use Rattle.std.proofs.lemmas.Cmp.{on_equiv, nat_list_eq_equiv};
-
-    ghost eq = { on (λ path. path.0) (pointwise nat_eq) };
-
-    ghost laws = { partial_equiv_from_equiv (on_equiv (λ path. path.0) nat_list_eq_equiv) };
-
-    fn eq(&self, other: &SourcePath) -> bool {
-        self.0.bytes() == other.0.bytes()
-    }
-}
-
-impl Eq for SourcePath {
-    ghost use Rattle.std.proofs.lemmas.Cmp.{on_equiv, nat_list_eq_equiv};
-
-    ghost laws = { on_equiv (λ path. path.0) nat_list_eq_equiv };
-}
-
-impl PartialOrd for SourcePath {
-    ghost use Rattle.std.proofs.Common.{rules};
-    ghost use Rattle.std.specs.Cmp.{partial_order_from_own_ties};
-    ghost use Rattle.std.specs.Cmp.Rules.{comparing};
-    ghost use Rattle.std.specs.Cmp.Lexicographic.{slice_cmp};
-    ghost use Rattle.std.specs.Ordering.{on, nat_cmp, as_partial_cmp};
-
-    ghost partial_cmp = { as_partial_cmp (on (λ path. path.0) (slice_cmp nat_cmp)) };
-
-    ghost laws = { partial_order_from_own_ties (Prim.search (comparing, rules)) (Prim.search (comparing, rules)) };
-
-    fn partial_cmp(&self, other: &SourcePath) -> Option<Ordering> {
-        Some(self.cmp(other))
-    }
-}
-
-impl Ord for SourcePath {
-    ghost use Rattle.std.proofs.Common.{rules};
-    ghost use Rattle.std.specs.Cmp.Rules.{comparing};
-    ghost use Rattle.std.specs.Cmp.Lexicographic.{slice_cmp};
-    ghost use Rattle.std.specs.Ordering.{on, nat_cmp};
-
-    ghost cmp = { on (λ path. path.0) (slice_cmp nat_cmp) };
-
-    ghost total = { Prim.search (comparing, rules) };
-
-    ghost matches_partial_cmp = { Prim.search (comparing, rules) };
-
-    ghost matches_eq = { Prim.search (comparing, rules) };
-
-    fn cmp(&self, other: &SourcePath) -> Ordering {
-        self.0.bytes().cmp(other.0.bytes())
-    }
-}
 
 /// A side of a frame.
 #[derive(Clone, Copy, PartialEq, Eq, PartialOrd, Ord)]
 pub enum PlanSide {
     /// Black, or a gap.
     Black,
-    /// A source frame.
-    Frame(SourcePath),
+    /// The source frame of this file.
+    Frame(PathText),
 }
 
 /// What a frame shows.
@@ -87,8 +25,8 @@ pub enum PlanSide {
 pub enum FramePlan {
     /// Black alone: a gap, or one side that is black.
     Solid,
-    /// One source frame.
-    One(SourcePath),
+    /// One source frame, of this file.
+    One(PathText),
     /// Frame `k`, from 0, of a transition of `d` frames from the old side to the new one: the wipe of that code, or else a
     /// dissolve.
     Two {
@@ -191,7 +129,7 @@ fn one_side(path: Option<PathText>) -> FramePlan
     ensures { result ≡ one_by path }
 {
     match path {
-        Some(path) => FramePlan::One(SourcePath(path)),
+        Some(path) => FramePlan::One(path),
         None => FramePlan::Solid,
     }
 }
@@ -225,7 +163,7 @@ fn side_of(path: Option<PathText>) -> PlanSide
     ensures { result ≡ side_by path }
 {
     match path {
-        Some(path) => PlanSide::Frame(SourcePath(path)),
+        Some(path) => PlanSide::Frame(path),
         None => PlanSide::Black,
     }
 }

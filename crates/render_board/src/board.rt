@@ -4,8 +4,7 @@ ghost use Rattle.render_board.specs.declared.board.Turn.TheVariants as turns;
 ghost use Rattle.render_board.specs.Board.{IsLegal, turn_of, claim_of, least_free, after_claim, with_step};
 ghost use Rattle.render_board.specs.Inside.{IsLeastFree};
 
-use crate::history::History;
-use crate::step::{Step, Why};
+use crate::step::{History, Step, Why};
 use cf_base::{Fail, Never};
 use std::alloc::Global;
 use std::marker::Model;

@@ -1,5 +1,5 @@
 //! The steps of a run.
-use cf_base::Key;
+use cf_base::{Items, Key};
 use dpx_header::FrameInfo;
 use source_reels::Seen;
 
@@ -33,3 +33,6 @@ pub enum Step {
     /// It does no more, and the frame that it holds stays claimed.
     Stop { worker: u16, why: Why },
 }
+
+/// What is left of a run: its steps, in order.
+pub type History = Items<Step>;

@@ -81,7 +81,7 @@ fn workers_load_beside_one_another_and_leave_the_reel(rt: HostRuntime) {
             "{workers} workers"
         );
         assert!(rt;
-            history.expect(&rt, "steps").steps().len() == 48,
+            history.expect(&rt, "steps").items().len() == 48,
             "{workers} workers"
         );
         assert!(rt; scans.len() == usize::from(workers));
