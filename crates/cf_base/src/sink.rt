@@ -1,14 +1,15 @@
 //! Where the output of a command goes.
 ghost use Rattle.std.specs.Prelude.{◌≡◌, ℕ, true, List, [], ◌++◌, take, Option, Some, IfOk};
 ghost use Rattle.cf_base.specs.Count.{CountsOneFault, IsKept, kept};
-ghost use Rattle.std.specs.Io.KnownBytes.{Appends};
+ghost use Rattle.std.specs.Io.{WritesAtMost};
+ghost use Rattle.std.specs.Io.KnownBytes.{Appends, WriteAppends};
 ghost use Rattle.cf_base.specs.MemorySink.{plan_of, written_in, faults_in, next_put, fails_next, after_put, IsPut};
 ghost use Rattle.cf_base.specs.Sink.{AppendsPrefix};
 ghost use Rattle.cf_base.specs.declared.sink.Put.TheVariants.{All, Failed};
 
 use crate::{Fail, Never};
 use std::alloc::Global;
-use std::io::Write;
+use std::io::{self, ErrorKind, Write};
 
 /// What a put did.
 #[derive(Clone, Copy, Debug, PartialEq, Eq)]
@@ -142,11 +143,14 @@ impl Sink for MemorySink {
     }
 }
 
-/// A sink over a writer. It tells what its writer tells, and counts a write that takes nothing as a fault.
+/// A sink over a writer. It tells what its writer tells, and counts a write that takes nothing as a fault. A write that is
+/// interrupted is tried again.
 #[derive(Drop)]
 pub struct StreamSink<W: Write> {
     writer: W,
     faults: u64,
+    /// Why the first write failed that did.
+    trouble: Option<io::Error>,
 }
 
 impl<W: Write> StreamSink<W> {
@@ -155,7 +159,11 @@ impl<W: Write> StreamSink<W> {
         ensures written { ⟦<StreamSink<W> as Sink>⟧.written result ≡ W.contents writer }
         ensures faults { ⟦<StreamSink<W> as Sink>⟧.faults result ≡ 0 }
     {
-        StreamSink { writer, faults: 0 }
+        StreamSink {
+            writer,
+            faults: 0,
+            trouble: None,
+        }
     }
 
     /// The writer, with what was put into it.
@@ -163,6 +171,33 @@ impl<W: Write> StreamSink<W> {
         ensures { W.contents result ≡ ⟦<StreamSink<W> as Sink>⟧.written self }
     {
         self.writer
+    }
+
+    /// Why the first write failed that did; none, if all were done.
+    pub fn trouble(&self) -> Option<io::Error> {
+        self.trouble
+    }
+}
+
+/// One write, which is tried again if it is interrupted.
+fn write_some<W: Write>(writer: &mut W, piece: &[u8]) -> io::Result<usize>
+    ensures bound { WritesAtMost result piece.now }
+    ensures bytes { WriteAppends (W.contents writer.old) (W.contents writer.new) result piece.now }
+{
+    for _ in 0..u64::MAX {
+        match writer.write(piece) {
+            Err(error) if error.kind() == ErrorKind::Interrupted => {}
+            answer => return answer,
+        }
+    }
+    Err(io::Error::from(ErrorKind::Interrupted))
+}
+
+/// Why a write didn't go on: it failed, or took nothing.
+fn why_ended(outcome: io::Result<usize>) -> io::Error {
+    match outcome {
+        Ok(_) => io::Error::from(ErrorKind::WriteZero),
+        Err(error) => error,
     }
 }
 
@@ -178,10 +213,11 @@ impl<W: Write> Sink for StreamSink<W> {
     fn put(&mut self, piece: &[u8]) -> Put {
         let mut taken = 0;
         while taken < piece.len() {
-            match self.writer.write(&piece[taken..]) {
+            match write_some(&mut self.writer, &piece[taken..]) {
                 Ok(more) if more > 0 => taken += more,
-                _ => {
+                outcome => {
                     self.faults = self.faults.saturating_add(1);
+                    self.trouble = self.trouble.or(Some(why_ended(outcome)));
                     return Put::Failed;
                 }
             }

@@ -1,12 +1,12 @@
-//! The conform station's command line: the words after the program's name, scans and a reel folder below the current folder,
+//! The conform station's command line: the words after the program's name, scans and two folders below the current folder,
 //! standard output, the counts of the quality table and the tone of the contact sheet are handed to the top call, whose outcome
-//! is the status.
+//! is the status. Standard error says the cause of what failed.
 #![tactic(auto)]
 
 use cf_base::{Put, Sink, StreamSink};
 use conform_tool::{Ended, conform};
 use outcome_line::{Outcome, plain_line};
-use outside::{Outside, arguments, outside_of};
+use outside::{Outside, arguments, outside_of, places_of, tell_cause};
 use reel_qc::{Probe, ProbeKind, Tone, high, low, square, square_table, sum};
 use std::alloc::{AllocError, Global};
 use std::io;
@@ -21,13 +21,14 @@ fn main(rt: HostRuntime) -> ExitCode {
     let Ok(words) = words_of(alloc, &owned) else {
         return without_memory(&mut out);
     };
+    let places = places_of(&words);
     let Ok(
         Outside {
             scans,
             disk,
             mut old,
         },
-    ) = outside_of(&rt)
+    ) = outside_of(&rt, &places)
     else {
         return without_memory(&mut out);
     };
@@ -39,11 +40,23 @@ fn main(rt: HostRuntime) -> ExitCode {
     let tone = Tone::new(square_table(), square);
     let Ended {
         outcome,
-        scans: _,
-        disk: _,
+        scans,
+        disk,
     } = conform(
-        &rt, alloc, &words, scans, disk, &mut old, &mut out, &probes, &tone,
+        &rt,
+        alloc,
+        &words[places.taken..],
+        scans,
+        disk,
+        &mut old,
+        &mut out,
+        &probes,
+        &tone,
     );
+    tell_cause(&rt, &outcome, &scans, &disk, &old);
+    if let Some(error) = out.trouble() {
+        let _ = eprintln!(rt; "conform: standard output: write: {error}");
+    }
     ExitCode::from(outcome.status())
 }
 

@@ -36,17 +36,14 @@ fn is_written(rt: &HostRuntime, disk: &mut Folder, id: FileId, path: &str) -> bo
     }
 }
 
-/// A folder at this path.
-fn folder_at(rt: &HostRuntime, path: &str) -> Option<Folder> {
-    Some(FolderDisk::new(rt.clone().ok()?, PathText::of(path.as_bytes())?))
-}
-
 #[test]
 fn a_folder_names_its_files_and_reads_from_any_place(rt: HostRuntime) {
     let folder = format!(in rt.alloc(); "/tmp/conform_tests_{}", process::id(rt.process()))
         .ok()
         .expect(&rt, "a path");
-    let mut disk = folder_at(&rt, &folder).expect(&rt, "a folder");
+    let path = PathText::of(folder.as_bytes()).expect(&rt, "a path");
+    let own = rt.clone().ok().expect(&rt, "a runtime");
+    let mut disk = FolderDisk::new(own, path);
     assert!(rt; has_no_file(&mut disk, 1000, 0) && has_no_file(&mut disk, 0, 10_000_000));
     assert!(rt; from(&mut disk, FileId::Body, 0).is_none());
     let last = FileId::Frame {

@@ -1,10 +1,16 @@
-//! What the program is handed of the outside: its words, scans over the files of the system, and the two folders.
+//! What the program is handed of the outside: its words, scans over the files of the system, and the two folders; and what it
+//! says on standard error of a call on them that failed.
 #![tactic(auto)]
+
+mod causes;
+mod places;
 
 ghost use Rattle.std.specs.Prelude.{◌≡◌, vec_len, IfOk};
 
+pub use causes::tell_cause;
 use cf_base::PathText;
-use reel_disk::{Disk, FolderDisk};
+pub use places::{Places, places_of};
+use reel_disk::{Disk, FolderDisk, LockFiles};
 use scan_source::FileScans;
 use std::alloc::AllocError;
 use std::rt::Runtime;
@@ -13,14 +19,14 @@ use std::{env, io};
 /// How many scans a call is handed.
 const SCANS: usize = 16;
 
-/// The reel folder, in the current folder.
+/// The reel folder, in the current folder, if the words name no other.
 const FOLDER: &[u8] = b"conform.out";
 
-/// The folder of an old reel, which `adopt` reads.
+/// The folder of an old reel, which `adopt` reads, if the words name no other.
 const OLD_FOLDER: &[u8] = b"conform.old";
 
 /// What a call is handed of the outside, beside its words and where its output goes.
-pub struct Outside<R: Runtime> {
+pub struct Outside<R: Runtime + LockFiles> {
     /// 16 scans over the files of the system, below the current folder.
     pub scans: Vec<FileScans<R>>,
     /// The reel folder, before the first call on it.
@@ -29,17 +35,20 @@ pub struct Outside<R: Runtime> {
     pub old: FolderDisk<R>,
 }
 
-/// The files of the system, and the two folders before the first call on them. It makes no call on any of them, and fails where
-/// memory is missing.
-pub fn outside_of<R: Runtime + AllocGlobal>(rt: &R) -> Result<Outside<R>, AllocError>
+/// The files of the system, and the two folders before the first call on them: those that the words name, or `conform.out` and
+/// `conform.old`. It makes no call on any of them, and fails if memory is missing.
+pub fn outside_of<R: Runtime + LockFiles + AllocGlobal>(
+    rt: &R,
+    places: &Places,
+) -> Result<Outside<R>, AllocError>
     ensures scans { IfOk result (λ outside. vec_len outside.scans ≡ 16) }
     ensures disk { IfOk result (λ outside. ⟦<FolderDisk<R> as Disk>⟧.faults outside.disk ≡ 0) }
 {
     let (reel, old) = folder_names();
     Ok(Outside {
         scans: scans_over(rt)?,
-        disk: folder_at(rt, reel)?,
-        old: folder_at(rt, old)?,
+        disk: folder_at(rt, places.into.unwrap_or(reel))?,
+        old: folder_at(rt, places.from.unwrap_or(old))?,
     })
 }
 
@@ -70,7 +79,7 @@ fn scans_over<R: Runtime + AllocGlobal>(rt: &R) -> Result<Vec<FileScans<R>>, All
     Ok(scans)
 }
 
-/// The names of the two folders: that of the reel, and that of an old one.
+/// The names of the two folders where the words name none: that of the reel, and that of an old one.
 fn folder_names() -> (PathText, PathText) {
     let Some(reel) = PathText::of(FOLDER) else {
         unreachable!()
@@ -82,7 +91,7 @@ fn folder_names() -> (PathText, PathText) {
 }
 
 /// The folder of that name in the current folder, before the first call on it.
-fn folder_at<R: Runtime>(rt: &R, name: PathText) -> Result<FolderDisk<R>, AllocError>
+fn folder_at<R: Runtime + LockFiles>(rt: &R, name: PathText) -> Result<FolderDisk<R>, AllocError>
     ensures { IfOk result (λ disk. ⟦<FolderDisk<R> as Disk>⟧.faults disk ≡ 0) }
 {
     Ok(FolderDisk::new(rt.clone()?, name))

@@ -5,12 +5,18 @@
 mod crash;
 mod disk;
 mod folder;
+mod lock;
 mod memory;
 mod names;
+mod paths;
+mod plain;
+mod reel_files;
 mod start;
 mod store;
 
 pub use disk::{Did, Disk, DiskFault, Got, Length, Place};
 pub use folder::FolderDisk;
+pub use lock::LockFiles;
 pub use memory::MemoryDisk;
+pub use reel_files::Lacks;
 pub use start::Start;
