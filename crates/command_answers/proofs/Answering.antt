@@ -18,8 +18,11 @@ use Rattle.project_run.specs.Look.{HasFound, HasSeen, IsLookReply, outcome_of_fa
 use Rattle.project_run.specs.Sheet.{HasSheet}
 use Rattle.project_run.specs.Quality.{IsCounted}
 use Rattle.project_run.specs.Calls.{DiskState, IsRefusal}
+use Rattle.frame_range.specs.declared.range.Extent.{Extent}
+use Rattle.frame_range.specs.declared.range.FrameRange.{FrameRange}
 use Rattle.project_run.specs.Run.{IsJobRun, IsRunReply, IsUnplanned}
 use Rattle.project_run.specs.Status.{IsStatus}
+use Rattle.project_run.specs.Sums.{AreSums}
 use Rattle.project_run.specs.Verify.{IsChecked}
 use Rattle.conform_job.specs.Job.{JobData}
 use Rattle.reel_disk.specs.Disk.{view_of}
@@ -92,8 +95,8 @@ none_instead : (told : Option World) (path : List ℕ) (disk disk_after : DiskSt
     → IsUnplanned told path disk disk_after loads loads_after reached → IsUnplanned told path disk disk_after loads loads_after outcomes.NoMemory
 none_instead told path disk disk_after loads loads_after reached none = record { why = told_any told (λ world. tt); kind = tt; untouched = none.untouched; texts = none.texts; refused = λ refusal same. absurd (cc) }
 
-ran_instead : {share : ℕ} (job : JobData) (told : Option World) (disk disk_after : DiskState) (loads loads_after : ℕ) (reached : Outcome) (output : List ℕ)
-    → IsJobRun job share told loads loads_after disk disk_after reached output → IsJobRun job share told loads loads_after disk disk_after outcomes.NoMemory (line_of outcomes.NoMemory)
+ran_instead : {extent : Extent} {range : FrameRange} {share : ℕ} (job : JobData) (told : Option World) (disk disk_after : DiskState) (loads loads_after : ℕ) (reached : Outcome) (output : List ℕ)
+    → IsJobRun job extent range share told loads loads_after disk disk_after reached output → IsJobRun job extent range share told loads loads_after disk disk_after outcomes.NoMemory (line_of outcomes.NoMemory)
 ran_instead job told disk disk_after loads loads_after reached output ran = record {
   how = ran.how;
   report = ran.report;
@@ -106,8 +109,8 @@ ran_instead job told disk disk_after loads loads_after reached output ran = reco
   changed = ran.changed;
 }
 
-run_instead : {share : ℕ} (told : Option World) (path : List ℕ) (disk disk_after : DiskState) (loads loads_after : ℕ) (reached : Outcome) (output : List ℕ)
-    → IsRunReply path share told loads loads_after disk disk_after reached output → IsRunReply path share told loads loads_after disk disk_after outcomes.NoMemory (line_of outcomes.NoMemory)
+run_instead : {extent : Extent} {share : ℕ} (told : Option World) (path : List ℕ) (disk disk_after : DiskState) (loads loads_after : ℕ) (reached : Outcome) (output : List ℕ)
+    → IsRunReply path extent share told loads loads_after disk disk_after reached output → IsRunReply path extent share told loads loads_after disk disk_after outcomes.NoMemory (line_of outcomes.NoMemory)
 run_instead told path disk disk_after loads loads_after reached output (inl has) = inl (record {
   job = has.job;
   comes = has.comes;
@@ -160,6 +163,9 @@ check_instead job view disk reached output checked = record {
   form = λ same. absurd (cc);
   intact = λ tells world sound frame kept found same. absurd (cc);
 }
+
+sums_instead : (job : JobData) (view : ViewState) (output : List ℕ) → AreSums job view outcomes.NoMemory output
+sums_instead job view output = record { kind = inr refl; form = λ same. absurd (cc) }
 
 count_instead : (kinds : List ProbeKind) (job : JobData) (view : ViewState) (disk : DiskState) (output : List ℕ) → IsCounted kinds job view disk outcomes.NoMemory output
 count_instead kinds job view disk output = record { kind = tt; form = λ same. absurd (cc); sound = λ same. absurd (cc); known = λ same. absurd (cc) }
@@ -261,11 +267,13 @@ folder_instead : (house : House) (command : Command) (before after : ScanState) 
 folder_instead house (commands.Frame path) before after folders folders_after reached output uses = uses
 folder_instead house (commands.List path rate) before after folders folders_after reached output uses = uses
 folder_instead house (commands.Plan path) before after folders folders_after reached output uses = uses
-folder_instead house (commands.Run path workers share) before after folders folders_after reached output uses = run_instead before.world path folders.reel folders_after.reel before.loads after.loads reached output uses
+folder_instead house (commands.Run path extent workers share) before after folders folders_after reached output uses = run_instead before.world path folders.reel folders_after.reel before.loads after.loads reached output uses
 folder_instead house (commands.Status path) before after folders folders_after reached output uses =
     look_instead _ _ before.world path folders.reel folders_after.reel before.loads after.loads reached (λ job status. status_instead job folders.reel folders_after.reel reached output status) uses
 folder_instead house (commands.Verify path) before after folders folders_after reached output uses =
     look_instead _ _ before.world path folders.reel folders_after.reel before.loads after.loads reached (λ job seen. seen_instead _ _ job folders.reel folders_after.reel reached (λ view checked. check_instead job view folders.reel reached output checked) seen) uses
+folder_instead house (commands.Sums path) before after folders folders_after reached output uses =
+    look_instead _ _ before.world path folders.reel folders_after.reel before.loads after.loads reached (λ job seen. seen_instead _ _ job folders.reel folders_after.reel reached (λ view sums. sums_instead job view _) seen) uses
 folder_instead house (commands.Qc path) before after folders folders_after reached output uses =
     look_instead _ _ before.world path folders.reel folders_after.reel before.loads after.loads reached (λ job seen. seen_instead _ _ job folders.reel folders_after.reel reached (λ view counted. count_instead house.kinds job view folders.reel _) seen) uses
 folder_instead house (commands.Sheet path) before after folders folders_after reached output uses =

@@ -29,6 +29,8 @@ use Rattle.frame_fetch.specs.declared.run_end.RunEnd.TheVariants as ends
 use Rattle.project_job.specs.Jobs.{ComesTo, HasPlanned, IsOfJob}
 use Rattle.project_job.specs.Laws.{OneJob}
 use Rattle.project_run.specs.Calls.{DiskState}
+use Rattle.frame_range.specs.declared.range.Extent.{Extent}
+use Rattle.frame_range.specs.declared.range.FrameRange.{FrameRange}
 use Rattle.project_run.specs.Run.{IsJobRun, IsOfRun, IsRunReply, outcome_of_end}
 use Rattle.project_adopt.specs.Adopt.{GoesOn, IsAdoption, IsAdoptReply, IsRest, IsUnadopted}
 use Rattle.project_adopt.specs.Adopt as adopted
@@ -41,6 +43,7 @@ use Rattle.project_run.specs.Quality.{IsQcReply}
 use Rattle.project_run.specs.Sheet.{IsSheetReply}
 use Rattle.project_run.specs.Status.{IsStatusReply, outcome_of_peek}
 use Rattle.reel_qc.specs.declared.probe.ProbeKind.{ProbeKind}
+use Rattle.project_run.specs.Sums.{IsSumsReply}
 use Rattle.project_run.specs.Verify.{IsChecked, IsVerifyReply, outcome_of_check}
 use Rattle.demo_job.specs.Files.{project_path}
 use Rattle.demo_run.specs.Demo.{demo_world}
@@ -182,8 +185,8 @@ by_end reels how reached is (inl done) = inl (is ∙ ap (outcome_of_end reels) d
 by_end reels how reached is (inr memory) = inr (is ∙ ap (outcome_of_end reels) memory)
 
 -- a run in a folder that is fit for its job
-ran_complete : {share : ℕ} (world : World) (told : Option World) → told ≡ Some world → (job : JobData) (disk disk_after : DiskState) (loads loads_after : ℕ) (reached : Outcome) (output : List ℕ) → disk.tells ≡ true → IsFit job.parts.digest (frames_of job) (view_of disk.history)
-    → IsJobRun job share told loads loads_after disk disk_after reached output → reached ≢ outcomes.SourceFault → reached ≢ outcomes.DiskFault → IsThrough reached
+ran_complete : {extent : Extent} {range : FrameRange} {share : ℕ} (world : World) (told : Option World) → told ≡ Some world → (job : JobData) (disk disk_after : DiskState) (loads loads_after : ℕ) (reached : Outcome) (output : List ℕ) → disk.tells ≡ true → IsFit job.parts.digest (frames_of job) (view_of disk.history)
+    → IsJobRun job extent range share told loads loads_after disk disk_after reached output → reached ≢ outcomes.SourceFault → reached ≢ outcomes.DiskFault → IsThrough reached
 ran_complete world told is job disk disk_after loads loads_after reached output tells fit ran no_source no_disk = elim ran.reply.reached_is [
   | inl reached_is ↦
       let reels = job.parts.reels in
@@ -202,7 +205,7 @@ module _ (laws : OneJob) (world : World) (path : List ℕ) (disk : DiskState) (p
   fit_for job comes = subst (λ parts. IsFit parts.digest (frame_count parts.timeline.events) (view_of disk.history))
       (laws.one (file_at world) path place.job.parts job.parts place.comes (at_world told world (λ files. ComesTo (file_at files) path (Ok job.parts)) is comes)) place.fit
 
-  run_complete : {share : ℕ} (disk_after : DiskState) (loads loads_after : ℕ) (reached : Outcome) (output : List ℕ) → IsRunReply path share told loads loads_after disk disk_after reached output
+  run_complete : {extent : Extent} {share : ℕ} (disk_after : DiskState) (loads loads_after : ℕ) (reached : Outcome) (output : List ℕ) → IsRunReply path extent share told loads loads_after disk disk_after reached output
       → reached ≢ outcomes.SourceFault → reached ≢ outcomes.DiskFault → IsThrough reached
   run_complete disk_after loads loads_after reached output (inl has) no_source no_disk =
       ran_complete world told is has.job disk disk_after has.planned loads_after reached output place.tells (fit_for has.job has.comes) has.ran no_source no_disk
@@ -248,6 +251,12 @@ module _ (laws : OneJob) (world : World) (path : List ℕ) (disk : DiskState) (p
   behind_complete outcomes.DiskFault no_disk kind = absurd (no_disk refl)
   behind_complete outcomes.NoMemory no_disk kind = inr refl
   behind_complete other no_disk kind = absurd kind
+
+  sums_complete : (disk_after : DiskState) (loads loads_after : ℕ) (reached : Outcome) (output : List ℕ) → IsSumsReply path told loads loads_after disk disk_after reached output
+      → reached ≢ outcomes.SourceFault → reached ≢ outcomes.DiskFault → IsThrough reached
+  sums_complete disk_after loads loads_after reached output (inl has) no_source no_disk =
+      found_complete (commands.Sums path) _ has.job disk_after reached has.comes has.looked.seen (λ view sums. sums.kind) no_disk
+  sums_complete disk_after loads loads_after reached output (inr none) no_source no_disk = planned_complete laws told world path reached is (place.job, place.comes) none.why none.kind no_source
 
   qc_complete : {kinds : List ProbeKind} (disk_after : DiskState) (loads loads_after : ℕ) (reached : Outcome) (output : List ℕ) → IsQcReply kinds path told loads loads_after disk disk_after reached output
       → reached ≢ outcomes.SourceFault → reached ≢ outcomes.DiskFault → IsThrough reached
@@ -339,12 +348,14 @@ reply_complete laws (commands.List path rate) world scan scan_after folders fold
 reply_complete laws (commands.Plan path) world scan scan_after folders folders_after reached output is accepted whole no_source no_disk =
     job_complete laws IsPlanForm world path output scan scan_after reached accepted
     (at_world scan.world world (λ files. IsJobReply IsPlanForm (file_at files) path reached output scan scan_after) is whole.reply.right) no_source
-reply_complete laws (commands.Run path workers share) world scan scan_after folders folders_after reached output is accepted whole no_source no_disk =
+reply_complete laws (commands.Run path extent workers share) world scan scan_after folders folders_after reached output is accepted whole no_source no_disk =
     run_complete laws world path folders.reel accepted scan.world is folders_after.reel scan.loads scan_after.loads reached output whole.folder no_source no_disk
 reply_complete laws (commands.Status path) world scan scan_after folders folders_after reached output is accepted whole no_source no_disk =
     status_complete laws world path folders.reel accepted scan.world is folders_after.reel scan.loads scan_after.loads reached output whole.folder no_source no_disk
 reply_complete laws (commands.Verify path) world scan scan_after folders folders_after reached output is accepted whole no_source no_disk =
     verify_complete laws world path folders.reel accepted scan.world is folders_after.reel scan.loads scan_after.loads reached output whole.folder no_source no_disk
+reply_complete laws (commands.Sums path) world scan scan_after folders folders_after reached output is accepted whole no_source no_disk =
+    sums_complete laws world path folders.reel accepted scan.world is folders_after.reel scan.loads scan_after.loads reached output whole.folder no_source no_disk
 reply_complete laws (commands.Qc path) world scan scan_after folders folders_after reached output is accepted whole no_source no_disk =
     qc_complete laws world path folders.reel accepted scan.world is folders_after.reel scan.loads scan_after.loads reached output whole.folder no_source no_disk
 reply_complete laws (commands.Sheet path) world scan scan_after folders folders_after reached output is accepted whole no_source no_disk =
@@ -397,9 +408,9 @@ unfailed command (outcomes.SinkFault instead) kind no_source no_disk = kind
 unfailed command outcomes.NoMemory kind no_source no_disk = kind
 
 -- the outcomes of a run are those of its command
-pub run_kind : (path : List ℕ) (workers share : ℕ) (reached : Outcome) → (reached ≡ outcomes.Done) ⊎ IsOfRun reached → IsKindOf (commands.Run path workers share) reached
-run_kind path workers share reached (inl done) = subst (IsKindOf (commands.Run path workers share)) (sym done) tt
-run_kind path workers share reached (inr kind) = replied_run path workers share reached kind
+pub run_kind : (path : List ℕ) (extent : Extent) (workers share : ℕ) (reached : Outcome) → (reached ≡ outcomes.Done) ⊎ IsOfRun reached → IsKindOf (commands.Run path extent workers share) reached
+run_kind path extent workers share reached (inl done) = subst (IsKindOf (commands.Run path extent workers share)) (sym done) tt
+run_kind path extent workers share reached (inr kind) = replied_run path extent workers share reached kind
 
 pub put_unfailed : (command : Command) (sink sink_after : SinkState) (reached : Outcome) (output : List ℕ) (result : Outcome) → IsPut sink sink_after reached output result → HasNotRisen sink.faults sink_after.faults → IsUnfailed command reached → IsUnfailed command result
 put_unfailed command sink sink_after reached output result (inl put) steady is = subst (IsUnfailed command) (sym put.0) is

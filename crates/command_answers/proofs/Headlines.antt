@@ -15,6 +15,11 @@ use Rattle.resume_ledger.specs.Ledger.{Acks, IsInForce}
 use Rattle.resume_ledger.specs.declared.layout.Version.{Version}
 use Rattle.resume_ledger.specs.declared.layout.Version.TheVariants.{One, Two}
 use Rattle.reel_writer.specs.Reel.{frames_of, HasAcked, IsSoundReel, HasFrameFiles, IsReelRun, KeepsReel}
+use Rattle.frame_range.specs.Parts.{range_of}
+use Rattle.frame_range.specs.Parts.{IsIn}
+use Rattle.frame_range.specs.declared.range.Extent.{Extent}
+use Rattle.frame_range.specs.declared.range.Extent.TheVariants.{Whole}
+use Rattle.frame_range.specs.declared.range.FrameRange.{FrameRange}
 use Rattle.single_run.specs.Run.{AreAllAcked}
 use Rattle.frame_fetch.specs.declared.run_end.RunEnd.{RunEnd}
 use Rattle.frame_fetch.specs.declared.run_end.RunEnd.TheVariants as ends
@@ -77,8 +82,9 @@ begins_again : (job : JobData) (world : World) (files : Files) → IsSoundReel j
 begins_again job world files sound = inr (λ other image. subst (IsSoundReel job world) (left_alone files other image) sound)
 
 -- a run that began and ended with the same history
-pub still_promise : (job : JobData) (world : World) (now : History) (Ended : Type 0) → (Ended → ⊥) → KeepsItsPromise job world now now Ended
-still_promise job world now Ended none = record {
+pub still_promise : (job : JobData) (range : FrameRange) (world : World) (now : History) (Ended : Type 0) → (Ended → ⊥) → KeepsItsPromise job range world now now Ended
+still_promise job range world now Ended none = record {
+  time = record { later = omega arith; kept = λ m early. refl };
   sound = sound;
   again = λ begun m from to files image. begins_again job world files (sound begun m from to files image);
   kept = λ begun i. still i;
@@ -93,9 +99,11 @@ still_promise job world now Ended none = record {
     sound begun m from to = subst (λ k. Surely (now.past k) (IsSoundReel job world)) (omega (arith, from, to)) (begun_sound job world (moment_of now) begun)
 
 -- a run of a job with these parts
-pub run_promise : (job ran : JobData) (told : Option World) (world : World) (opening now : History) (Ended : Type 0) → told ≡ Some world → ran.parts ≡ job.parts
-    → IsReelRun ran told opening now → ((w : World) (files : Files) → IsSoundReel ran w files → HasFrameFiles ran files) → (Ended → AreAllAcked ran (moment_of now)) → KeepsItsPromise job world opening now Ended
-run_promise job ran told world opening now Ended is same run has acked = record {
+pub run_promise : (job ran : JobData) (extent : Extent) (told : Option World) (world : World) (opening now : History) (Ended : Type 0) → told ≡ Some world → ran.parts ≡ job.parts
+    → IsReelRun ran told opening now → ((w : World) (files : Files) → IsSoundReel ran w files → HasFrameFiles ran files) → (Ended → AreAllAcked ran (range_of extent (frames_of ran)).low (range_of extent (frames_of ran)).high (moment_of now))
+    → KeepsItsPromise job (range_of extent (frames_of job)) world opening now Ended
+run_promise job ran extent told world opening now Ended is same run has acked = record {
+  time = run.extends;
   sound = sound;
   again = λ begun m from to files image. begins_again job world files (sound begun m from to files image);
   kept = λ begun. kept (has_by ran job world same has (view_of opening) (begun_sound job world (moment_of opening) begun (view_of opening) (view_is_image (moment_of opening))));
@@ -114,8 +122,8 @@ run_promise job ran told world opening now Ended is same run has acked = record 
         (at_world told world (λ w. Surely (moment_of opening) (IsSoundReel ran w) → LeavesOnly opening now (IsSoundReel ran w)) is run.sound)
         (begun_sound job world (moment_of opening) begun)
 
-    all : Ended → (i : ℕ) → i < frames_of job → Surely (moment_of now) (HasAcked job i)
-    all ended = subst (λ parts. (i : ℕ) → i < frame_count parts.timeline.events → Surely (moment_of now) (Acks parts.digest (frame_count parts.timeline.events) i)) same (acked ended).each
+    all : Ended → (i : ℕ) → IsIn (range_of extent (frames_of job)) i → Surely (moment_of now) (HasAcked job i)
+    all ended = subst (λ parts. (i : ℕ) → IsIn (range_of extent (frame_count parts.timeline.events)) i → Surely (moment_of now) (Acks parts.digest (frame_count parts.timeline.events) i)) same (λ i within. (acked ended).each i within.0 within.1)
 
 -- ---- what was reached where a command has ended
 
@@ -172,33 +180,33 @@ memory_not_done sink sink_after reached output result put memory ended =
 
 -- ---- one thread
 
-unread_promise : (words : List (List ℕ)) (scan scan_after : ScanState) (folders folders_after : Folders) (sink sink_after : SinkState) (result reached : Outcome) (output : List ℕ) (job : JobData) (world : World)
+unread_promise : (words : List (List ℕ)) (scan scan_after : ScanState) (folders folders_after : Folders) (sink sink_after : SinkState) (result reached : Outcome) (output : List ℕ) (job : JobData) (range : FrameRange) (world : World)
     → IsPut sink sink_after reached output result → IsUnread outcomes.NoMemory scan scan_after folders folders_after reached output
-    → KeepsItsPromise job world folders.reel.history folders_after.reel.history (HasEnded result)
-unread_promise words scan scan_after folders folders_after sink sink_after result reached output job world put unread =
-    subst (λ (after : Folders). KeepsItsPromise job world folders.reel.history after.reel.history (HasEnded result)) (sym unread.untouched_folders)
-    (still_promise job world folders.reel.history (HasEnded result) (λ ended. memory_not_done sink sink_after reached output result put unread.reached_is ended))
+    → KeepsItsPromise job range world folders.reel.history folders_after.reel.history (HasEnded result)
+unread_promise words scan scan_after folders folders_after sink sink_after result reached output job range world put unread =
+    subst (λ (after : Folders). KeepsItsPromise job range world folders.reel.history after.reel.history (HasEnded result)) (sym unread.untouched_folders)
+    (still_promise job range world folders.reel.history (HasEnded result) (λ ended. memory_not_done sink sink_after reached output result put unread.reached_is ended))
 
 module _ (laws : OneJob) (job : JobData) (world : World) (path : List ℕ) (comes : ComesTo (file_at world) path (Ok job.parts)) where
-  reply_promise : {share : ℕ} (told : Option World) (disk disk_after : DiskState) (loads loads_after : ℕ) (reached : Outcome) (output : List ℕ) (Ended : Type 0)
-      → told ≡ Some world → disk.tells ≡ true → (Ended → reached ≡ outcomes.Done) → IsRunReply path share told loads loads_after disk disk_after reached output
-      → KeepsItsPromise job world disk.history disk_after.history Ended
-  reply_promise told disk disk_after loads loads_after reached output Ended is tells done (inl has) =
-      run_promise job has.job told world disk.history disk_after.history Ended is
+  reply_promise : {share : ℕ} (extent : Extent) (told : Option World) (disk disk_after : DiskState) (loads loads_after : ℕ) (reached : Outcome) (output : List ℕ) (Ended : Type 0)
+      → told ≡ Some world → disk.tells ≡ true → (Ended → reached ≡ outcomes.Done) → IsRunReply path extent share told loads loads_after disk disk_after reached output
+      → KeepsItsPromise job (range_of extent (frames_of job)) world disk.history disk_after.history Ended
+  reply_promise extent told disk disk_after loads loads_after reached output Ended is tells done (inl has) =
+      run_promise job has.job extent told world disk.history disk_after.history Ended is
       (laws.one (file_at world) path has.job.parts job.parts (at_world told world (λ w. ComesTo (file_at w) path (Ok has.job.parts)) is has.comes) comes)
       (has.ran.keeps.run tells) has.ran.keeps.sound_has (λ ended. has.ran.keeps.acked (how_done _ _ _ (done ended) has.ran.reply.reached_is) tells)
-  reply_promise told disk disk_after loads loads_after reached output Ended is tells done (inr none) =
-      subst (λ (after : DiskState). KeepsItsPromise job world disk.history after.history Ended) (sym none.untouched)
-      (still_promise job world disk.history Ended (λ ended. job_not_done reached none.kind (done ended)))
+  reply_promise extent told disk disk_after loads loads_after reached output Ended is tells done (inr none) =
+      subst (λ (after : DiskState). KeepsItsPromise job (range_of extent (frames_of job)) world disk.history after.history Ended) (sym none.untouched)
+      (still_promise job (range_of extent (frames_of job)) world disk.history Ended (λ ended. job_not_done reached none.kind (done ended)))
 
 -- by the answer of one thread
 pub answered_promise : {house : House} (laws : OneJob) (words : List (List ℕ)) (scan scan_after : ScanState) (folders folders_after : Folders) (sink sink_after : SinkState) (result : Outcome)
     → Answered house words scan scan_after folders folders_after sink sink_after result
-    → (world : World) (job : JobData) → RunsJob words scan.world folders.reel.tells world job → KeepsItsPromise job world folders.reel.history folders_after.reel.history (HasEnded result)
-answered_promise laws words scan scan_after folders folders_after sink sink_after result answered world job runs = elim (answered.reply (commands.Run runs.path runs.workers runs.share) runs.spells) [
-  | inl whole ↦ reply_promise laws job world runs.path runs.comes scan.world folders.reel folders_after.reel scan.loads scan_after.loads answered.reached answered.output (HasEnded result) runs.scans_tell runs.disk_tells
-      (reached_done sink sink_after answered.reached answered.output result answered.put (λ instead is. subst (IsKindOf (commands.Run runs.path runs.workers runs.share)) is whole.reply.kind)) whole.folder
-  | inr unread ↦ unread_promise words scan scan_after folders folders_after sink sink_after result answered.reached answered.output job world answered.put unread
+    → (world : World) (job : JobData) (extent : Extent) → RunsJob words scan.world folders.reel.tells world job extent → KeepsItsPromise job (range_of extent (frames_of job)) world folders.reel.history folders_after.reel.history (HasEnded result)
+answered_promise laws words scan scan_after folders folders_after sink sink_after result answered world job extent runs = elim (answered.reply (commands.Run runs.path extent runs.workers runs.share) runs.spells) [
+  | inl whole ↦ reply_promise laws job world runs.path runs.comes extent scan.world folders.reel folders_after.reel scan.loads scan_after.loads answered.reached answered.output (HasEnded result) runs.scans_tell runs.disk_tells
+      (reached_done sink sink_after answered.reached answered.output result answered.put (λ instead is. subst (IsKindOf (commands.Run runs.path extent runs.workers runs.share)) is whole.reply.kind)) whole.folder
+  | inr unread ↦ unread_promise words scan scan_after folders folders_after sink sink_after result answered.reached answered.output job (range_of extent (frames_of job)) world answered.put unread
 ]
 
 -- ---- an adoption
@@ -224,31 +232,31 @@ module _ (laws : OneJob) (job : JobData) (world : World) (path old_path : List �
   onward_promise : (ran : JobData) (old old_after disk disk_after : DiskState) (loads loads_after : ℕ) (reached : Outcome) (output : List ℕ) (Ended : Type 0)
       → ((old_job : JobData) → ComesTo (file_at world) old_path (Ok old_job.parts) → IsOldSound old_job world (view_of old.history))
       → ran.parts ≡ job.parts → disk.tells ≡ true → (Ended → reached ≡ outcomes.Done) → GoesOn ran old_path told loads loads_after old old_after disk disk_after reached output
-      → KeepsItsPromise job world disk.history disk_after.history Ended
+      → KeepsItsPromise job (range_of Whole (frames_of job)) world disk.history disk_after.history Ended
   onward_promise ran old old_after disk disk_after loads loads_after reached output Ended sound same tells done (inl has) =
       let came = at_world told world (λ w. ComesTo (file_at w) old_path (Ok has.old_job.parts)) is has.came.comes in
       let promised = has.sound tells (subst (λ t. IfSome t (λ w. IsOldSound has.old_job w (view_of old.history))) (sym is) (sound has.old_job came)) in
-      run_promise job ran told world disk.history disk_after.history Ended is same promised.run has.went.sound_has (λ ended. has.went.acked (done ended) tells)
+      run_promise job ran Whole told world disk.history disk_after.history Ended is same promised.run has.went.sound_has (λ ended. has.went.acked (done ended) tells)
   onward_promise ran old old_after disk disk_after loads loads_after reached output Ended sound same tells done (inr none) =
-      subst (λ (after : DiskState). KeepsItsPromise job world disk.history after.history Ended) (sym none.unplanned.untouched)
-      (still_promise job world disk.history Ended (λ ended. no_old_job none.found none.unplanned.kind (sym none.reached_is ∙ done ended)))
+      subst (λ (after : DiskState). KeepsItsPromise job (range_of Whole (frames_of job)) world disk.history after.history Ended) (sym none.unplanned.untouched)
+      (still_promise job (range_of Whole (frames_of job)) world disk.history Ended (λ ended. no_old_job none.found none.unplanned.kind (sym none.reached_is ∙ done ended)))
 
   adopt_promise : (old old_after disk disk_after : DiskState) (loads loads_after : ℕ) (reached : Outcome) (output : List ℕ) (Ended : Type 0)
       → ((old_job : JobData) → ComesTo (file_at world) old_path (Ok old_job.parts) → IsOldSound old_job world (view_of old.history))
       → disk.tells ≡ true → (Ended → reached ≡ outcomes.Done) → IsAdoptReply path old_path told loads loads_after old old_after disk disk_after reached output
-      → KeepsItsPromise job world disk.history disk_after.history Ended
+      → KeepsItsPromise job (range_of Whole (frames_of job)) world disk.history disk_after.history Ended
   adopt_promise old old_after disk disk_after loads loads_after reached output Ended sound tells done (inl has) =
       onward_promise has.job old old_after disk disk_after has.planned loads_after reached output Ended sound
       (laws.one (file_at world) path has.job.parts job.parts (at_world told world (λ w. ComesTo (file_at w) path (Ok has.job.parts)) is has.came.comes) comes) tells done has.went
   adopt_promise old old_after disk disk_after loads loads_after reached output Ended sound tells done (inr none) =
-      subst (λ (after : DiskState). KeepsItsPromise job world disk.history after.history Ended) (sym none.unplanned.untouched)
-      (still_promise job world disk.history Ended (λ ended. job_not_done reached none.unplanned.kind (done ended)))
+      subst (λ (after : DiskState). KeepsItsPromise job (range_of Whole (frames_of job)) world disk.history after.history Ended) (sym none.unplanned.untouched)
+      (still_promise job (range_of Whole (frames_of job)) world disk.history Ended (λ ended. job_not_done reached none.unplanned.kind (done ended)))
 
 pub answered_adoption : {house : House} (laws : OneJob) (words : List (List ℕ)) (scan scan_after : ScanState) (folders folders_after : Folders) (sink sink_after : SinkState) (result : Outcome)
     → Answered house words scan scan_after folders folders_after sink sink_after result
-    → (world : World) (job : JobData) → AdoptsJob words scan.world folders.reel.tells world (view_of folders.old.history) job → KeepsItsPromise job world folders.reel.history folders_after.reel.history (HasEnded result)
+    → (world : World) (job : JobData) → AdoptsJob words scan.world folders.reel.tells world (view_of folders.old.history) job → KeepsItsPromise job (range_of Whole (frames_of job)) world folders.reel.history folders_after.reel.history (HasEnded result)
 answered_adoption laws words scan scan_after folders folders_after sink sink_after result answered world job adopts = elim (answered.reply (commands.Adopt adopts.path adopts.old_path) adopts.spells) [
   | inl whole ↦ adopt_promise laws job world adopts.path adopts.old_path adopts.comes scan.world adopts.scans_tell folders.old folders_after.old folders.reel folders_after.reel scan.loads scan_after.loads answered.reached answered.output (HasEnded result) adopts.old_sound adopts.disk_tells
       (reached_done sink sink_after answered.reached answered.output result answered.put (λ instead is. subst (IsKindOf (commands.Adopt adopts.path adopts.old_path)) is whole.reply.kind)) whole.folder
-  | inr unread ↦ unread_promise words scan scan_after folders folders_after sink sink_after result answered.reached answered.output job world answered.put unread
+  | inr unread ↦ unread_promise words scan scan_after folders folders_after sink sink_after result answered.reached answered.output job (range_of Whole (frames_of job)) world answered.put unread
 ]

@@ -28,6 +28,7 @@ use Rattle.command_answers.specs.ByJob.{AreJobHeads}
 use Rattle.command_answers.specs.Commands.{meaning_of}
 use Rattle.command_answers.specs.Reply.{CallsDisk, IsKindOf, IsReplyOverScan}
 use Rattle.command_answers.specs.States.{OnScan, ScanState}
+use Rattle.frame_range.specs.declared.range.Extent.{Extent}
 use Rattle.command_words.specs.declared.command.Command.{Command}
 use Rattle.command_words.specs.declared.command.Command.TheVariants as commands
 use Rattle.outcome_line.specs.declared.outcome.Outcome.{Outcome}
@@ -149,9 +150,10 @@ pub memory_right : (command : Command) (output : List ℕ) (before after : ScanS
 memory_right (commands.Frame path) output before after = frame_memory before.world path output
 memory_right (commands.List path rate) output before after = list_memory rate before.world path output
 memory_right (commands.Plan path) output before after = told_any before.world (λ world. tt)
-memory_right (commands.Run path workers share) output before after = tt
+memory_right (commands.Run path extent workers share) output before after = tt
 memory_right (commands.Status path) output before after = tt
 memory_right (commands.Verify path) output before after = tt
+memory_right (commands.Sums path) output before after = tt
 memory_right (commands.Qc path) output before after = tt
 memory_right (commands.Sheet path) output before after = tt
 memory_right (commands.Adopt path old_path) output before after = tt
@@ -186,15 +188,15 @@ pub load_isnt_done : (absent : Which) (outcome : Outcome) → IsOfLoad absent ou
 load_isnt_done absent outcome kind same = subst (IsOfLoad absent) same kind
 
 -- the outcomes of a run, of a look at the folder and of a check of its files are those of their commands
-pub replied_run : (path : List ℕ) (workers share : ℕ) (outcome : Outcome) → IsOfRun outcome → IsKindOf (commands.Run path workers share) outcome
-replied_run path workers share Done kind = absurd kind
-replied_run path workers share Usage kind = absurd kind
-replied_run path workers share (SinkFault instead) kind = absurd kind
-replied_run path workers share (outcomes.OldRefused refusal) kind = absurd kind
-replied_run path workers share (outcomes.OldOtherJob kept wanted) kind = absurd kind
-replied_run path workers share (outcomes.OldBadLedger len) kind = absurd kind
-replied_run path workers share (outcomes.Damaged frame kept found) kind = absurd kind
-replied_run path workers share other kind = tt
+pub replied_run : (path : List ℕ) (extent : Extent) (workers share : ℕ) (outcome : Outcome) → IsOfRun outcome → IsKindOf (commands.Run path extent workers share) outcome
+replied_run path extent workers share Done kind = absurd kind
+replied_run path extent workers share Usage kind = absurd kind
+replied_run path extent workers share (SinkFault instead) kind = absurd kind
+replied_run path extent workers share (outcomes.OldRefused refusal) kind = absurd kind
+replied_run path extent workers share (outcomes.OldOtherJob kept wanted) kind = absurd kind
+replied_run path extent workers share (outcomes.OldBadLedger len) kind = absurd kind
+replied_run path extent workers share (outcomes.Damaged frame kept found) kind = absurd kind
+replied_run path extent workers share other kind = tt
 
 pub replied_adopt : (path old_path : List ℕ) (outcome : Outcome) → IsOfAdopt outcome → IsKindOf (commands.Adopt path old_path) outcome
 replied_adopt path old_path Done kind = absurd kind
@@ -234,9 +236,10 @@ pub loads_instead : (command : Command) (before after : ScanState) (reached : Ou
 loads_instead (commands.Frame path) before after reached loads = loads
 loads_instead (commands.List path rate) before after reached loads = loads
 loads_instead (commands.Plan path) before after reached loads = record { texts = loads.texts; refused = λ refusal same. absurd (cc) }
-loads_instead (commands.Run path workers share) before after reached loads = tt
+loads_instead (commands.Run path extent workers share) before after reached loads = tt
 loads_instead (commands.Status path) before after reached loads = tt
 loads_instead (commands.Verify path) before after reached loads = tt
+loads_instead (commands.Sums path) before after reached loads = tt
 loads_instead (commands.Qc path) before after reached loads = tt
 loads_instead (commands.Sheet path) before after reached loads = tt
 loads_instead (commands.Adopt path old_path) before after reached loads = tt
@@ -247,9 +250,10 @@ pub heads_instead : (command : Command) (before after : ScanState) (reached : Ou
 heads_instead (commands.Frame path) before after reached heads = heads
 heads_instead (commands.List path rate) before after reached heads = heads
 heads_instead (commands.Plan path) before after reached heads = λ refusal same. absurd (cc)
-heads_instead (commands.Run path workers share) before after reached heads = λ refusal same. absurd (cc)
+heads_instead (commands.Run path extent workers share) before after reached heads = λ refusal same. absurd (cc)
 heads_instead (commands.Status path) before after reached heads = λ refusal same. absurd (cc)
 heads_instead (commands.Verify path) before after reached heads = λ refusal same. absurd (cc)
+heads_instead (commands.Sums path) before after reached heads = λ refusal same. absurd (cc)
 heads_instead (commands.Qc path) before after reached heads = λ refusal same. absurd (cc)
 heads_instead (commands.Sheet path) before after reached heads = λ refusal same. absurd (cc)
 heads_instead (commands.Adopt path old_path) before after reached heads = λ refusal same. absurd (cc)

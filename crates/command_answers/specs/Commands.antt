@@ -10,6 +10,7 @@ pub mod Qc
 pub mod Run
 pub mod Sheet
 pub mod Status
+pub mod Sums
 pub mod Verify
 use Rattle.command_words.specs.declared.command.Command.{Command}
 use Rattle.command_words.specs.declared.command.Command.TheVariants as commands
@@ -24,15 +25,17 @@ use Rattle.command_answers.specs.Commands.Qc.{qc_meaning}
 use Rattle.command_answers.specs.Commands.Run.{run_meaning}
 use Rattle.command_answers.specs.Commands.Sheet.{sheet_meaning}
 use Rattle.command_answers.specs.Commands.Status.{status_meaning}
+use Rattle.command_answers.specs.Commands.Sums.{sums_meaning}
 use Rattle.command_answers.specs.Commands.Verify.{verify_meaning}
 
 abbrev pub meaning_of : Command → Meaning
 meaning_of (commands.Frame path) = frame_meaning path
 meaning_of (commands.List path rate) = list_meaning path rate
 meaning_of (commands.Plan path) = plan_meaning path
-meaning_of (commands.Run path workers share) = run_meaning path share
+meaning_of (commands.Run path extent workers share) = run_meaning path extent share
 meaning_of (commands.Status path) = status_meaning path
 meaning_of (commands.Verify path) = verify_meaning path
+meaning_of (commands.Sums path) = sums_meaning path
 meaning_of (commands.Qc path) = qc_meaning path
 meaning_of (commands.Sheet path) = sheet_meaning path
 meaning_of (commands.Adopt path old_path) = adopt_meaning path old_path

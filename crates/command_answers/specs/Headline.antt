@@ -2,18 +2,24 @@
 -- crash then may leave it, acknowledges is byte for byte the per-pixel definition's; no acknowledgement is ever lost; and a run
 -- that answers Done, begun on an empty folder or on what stopped runs of the same job left, leaves the definition's whole reel.
 --
---     RunsJob words told tells world job      the words run a project that comes to this job, over scans and a disk that tell
+--     RunsJob words told tells world job extent      the words run a project that comes to this job, all of it or a part, over scans
+--         and a disk that tell
 --     AdoptsJob words told tells world old job      the same of an adoption, whose old folder is sound
---     KeepsItsPromise job world opening now Ended      that sentence, of a run from its opening until now
+--     KeepsItsPromise job range world opening now Ended      that sentence, of a run over a range of frames from its opening until now
 --     KeepsHeadline, KeepsItAdopting      the same of the words, for each world and job that they run
--- A job's reel is the same whatever `job.infos` is: it looks at the job's parts alone.
-use Rattle.std.specs.Prelude.{◌≡◌, ◌⊎◌, ℕ, ◌<◌, Bool, true, List, [], Option, Some, None, Ok}
+--     PartsMakeTheReel      folders that have the parts of a job have its reel
+-- Of a run over a part the sentence's last words speak of the part's frames. A job's reel is the same whatever `job.infos` is: it looks at the job's parts alone.
+use Rattle.std.specs.Prelude.{◌≡◌, ◌⊎◌, ℕ, ◌<◌, ◌≤◌, Bool, true, List, [], Option, Some, None, Ok}
 use Rattle.cf_base.specs.declared.file.FileId.{FileId}
 use Rattle.scan_source.specs.World.{World, file_at}
 use Rattle.conform_job.specs.Job.{JobData, file_of}
 use Rattle.frame_render.specs.Frame.{frame_file}
 use Rattle.reel_disk.specs.Disk.{Files, Moment, History, moment_of, view_of}
-use Rattle.reel_disk.specs.Runs.{LeavesOnly, Surely, NeverForgets}
+use Rattle.frame_range.specs.Parts.{IsIn, part_range, range_of}
+use Rattle.frame_range.specs.declared.range.Extent.{Extent}
+use Rattle.frame_range.specs.declared.range.Extent.TheVariants.{Whole}
+use Rattle.frame_range.specs.declared.range.FrameRange.{FrameRange}
+use Rattle.reel_disk.specs.Runs.{Extends, LeavesOnly, Surely, NeverForgets}
 use Rattle.reel_writer.specs.Reel.{frames_of, HasAcked, HasFrameFiles, IsSoundReel}
 use Rattle.project_job.specs.Jobs.{ComesTo}
 use Rattle.project_adopt.specs.Adopt.{IsOldSound}
@@ -22,13 +28,13 @@ use Rattle.command_words.specs.declared.command.Command.TheVariants as commands
 use Rattle.outcome_line.specs.declared.outcome.Outcome.{Outcome}
 use Rattle.outcome_line.specs.declared.outcome.Outcome.TheVariants.{Done, SinkFault}
 
--- An accepted job, with unchanged scans: the words run a project, by any number of workers, the scans tell this world and the
--- disk its folder, and the project comes to this job there.
-pub record RunsJob (words : List (List ℕ)) (told : Option World) (tells : Bool) (world : World) (job : JobData) : Type 0 where
+-- An accepted job, with unchanged scans: the words run a project, all of it or a part, by any number of workers, the scans tell
+-- this world and the disk its folder, and the project comes to this job there.
+pub record RunsJob (words : List (List ℕ)) (told : Option World) (tells : Bool) (world : World) (job : JobData) (extent : Extent) : Type 0 where
   pub path : List ℕ
   pub workers : ℕ
   pub share : ℕ
-  pub spells : Spells words (commands.Run path workers share)
+  pub spells : Spells words (commands.Run path extent workers share)
   pub scans_tell : told ≡ Some world
   pub disk_tells : tells ≡ true
   pub comes : ComesTo (file_at world) path (Ok job.parts)
@@ -44,10 +50,10 @@ pub record AdoptsJob (words : List (List ℕ)) (told : Option World) (tells : Bo
   pub comes : ComesTo (file_at world) path (Ok job.parts)
   pub old_sound : (old_job : JobData) → ComesTo (file_at world) old_path (Ok old_job.parts) → IsOldSound old_job world old
 
--- The definition's whole reel: each frame's file is there, byte for byte, and is acknowledged.
-pub record IsWholeReel (job : JobData) (world : World) (files : Files) : Type 0 where
-  pub there : (i : ℕ) → i < frames_of job → files (file_of job i) ≡ Some (frame_file job (file_at world) i)
-  pub acked : (i : ℕ) → i < frames_of job → HasAcked job i files
+-- The definition's whole reel, as far as the range goes: each frame's file is there, byte for byte, and is acknowledged.
+pub record IsWholeOver (job : JobData) (range : FrameRange) (world : World) (files : Files) : Type 0 where
+  pub there : (i : ℕ) → IsIn range i → files (file_of job i) ≡ Some (frame_file job (file_at world) i)
+  pub acked : (i : ℕ) → IsIn range i → HasAcked job i files
 
 -- No file is there, and nothing is loose.
 pub record IsEmptyFolder (moment : Moment) : Type 0 where
@@ -63,7 +69,9 @@ abbrev pub left_with : Files → Moment
 left_with files = record { view = files; loose = [] }
 
 -- What a run or an adoption of the job keeps from its opening until now, wherever it is. `Ended` says that it was done.
-pub record KeepsItsPromise (job : JobData) (world : World) (opening now : History) (Ended : Type 0) : Type 0 where
+pub record KeepsItsPromise (job : JobData) (range : FrameRange) (world : World) (opening now : History) (Ended : Type 0) : Type 0 where
+  -- Time went on: none of the past changed.
+  pub time : Extends opening now
   -- At every moment of the run each frame that a crash leaves acknowledged is the definition's, byte for byte.
   pub sound : IsBeginning job world (moment_of opening) → LeavesOnly opening now (IsSoundReel job world)
   -- What a crash leaves is such a beginning again.
@@ -72,8 +80,8 @@ pub record KeepsItsPromise (job : JobData) (world : World) (opening now : Histor
   pub kept : IsBeginning job world (moment_of opening) → (i : ℕ) → NeverForgets opening now (HasAcked job i)
   -- Nor is one of any other folder, but of a frame of version 1 whose file is lost or isn't as long as a frame.
   pub kept_of_any : HasFrameFiles job (view_of opening) → (i : ℕ) → NeverForgets opening now (HasAcked job i)
-  -- A run that was done leaves the whole reel, and so does each crash behind it.
-  pub whole : Ended → IsBeginning job world (moment_of opening) → Surely (moment_of now) (IsWholeReel job world)
+  -- A run that was done leaves the whole reel, as far as it was to go, and so does each crash behind it.
+  pub whole : Ended → IsBeginning job world (moment_of opening) → Surely (moment_of now) (IsWholeOver job range world)
 
 -- The command was done, though its output may be lost: a fault of the sink keeps the status in whose place it stands.
 abbrev pub HasEnded : Outcome → Type 0
@@ -82,9 +90,19 @@ HasEnded result = (result ≡ Done) ⊎ (result ≡ SinkFault 0)
 -- The whole sentence: of words, the scans and the disk that they are handed, and what they come to.
 abbrev pub KeepsHeadline : List (List ℕ) → Option World → Bool → (opening now : History) → (Ended : Type 0) → Type 0
 KeepsHeadline words told tells opening now Ended =
-    (world : World) (job : JobData) → RunsJob words told tells world job → KeepsItsPromise job world opening now Ended
+    (world : World) (job : JobData) (extent : Extent) → RunsJob words told tells world job extent
+    → KeepsItsPromise job (range_of extent (frames_of job)) world opening now Ended
 
 -- the same of an adoption, from this old folder
 abbrev pub KeepsItAdopting : List (List ℕ) → Option World → Bool → (old opening now : History) → (Ended : Type 0) → Type 0
 KeepsItAdopting words told tells old opening now Ended =
-    (world : World) (job : JobData) → AdoptsJob words told tells world (view_of old) job → KeepsItsPromise job world opening now Ended
+    (world : World) (job : JobData) → AdoptsJob words told tells world (view_of old) job
+    → KeepsItsPromise job (range_of Whole (frames_of job)) world opening now Ended
+
+-- Where so many folders have the parts of a job, one each, every frame of the reel is in one of them, byte for byte and
+-- acknowledged.
+abbrev pub PartsMakeTheReel : Type 0
+PartsMakeTheReel = (job : JobData) (world : World) (parts : ℕ) (folder : ℕ → Files) → 1 ≤ parts
+    → ((k : ℕ) → 1 ≤ k → k ≤ parts → IsWholeOver job (part_range k parts (frames_of job)) world (folder k))
+    → (i : ℕ) → i < frames_of job → (k : ℕ) × (1 ≤ k) × (k ≤ parts)
+    × (folder k (file_of job i) ≡ Some (frame_file job (file_at world) i)) × HasAcked job i (folder k)

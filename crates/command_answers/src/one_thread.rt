@@ -20,7 +20,7 @@ use demo_run::demo;
 use outcome_line::{Outcome, made_line, plain_line};
 use project_adopt::adopt;
 use project_job::job_laws;
-use project_run::{qc, run, sheet, status, verify};
+use project_run::{qc, run, sheet, status, sums, verify};
 use reel_disk::Disk;
 use reel_qc::{Counter, OneThread, Probe, Tone};
 use scan_source::Scans;
@@ -147,9 +147,15 @@ fn carried_out<S: Scans, D: Disk, C: Counter>(
         Command::Frame(path) => frame(alloc, path, scan),
         Command::List(path, rate) => list(alloc, path, *rate, scan),
         Command::Plan(path) => plan(alloc, path, scan),
-        Command::Run { project, share, .. } => run(alloc, project, *share, scan, disk),
+        Command::Run {
+            project,
+            extent,
+            share,
+            ..
+        } => run(alloc, project, *extent, *share, scan, disk),
         Command::Status(project) => status(alloc, project, scan, disk),
         Command::Verify(project) => verify(alloc, project, scan, disk),
+        Command::Sums(project) => sums(alloc, project, scan, disk),
         Command::Qc(project) => qc(alloc, counter, project, scan, disk, probes),
         Command::Sheet(project) => sheet(alloc, project, scan, disk, tone),
         Command::Adopt {

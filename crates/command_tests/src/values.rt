@@ -1,8 +1,9 @@
-//! Values that no command shows: sizes of a demonstration, digests of texts, and the options of a run.
+//! Values that no command shows: sizes of a demonstration, digests of texts, and the part and the options of a run.
 use cf_base::PathText;
 use command_words::{Command, command_laws, command_of};
 use conform_job::job_digest;
 use demo_job::{record_count, source_count};
+use frame_range::Extent;
 use std::alloc::Global;
 
 /// How many frames the source reels and the record reel of a demonstration have.
@@ -65,10 +66,31 @@ fn a_run_takes_its_options(rt: HostRuntime) {
     ] {
         let want = Command::Run {
             project,
+            extent: Extent::Whole,
             workers,
             share,
         };
         assert!(rt; spelled(alloc, line) == Some(want), "{line}");
     }
     command_laws();
+}
+
+/// The command `part` is a run over a part.
+#[test]
+fn a_part_is_a_run(rt: HostRuntime) {
+    let alloc = rt.alloc();
+    let project = PathText::of(b"desk.toml").expect(&rt, "a path");
+    for (line, part, parts, workers) in [
+        ("part desk.toml 3/8", 3, 8, 4),
+        ("part desk.toml 1/1 --workers 2", 1, 1, 2),
+        ("--workers=16 part desk.toml 999/999", 999, 999, 16),
+    ] {
+        let want = Command::Run {
+            project,
+            extent: Extent::Part { part, parts },
+            workers,
+            share: 8,
+        };
+        assert!(rt; spelled(alloc, line) == Some(want), "{line}");
+    }
 }

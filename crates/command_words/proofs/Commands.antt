@@ -10,7 +10,11 @@ use Rattle.clap.specs.Simple.{matches_of}
 use Rattle.cf_base.specs.Text.{path_text_of}
 use Rattle.cf_base.specs.declared.timing.Rate.{Rate}
 use Rattle.cf_base.specs.declared.timing.Rate.TheVariants.{R24, R25, R30}
-use Rattle.command_words.specs.Commands.{Gives, HasCounts, IsCount, IsDigit, IsFewDigits, IsNoCommand, IsPath, IsRow, Spells, rate_word}
+use Rattle.frame_range.specs.declared.range.Extent.{Extent}
+use Rattle.frame_range.specs.declared.range.Extent.TheVariants.{Whole, Part}
+use Rattle.command_words.specs.Commands.{Gives, HasCounts, IsCount, IsDigit, IsFewDigits, IsNoCommand, IsPartWord, IsPath, IsRow, Spells, is_slash, rate_word}
+use Rattle.frame_range.specs.Parts.{IsExtent}
+use Rattle.std.specs.List.{after_first, before_first}
 use Rattle.command_words.specs.Lines.{HasCount, HasNoLine, LineText, MakesLine, simple_command, text_of_line}
 use Rattle.command_words.specs.declared.command.Command.{Command}
 use Rattle.command_words.specs.declared.command.Command.TheVariants as commands
@@ -30,26 +34,30 @@ pub none_given : (line : LineText)
     → ((path : List ℕ) → IsRow line (codes "frame") None → IsPath line.subject path → ⊥)
     → ((file : List ℕ) (rate : Rate) → Gives line (commands.List file rate) → ⊥)
     → ((path : List ℕ) → IsRow line (codes "plan") None → IsPath line.subject path → ⊥)
-    → ((project : List ℕ) (workers share : ℕ) → Gives line (commands.Run project workers share) → ⊥)
+    → ((project : List ℕ) (workers share : ℕ) → Gives line (commands.Run project Whole workers share) → ⊥)
+    → ((project : List ℕ) (part parts workers share : ℕ) → Gives line (commands.Run project (Part part parts) workers share) → ⊥)
     → ((path : List ℕ) → IsRow line (codes "status") None → IsPath line.subject path → ⊥)
     → ((path : List ℕ) → IsRow line (codes "verify") None → IsPath line.subject path → ⊥)
+    → ((path : List ℕ) → IsRow line (codes "sums") None → IsPath line.subject path → ⊥)
     → ((path : List ℕ) → IsRow line (codes "qc") None → IsPath line.subject path → ⊥)
     → ((path : List ℕ) → IsRow line (codes "sheet") None → IsPath line.subject path → ⊥)
     → ((project old : List ℕ) → Gives line (commands.Adopt project old) → ⊥)
     → ((project : List ℕ) (margin : ℕ) → Gives line (commands.Pull project margin) → ⊥)
     → ((count : ℕ) → IsRow line (codes "demo") None → IsCount line.subject count → ⊥)
     → (command : Command) → Gives line command → ⊥
-none_given line frame list plan run status verify qc sheet adopt pull demo (commands.Frame path) h = frame path h.0 h.1
-none_given line frame list plan run status verify qc sheet adopt pull demo (commands.List file rate) h = list file rate h
-none_given line frame list plan run status verify qc sheet adopt pull demo (commands.Plan project) h = plan project h.0 h.1
-none_given line frame list plan run status verify qc sheet adopt pull demo (commands.Run project workers share) h = run project workers share h
-none_given line frame list plan run status verify qc sheet adopt pull demo (commands.Status project) h = status project h.0 h.1
-none_given line frame list plan run status verify qc sheet adopt pull demo (commands.Verify project) h = verify project h.0 h.1
-none_given line frame list plan run status verify qc sheet adopt pull demo (commands.Qc project) h = qc project h.0 h.1
-none_given line frame list plan run status verify qc sheet adopt pull demo (commands.Sheet project) h = sheet project h.0 h.1
-none_given line frame list plan run status verify qc sheet adopt pull demo (commands.Adopt project old) h = adopt project old h
-none_given line frame list plan run status verify qc sheet adopt pull demo (commands.Pull project margin) h = pull project margin h
-none_given line frame list plan run status verify qc sheet adopt pull demo (commands.Demo count) h = demo count h.0 h.1
+none_given line frame list plan run piece status verify sums qc sheet adopt pull demo (commands.Frame path) h = frame path h.0 h.1
+none_given line frame list plan run piece status verify sums qc sheet adopt pull demo (commands.List file rate) h = list file rate h
+none_given line frame list plan run piece status verify sums qc sheet adopt pull demo (commands.Plan project) h = plan project h.0 h.1
+none_given line frame list plan run piece status verify sums qc sheet adopt pull demo (commands.Run project Whole workers share) h = run project workers share h
+none_given line frame list plan run piece status verify sums qc sheet adopt pull demo (commands.Run project (Part part parts) workers share) h = piece project part parts workers share h
+none_given line frame list plan run piece status verify sums qc sheet adopt pull demo (commands.Status project) h = status project h.0 h.1
+none_given line frame list plan run piece status verify sums qc sheet adopt pull demo (commands.Verify project) h = verify project h.0 h.1
+none_given line frame list plan run piece status verify sums qc sheet adopt pull demo (commands.Sums project) h = sums project h.0 h.1
+none_given line frame list plan run piece status verify sums qc sheet adopt pull demo (commands.Qc project) h = qc project h.0 h.1
+none_given line frame list plan run piece status verify sums qc sheet adopt pull demo (commands.Sheet project) h = sheet project h.0 h.1
+none_given line frame list plan run piece status verify sums qc sheet adopt pull demo (commands.Adopt project old) h = adopt project old h
+none_given line frame list plan run piece status verify sums qc sheet adopt pull demo (commands.Pull project margin) h = pull project margin h
+none_given line frame list plan run piece status verify sums qc sheet adopt pull demo (commands.Demo count) h = demo count h.0 h.1
 
 pub one_found : (words : List Text) (found : Option Line) (line : Line) → found ≡ Some line
     → MatchOption found (HasNoLine words) (λ l. MakesLine words (text_of_line l)) → MakesLine words (text_of_line line)
@@ -78,9 +86,12 @@ abbrev list_named : Option Rate → Option (List ℕ) → Option Command
 list_named (Some rate) (Some file) = Some (commands.List file rate)
 list_named rate file = None
 
-abbrev run_named : LineText → Option (List ℕ) → Option Command
-run_named line (Some project) = Some (commands.Run project line.workers line.share)
-run_named line None = None
+abbrev run_named : LineText → Option Extent → Option (List ℕ) → Option Command
+run_named line (Some extent) (Some project) = Some (commands.Run project extent line.workers line.share)
+run_named line extent project = None
+
+abbrev extent_named : Text → Extent
+extent_named word = Part (digits_value 10 (before_first is_slash word)) (digits_value 10 (after_first is_slash word))
 
 abbrev pull_named : Option ℕ → Option (List ℕ) → Option Command
 pull_named (Some margin) (Some project) = Some (commands.Pull project margin)
@@ -98,9 +109,11 @@ named line =
     if bytes_eq line.command (codes "frame") then path_named (λ p. commands.Frame p) line
     else if bytes_eq line.command (codes "list") then list_named (option_and_then rate_named line.extra) (path_text_of line.subject)
     else if bytes_eq line.command (codes "plan") then path_named (λ p. commands.Plan p) line
-    else if bytes_eq line.command (codes "run") then run_named line (path_text_of line.subject)
+    else if bytes_eq line.command (codes "run") then run_named line (Some Whole) (path_text_of line.subject)
+    else if bytes_eq line.command (codes "part") then run_named line (option_map extent_named line.extra) (path_text_of line.subject)
     else if bytes_eq line.command (codes "status") then path_named (λ p. commands.Status p) line
     else if bytes_eq line.command (codes "verify") then path_named (λ p. commands.Verify p) line
+    else if bytes_eq line.command (codes "sums") then path_named (λ p. commands.Sums p) line
     else if bytes_eq line.command (codes "qc") then path_named (λ p. commands.Qc p) line
     else if bytes_eq line.command (codes "sheet") then path_named (λ p. commands.Sheet p) line
     else if bytes_eq line.command (codes "adopt") then adopt_named (option_and_then path_text_of line.extra) (path_text_of line.subject)
@@ -121,6 +134,14 @@ old_named : (further : Option Text) (old : List ℕ) → IsSomeAnd further (λ w
 old_named None old h = absurd h
 old_named (Some word) old h = h
 
+part_named : (further : Option Text) (part parts : ℕ) → IsSomeAnd further (λ word. IsPartWord word part parts) → option_map extent_named further ≡ Some (Part part parts)
+part_named None part parts h = absurd h
+part_named (Some word) part parts h = rw (h.1.2, h.2.2) refl
+
+part_counts : (further : Option Text) (part parts : ℕ) → IsSomeAnd further (λ word. IsPartWord word part parts) → IsExtent (Part part parts)
+part_counts None part parts h = absurd h
+part_counts (Some word) part parts h = h.3
+
 margin_small : (further : Option Text) (margin : ℕ) → IsSomeAnd further (λ word. IsFewDigits word margin) → margin ≤ 1000
 margin_small None margin h = absurd h
 margin_small (Some word) margin h = h.3
@@ -129,9 +150,11 @@ pub given_is_named : (line : LineText) (command : Command) → Gives line comman
 given_is_named line (commands.Frame path) h = rw (h.0.command, h.0.extra, h.0.options, h.1) refl
 given_is_named line (commands.List file rate) h = rw (h.0.command, h.0.extra, rate_is rate, h.1) refl
 given_is_named line (commands.Plan project) h = rw (h.0.command, h.0.extra, h.0.options, h.1) refl
-given_is_named line (commands.Run project workers share) h = rw (h.0.command, h.1, h.2, h.3) refl
+given_is_named line (commands.Run project Whole workers share) h = rw (h.0.command, h.1, h.2, h.3) refl
+given_is_named line (commands.Run project (Part part parts) workers share) h = rw (h.0.command, part_named line.extra part parts h.0.extra, h.1, h.2, h.3) refl
 given_is_named line (commands.Status project) h = rw (h.0.command, h.0.extra, h.0.options, h.1) refl
 given_is_named line (commands.Verify project) h = rw (h.0.command, h.0.extra, h.0.options, h.1) refl
+given_is_named line (commands.Sums project) h = rw (h.0.command, h.0.extra, h.0.options, h.1) refl
 given_is_named line (commands.Qc project) h = rw (h.0.command, h.0.extra, h.0.options, h.1) refl
 given_is_named line (commands.Sheet project) h = rw (h.0.command, h.0.extra, h.0.options, h.1) refl
 given_is_named line (commands.Adopt project old) h = rw (h.0.command, old_named line.extra old h.0.extra, h.1) refl
@@ -151,10 +174,13 @@ pub counts_spelled : (words : List Text) (command : Command) → Spells words co
 counts_spelled words (commands.Frame path) h = tt
 counts_spelled words (commands.List file rate) h = tt
 counts_spelled words (commands.Plan project) h = tt
-counts_spelled words (commands.Run project workers share) h =
-    (subst HasCount (sym h.2.2) (number_counts _ _ h.1.1.workers), subst HasCount (sym h.2.3) (number_counts _ _ h.1.1.share))
+counts_spelled words (commands.Run project Whole workers share) h =
+    (tt, subst HasCount (sym h.2.2) (number_counts _ _ h.1.1.workers), subst HasCount (sym h.2.3) (number_counts _ _ h.1.1.share))
+counts_spelled words (commands.Run project (Part part parts) workers share) h =
+    (part_counts _ part parts h.2.0.extra, subst HasCount (sym h.2.2) (number_counts _ _ h.1.1.workers), subst HasCount (sym h.2.3) (number_counts _ _ h.1.1.share))
 counts_spelled words (commands.Status project) h = tt
 counts_spelled words (commands.Verify project) h = tt
+counts_spelled words (commands.Sums project) h = tt
 counts_spelled words (commands.Qc project) h = tt
 counts_spelled words (commands.Sheet project) h = tt
 counts_spelled words (commands.Adopt project old) h = tt

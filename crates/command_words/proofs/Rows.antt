@@ -12,6 +12,7 @@ use Rattle.clap.specs.declared.error.kind.ErrorKind.TheVariants.{ArgumentConflic
 use Rattle.clap.proofs.OnLiterals.{clap_on_literals}
 use Rattle.cf_base.specs.declared.timing.Rate.TheVariants.{R24}
 use Rattle.command_words.specs.Commands.{Gives, IsNoCommand, Spells}
+use Rattle.frame_range.specs.declared.range.Extent.TheVariants.{Whole}
 use Rattle.command_words.specs.Lines.{IsNumber, LineText, MakesLine, simple_command, stands}
 use Rattle.command_words.specs.declared.command.Command.TheVariants as commands
 use Rattle.command_words.proofs.Commands.{given_is_named, named}
@@ -130,27 +131,27 @@ list_spelled : Spells (codes "list" ∷ codes "a.edl" ∷ codes "24" ∷ []) (co
 unfolding simple_command clap_on_literals
 list_spelled = (line_with (codes "list") (codes "a.edl") (Some (codes "24")) 4 8 false, makes (codes "list" ∷ codes "a.edl" ∷ codes "24" ∷ []) _ (codes "4") (codes "8") refl is_4 is_8, (record { command = refl; extra = refl; options = refl }, refl))
 
-run_spelled : Spells (codes "run" ∷ codes "desk.toml" ∷ []) (commands.Run (codes "desk.toml") 4 8)
+run_spelled : Spells (codes "run" ∷ codes "desk.toml" ∷ []) (commands.Run (codes "desk.toml") Whole 4 8)
 unfolding simple_command clap_on_literals
 run_spelled = (line_with (codes "run") (codes "desk.toml") None 4 8 false, makes (codes "run" ∷ codes "desk.toml" ∷ []) _ (codes "4") (codes "8") refl is_4 is_8, (record { command = refl; extra = refl }, refl, refl, refl))
 
-run_with_options : Spells (codes "run" ∷ codes "desk.toml" ∷ codes "--workers=3" ∷ codes "--share=2" ∷ []) (commands.Run (codes "desk.toml") 3 2)
+run_with_options : Spells (codes "run" ∷ codes "desk.toml" ∷ codes "--workers=3" ∷ codes "--share=2" ∷ []) (commands.Run (codes "desk.toml") Whole 3 2)
 unfolding simple_command clap_on_literals
 run_with_options = (line_with (codes "run") (codes "desk.toml") None 3 2 true, makes (codes "run" ∷ codes "desk.toml" ∷ codes "--workers=3" ∷ codes "--share=2" ∷ []) _ (codes "3") (codes "2") refl is_3 is_2, (record { command = refl; extra = refl }, refl, refl, refl))
 
-options_before_run : Spells (codes "--workers" ∷ codes "3" ∷ codes "run" ∷ codes "desk.toml" ∷ []) (commands.Run (codes "desk.toml") 3 8)
+options_before_run : Spells (codes "--workers" ∷ codes "3" ∷ codes "run" ∷ codes "desk.toml" ∷ []) (commands.Run (codes "desk.toml") Whole 3 8)
 unfolding simple_command clap_on_literals
 options_before_run = (line_with (codes "run") (codes "desk.toml") None 3 8 true, makes (codes "--workers" ∷ codes "3" ∷ codes "run" ∷ codes "desk.toml" ∷ []) _ (codes "3") (codes "8") refl is_3 is_8, (record { command = refl; extra = refl }, refl, refl, refl))
 
-options_after_run : Spells (codes "run" ∷ codes "--share" ∷ codes "2" ∷ codes "desk.toml" ∷ []) (commands.Run (codes "desk.toml") 4 2)
+options_after_run : Spells (codes "run" ∷ codes "--share" ∷ codes "2" ∷ codes "desk.toml" ∷ []) (commands.Run (codes "desk.toml") Whole 4 2)
 unfolding simple_command clap_on_literals
 options_after_run = (line_with (codes "run") (codes "desk.toml") None 4 2 true, makes (codes "run" ∷ codes "--share" ∷ codes "2" ∷ codes "desk.toml" ∷ []) _ (codes "4") (codes "2") refl is_4 is_2, (record { command = refl; extra = refl }, refl, refl, refl))
 
-workers_with_a_plus : Spells (codes "run" ∷ codes "desk.toml" ∷ codes "--workers" ∷ codes "+3" ∷ []) (commands.Run (codes "desk.toml") 3 8)
+workers_with_a_plus : Spells (codes "run" ∷ codes "desk.toml" ∷ codes "--workers" ∷ codes "+3" ∷ []) (commands.Run (codes "desk.toml") Whole 3 8)
 unfolding simple_command clap_on_literals
 workers_with_a_plus = (line_with (codes "run") (codes "desk.toml") None 3 8 true, makes (codes "run" ∷ codes "desk.toml" ∷ codes "--workers" ∷ codes "+3" ∷ []) _ (codes "+3") (codes "8") refl is_plus_3 is_8, (record { command = refl; extra = refl }, refl, refl, refl))
 
-workers_with_zeros : Spells (codes "run" ∷ codes "desk.toml" ∷ codes "--workers" ∷ codes "003" ∷ []) (commands.Run (codes "desk.toml") 3 8)
+workers_with_zeros : Spells (codes "run" ∷ codes "desk.toml" ∷ codes "--workers" ∷ codes "003" ∷ []) (commands.Run (codes "desk.toml") Whole 3 8)
 unfolding simple_command clap_on_literals
 workers_with_zeros = (line_with (codes "run") (codes "desk.toml") None 3 8 true, makes (codes "run" ∷ codes "desk.toml" ∷ codes "--workers" ∷ codes "003" ∷ []) _ (codes "003") (codes "8") refl is_003 is_8, (record { command = refl; extra = refl }, refl, refl, refl))
 

@@ -2,12 +2,17 @@
 --     Gives line command      the line is a row of the table, which says this command
 --     Spells words command, IsNoCommand words      the words spell this command, or none
 --     HasCounts command      its numbers are in their ranges
-use Rattle.std.specs.Prelude.{◌≡◌, ◌≤◌, ℕ, false, List, Option, Some, None, IsSomeAnd, MatchOption, codes, length}
+use Rattle.std.specs.Prelude.{◌≡◌, ◌≢◌, ◌≤◌, ◌<◌, ◌==◌, ℕ, Bool, false, List, Option, Some, None, IsSomeAnd, MatchOption, codes, length, slice_get}
+use Rattle.std.specs.List.{after_first, before_first, position_or_len}
+use Rattle.std.specs.Borrow.{Bor}
 use Rattle.std.specs.Str.Parse.{IsNumeral, digits_value}
 use Rattle.clap.specs.Walk.{Text}
 use Rattle.cf_base.specs.Text.{path_text_of}
 use Rattle.cf_base.specs.declared.timing.Rate.{Rate}
 use Rattle.cf_base.specs.declared.timing.Rate.TheVariants.{R24, R25, R30}
+use Rattle.frame_range.specs.Parts.{IsExtent}
+use Rattle.frame_range.specs.declared.range.Extent.{Extent}
+use Rattle.frame_range.specs.declared.range.Extent.TheVariants.{Whole, Part}
 use Rattle.command_words.specs.Lines.{HasCount, LineText, MakesLine}
 use Rattle.command_words.specs.declared.command.Command.{Command}
 use Rattle.command_words.specs.declared.command.Command.TheVariants as commands
@@ -34,6 +39,19 @@ IsFewDigits text number = IsNumeral 10 text × (length text ≤ 4) × (number �
 abbrev pub IsCount : Text → ℕ → Type 0
 IsCount text count = IsFewDigits text count × (1 ≤ count)
 
+-- one to three digits, of which the first is not 0
+abbrev pub IsPartNumber : Text → ℕ → Type 0
+IsPartNumber text number = IsNumeral 10 text × (length text ≤ 3) × (number ≡ digits_value 10 text) × (number ≤ 999)
+    × (slice_get text 0 ≢ Some 48)
+
+abbrev pub is_slash : ℕ → Bool
+is_slash byte = byte == 47
+
+-- the number of a part before the first slash, that of all parts behind it
+abbrev pub IsPartWord : Text → (part parts : ℕ) → Type 0
+IsPartWord word part parts = (position_or_len is_slash word < length word) × IsPartNumber (before_first is_slash word) part
+    × IsPartNumber (after_first is_slash word) parts × IsExtent (Part part parts)
+
 -- the line is this word, a subject, and this further word or none, with no option
 pub record IsRow (line : LineText) (word : Text) (further : Option Text) : Type 0 where
   pub command : line.command ≡ word
@@ -44,6 +62,15 @@ pub record IsRow (line : LineText) (word : Text) (further : Option Text) : Type 
 pub record IsRun (line : LineText) : Type 0 where
   pub command : line.command ≡ codes "run"
   pub extra : line.extra ≡ None
+
+-- the line is `part`, a subject and a further word, the part, with or without options
+pub record IsPart (line : LineText) (part parts : ℕ) : Type 0 where
+  pub command : line.command ≡ codes "part"
+  pub extra : IsSomeAnd line.extra (λ word. IsPartWord word part parts)
+
+abbrev pub IsRunOf : LineText → Extent → Type 0
+IsRunOf line Whole = IsRun line
+IsRunOf line (Part part parts) = IsPart line part parts
 
 -- the line is `adopt`, a subject and a further word, the path of the old project, with no option
 pub record IsAdopt (line : LineText) (old : List ℕ) : Type 0 where
@@ -61,9 +88,10 @@ abbrev pub Gives : LineText → Command → Type 0
 Gives line (commands.Frame path) = IsRow line (codes "frame") None × IsPath line.subject path
 Gives line (commands.List file rate) = IsRow line (codes "list") (Some (rate_word rate)) × IsPath line.subject file
 Gives line (commands.Plan project) = IsRow line (codes "plan") None × IsPath line.subject project
-Gives line (commands.Run project workers share) = IsRun line × IsPath line.subject project × (workers ≡ line.workers) × (share ≡ line.share)
+Gives line (commands.Run project extent workers share) = IsRunOf line extent × IsPath line.subject project × (workers ≡ line.workers) × (share ≡ line.share)
 Gives line (commands.Status project) = IsRow line (codes "status") None × IsPath line.subject project
 Gives line (commands.Verify project) = IsRow line (codes "verify") None × IsPath line.subject project
+Gives line (commands.Sums project) = IsRow line (codes "sums") None × IsPath line.subject project
 Gives line (commands.Qc project) = IsRow line (codes "qc") None × IsPath line.subject project
 Gives line (commands.Sheet project) = IsRow line (codes "sheet") None × IsPath line.subject project
 Gives line (commands.Adopt project old) = IsAdopt line old × IsPath line.subject project
@@ -77,7 +105,7 @@ abbrev pub IsNoCommand : List Text → Type 0
 IsNoCommand words = (command : Command) → Spells words command → ⊥
 
 abbrev pub HasCounts : Command → Type 0
-HasCounts (commands.Run project workers share) = HasCount workers × HasCount share
+HasCounts (commands.Run project extent workers share) = IsExtent extent × HasCount workers × HasCount share
 HasCounts (commands.Pull project margin) = margin ≤ 1000
 HasCounts (commands.Demo count) = HasDemoCount count
 HasCounts command = Unit {0}
@@ -89,7 +117,26 @@ FindsList line found = MatchOption found ((file : List ℕ) (rate : Rate) → Gi
 
 abbrev pub FindsRun : LineText → Option Command → Type 0
 FindsRun line found =
-    MatchOption found ((project : List ℕ) (workers share : ℕ) → Gives line (commands.Run project workers share) → ⊥) (Gives line)
+    MatchOption found ((project : List ℕ) (workers share : ℕ) → Gives line (commands.Run project Whole workers share) → ⊥) (Gives line)
+
+abbrev pub FindsPart : LineText → Option Command → Type 0
+FindsPart line found = MatchOption found
+    ((project : List ℕ) (part parts workers share : ℕ) → Gives line (commands.Run project (Part part parts) workers share) → ⊥)
+    (Gives line)
+
+-- the part that a word writes, or that it writes none
+abbrev pub IsExtentWord : Text → Extent → Type 0
+IsExtentWord word Whole = ⊥
+IsExtentWord word (Part part parts) = IsPartWord word part parts
+
+abbrev pub FindsExtent : Text → Option Extent → Type 0
+FindsExtent word found = MatchOption found ((part parts : ℕ) → IsPartWord word part parts → ⊥) (IsExtentWord word)
+
+-- what stands on both sides of the first slash, or that there is none
+abbrev pub SplitsAtSlash : Text → Option (Bor Text × Bor Text) → Type 0
+SplitsAtSlash text found = MatchOption found (position_or_len is_slash text ≡ length text)
+    (λ halves. (position_or_len is_slash text < length text) × (halves.0.now ≡ before_first is_slash text)
+    × (halves.1.now ≡ after_first is_slash text))
 
 abbrev pub FindsAdopt : LineText → Option Command → Type 0
 FindsAdopt line found = MatchOption found ((project old : List ℕ) → Gives line (commands.Adopt project old) → ⊥) (Gives line)

@@ -1,11 +1,12 @@
 //! The commands, and which of them a line gives.
-ghost use Rattle.std.specs.Prelude.{◌≡◌, ◌↔◌, ℕ, List, IfOk, IfSome, IsTrue, MatchOption, None, map};
+ghost use Rattle.std.specs.Prelude.{◌≡◌, ◌↔◌, ℕ, List, IfOk, IfSome, IsTrue, MatchOption, None, Some, map, slice_get};
 ghost use Rattle.std.specs.Str.Parse.{AllDigits};
-ghost use Rattle.command_words.specs.Commands.{Gives, HasCounts, IsCount, IsDigit, IsFewDigits, IsNoCommand, IsPath, IsRow, Spells, rate_word, FindsAdopt, FindsCount, FindsList, FindsPath, FindsPull, FindsRun};
+ghost use Rattle.command_words.specs.Commands.{Gives, HasCounts, IsCount, IsDigit, IsFewDigits, IsNoCommand, IsPartNumber, IsPath, IsRow, Spells, SplitsAtSlash, rate_word, FindsAdopt, FindsCount, FindsExtent, FindsList, FindsPart, FindsPath, FindsPull, FindsRun};
 ghost use Rattle.command_words.specs.Lines.{text_of_line};
 
 use crate::line::{Line, line_of};
 use cf_base::{Fail, Never, PathText, Rate};
+use frame_range::Extent;
 use std::alloc::Global;
 
 /// What the words ask for.
@@ -17,10 +18,12 @@ pub enum Command {
     List(PathText, Rate),
     /// `plan PROJECT`: what each record frame of a project's job shows.
     Plan(PathText),
-    /// `run PROJECT`: renders a project's job into the reel folder. The options `--workers N` and `--share N`, each 1 to
-    /// 16, are 4 and 8 where they aren't given.
+    /// `run PROJECT`: renders a project's job into the reel folder; `part PROJECT K/N`: only the frames of part K of N, each
+    /// written in one to three digits, of which the first isn't 0. The options `--workers N` and `--share N`, each 1 to 16,
+    /// are 4 and 8 if they aren't given.
     Run {
         project: PathText,
+        extent: Extent,
         workers: u16,
         share: u16,
     },
@@ -28,6 +31,8 @@ pub enum Command {
     Status(PathText),
     /// `verify PROJECT`: whether what is rendered of a project's reel still is what was written.
     Verify(PathText),
+    /// `sums PROJECT`: the digests of the files of what is rendered of a project's reel, as its ledger keeps them.
+    Sums(PathText),
     /// `qc PROJECT`: counts over the frames that are rendered of a project's reel.
     Qc(PathText),
     /// `sheet PROJECT`: a contact sheet of the frames that are rendered of a project's reel.
@@ -80,11 +85,17 @@ fn command_on(line: &Line<'_>) -> Option<Command>
     if let Some(run) = run_on(line) {
         return Some(run);
     }
+    if let Some(part) = part_on(line) {
+        return Some(part);
+    }
     if let Some(project) = path_after(line, "status") {
         return Some(Command::Status(project));
     }
     if let Some(project) = path_after(line, "verify") {
         return Some(Command::Verify(project));
+    }
+    if let Some(project) = path_after(line, "sums") {
+        return Some(Command::Sums(project));
     }
     if let Some(project) = path_after(line, "qc") {
         return Some(Command::Qc(project));
@@ -147,6 +158,25 @@ fn run_on(line: &Line<'_>) -> Option<Command>
     let project = path_of(line.subject)?;
     Some(Command::Run {
         project,
+        extent: Extent::Whole,
+        workers: line.workers,
+        share: line.share,
+    })
+}
+
+/// The row `part PROJECT K/N`, with its options.
+fn part_on(line: &Line<'_>) -> Option<Command>
+    ensures { FindsPart (text_of_line line.now) result }
+{
+    if line.command != "part" {
+        return None;
+    }
+    let extra = line.extra?;
+    let extent = extent_of(extra)?;
+    let project = path_of(line.subject)?;
+    Some(Command::Run {
+        project,
+        extent,
         workers: line.workers,
         share: line.share,
     })
@@ -231,6 +261,51 @@ fn few_digits_of(text: &str) -> Option<u32>
         return None;
     }
     Some(number)
+}
+
+/// The part that a word writes, as `3/8`.
+fn extent_of(text: &str) -> Option<Extent>
+    ensures { FindsExtent text.now result }
+{
+    let Some((front, back)) = halves_of(text) else {
+        return None;
+    };
+    let part = part_number_of(front)?;
+    let parts = part_number_of(back)?;
+    if part < 1 || parts < part {
+        return None;
+    }
+    Some(Extent::Part { part, parts })
+}
+
+/// What stands on both sides of the first slash.
+fn halves_of(text: &str) -> Option<(&str, &str)>
+    ensures { SplitsAtSlash text.now result }
+{
+    text.split_once('/')
+}
+
+/// The number of one to three digits, of which the first isn't 0.
+fn part_number_of(text: &str) -> Option<u16>
+    ensures { MatchOption result ((number : ℕ) → IsPartNumber text.now number → ⊥)
+        (λ number. IsPartNumber text.now number) }
+{
+    if text.len() > 3 || begins_with_zero(text) || !is_digits(text) {
+        return None;
+    }
+    let Ok(number) = text.parse::<u16>() else {
+        return None;
+    };
+    if 999 < number {
+        return None;
+    }
+    Some(number)
+}
+
+fn begins_with_zero(text: &str) -> bool
+    ensures { IsTrue result ↔ (slice_get text.now 0 ≡ Some 48) }
+{
+    text.as_bytes().first() == Some(&b'0')
 }
 
 fn is_digits(text: &str) -> bool

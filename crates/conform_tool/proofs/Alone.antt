@@ -7,6 +7,10 @@ use Rattle.conform_job.specs.Job.{JobData}
 use Rattle.reel_disk.specs.Disk.{view_of}
 use Rattle.project_job.specs.Laws.{OneJob}
 use Rattle.project_crew.specs.Crew.{HasFailed, told_by}
+use Rattle.reel_writer.specs.Reel.{frames_of}
+use Rattle.frame_range.specs.Parts.{range_of}
+use Rattle.frame_range.specs.declared.range.Extent.{Extent}
+use Rattle.frame_range.specs.declared.range.Extent.TheVariants.{Whole}
 use Rattle.command_words.specs.Commands.{Spells}
 use Rattle.command_words.specs.declared.command.Command.{Command}
 use Rattle.outcome_line.specs.declared.outcome.Outcome.{Outcome}
@@ -40,12 +44,12 @@ module _ (house : House) {S : Type 0} (world_of : S → Option World) (faults lo
   }
 
   module _ (scans scans_after : List S) (one : FirstAnswered scans scans_after) where
-    pub alone_promise : OneJob → (world : World) (job : JobData) → RunsJob words (told_by world_of scans) folders.reel.tells world job → KeepsItsPromise job world folders.reel.history folders_after.reel.history (HasEnded result)
-    alone_promise laws world job runs =
-        answered_promise laws words (scan_state world_of faults loads heads one.first) (scan_state world_of faults loads heads one.last) folders folders_after sink sink_after result one.answered world job
-        (subst (λ told. RunsJob words told folders.reel.tells world job) one.tells runs)
+    pub alone_promise : OneJob → (world : World) (job : JobData) (extent : Extent) → RunsJob words (told_by world_of scans) folders.reel.tells world job extent → KeepsItsPromise job (range_of extent (frames_of job)) world folders.reel.history folders_after.reel.history (HasEnded result)
+    alone_promise laws world job extent runs =
+        answered_promise laws words (scan_state world_of faults loads heads one.first) (scan_state world_of faults loads heads one.last) folders folders_after sink sink_after result one.answered world job extent
+        (subst (λ told. RunsJob words told folders.reel.tells world job extent) one.tells runs)
 
-    pub alone_adoption : OneJob → (world : World) (job : JobData) → AdoptsJob words (told_by world_of scans) folders.reel.tells world (view_of folders.old.history) job → KeepsItsPromise job world folders.reel.history folders_after.reel.history (HasEnded result)
+    pub alone_adoption : OneJob → (world : World) (job : JobData) → AdoptsJob words (told_by world_of scans) folders.reel.tells world (view_of folders.old.history) job → KeepsItsPromise job (range_of Whole (frames_of job)) world folders.reel.history folders_after.reel.history (HasEnded result)
     alone_adoption laws world job adopts =
         answered_adoption laws words (scan_state world_of faults loads heads one.first) (scan_state world_of faults loads heads one.last) folders folders_after sink sink_after result one.answered world job
         (subst (λ told. AdoptsJob words told folders.reel.tells world (view_of folders.old.history) job) one.tells adopts)

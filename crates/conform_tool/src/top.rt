@@ -1,6 +1,8 @@
 //! The top call: a run with more than one worker by a crew, and all else on one thread.
 ghost use Rattle.std.specs.Prelude.{◌≡◌, ◌≤◌, ℕ, List, true, length, drop, vec_len, Some, IfSome, AllPairs, map};
 ghost use Rattle.command_words.specs.Commands.{HasCounts, Spells};
+ghost use Rattle.frame_range.specs.Parts.{IsExtent};
+ghost use Rattle.frame_range.specs.declared.range.Extent.{Extent};
 ghost use Rattle.command_words.specs.Lines.{HasCount, texts_of};
 ghost use Rattle.command_words.specs.declared.command.Command.TheVariants as commands;
 ghost use Rattle.command_answers.specs.Answer.{Answered, IsFoundIn, IsUncalled, OnSink};
@@ -14,8 +16,9 @@ ghost use Rattle.project_run.specs.Calls.{IsLeftAlone, OnDisk};
 ghost use Rattle.scan_source.specs.World.{World};
 
 use cf_base::{PathText, Sink};
-use command_answers::{answer_found, put_line, put_result};
+use command_answers::{answer_found, parts_law, put_line, put_result};
 use command_words::{Command, command_of};
+use frame_range::Extent;
 use outcome_line::Outcome;
 use project_crew::{CrewEnded, run_crewed};
 use project_job::job_laws;
@@ -36,7 +39,7 @@ pub struct Ended<S, D> {
 
 /// Does the command that the words spell. It takes 1 to 16 scans that all tell one world or tell none, a disk before its first
 /// call, and the disk of an old reel, which is only read; a run with more than one worker is a crew's, with all scans, and all
-/// else goes to the first scan alone. It hands all scans back in their order, and the disk. A run keeps the headline's promise,
+/// else goes to the first scan alone. It hands all scans back in their order, and the disk. A run keeps the headline's promise, as far as it goes,
 /// by any number of workers, wherever it is stopped and whatever it answers, and so does an adoption of frames that are the old
 /// project's.
 pub fn conform<S: Scans + Send, D: Disk + Send, K: Sink, R: Threads + Wait + Sync>(
@@ -58,10 +61,10 @@ pub fn conform<S: Scans + Send, D: Disk + Send, K: Sink, R: Threads + Wait + Syn
     requires first_moment { D.tells ≡ true → (D.history disk).now ≡ 0 }
 
     // A run with several workers.
-    ensures crew { (path : List ℕ) (workers share : ℕ) → Spells (texts_of words.now) (commands.Run path workers share)
+    ensures crew { (path : List ℕ) (extent : Extent) (workers share : ℕ) → Spells (texts_of words.now) (commands.Run path extent workers share)
         → 2 ≤ workers
         → OnSink K.written K.faults out.old out.new (OnDisk D.tells D.history D.faults disk result.disk
-        (AnsweredByCrew S.world S.faults S.loads S.same path workers scans.items result.scans.items)) result.outcome }
+        (AnsweredByCrew S.world S.faults S.loads S.same path extent workers scans.items result.scans.items)) result.outcome }
 
     // All else, with the first scan.
     ensures answered { IsAlone (texts_of words.now) → (first last : S) → IsFirst scans.items first → IsFirst result.scans.items last
@@ -74,7 +77,7 @@ pub fn conform<S: Scans + Send, D: Disk + Send, K: Sink, R: Threads + Wait + Syn
 
     ensures handed_back { vec_len result.scans ≡ vec_len scans }
     ensures later { K.faults out.old ≤ K.faults out.new }
-    ensures old_folder { (path : List ℕ) (workers share : ℕ) → Spells (texts_of words.now) (commands.Run path workers share)
+    ensures old_folder { (path : List ℕ) (extent : Extent) (workers share : ℕ) → Spells (texts_of words.now) (commands.Run path extent workers share)
         → 2 ≤ workers → old.new ≡ old.old }
 
     // What is left alone is the very disk.
@@ -106,6 +109,7 @@ pub fn conform<S: Scans + Send, D: Disk + Send, K: Sink, R: Threads + Wait + Syn
         → IsUnfailed command result.outcome }
 {
     job_laws();
+    parts_law();
     let Ok(found) = command_of(alloc, words) else {
         let outcome = put_line(alloc, &Outcome::NoMemory, out);
         return Ended {
@@ -130,10 +134,11 @@ pub fn conform<S: Scans + Send, D: Disk + Send, K: Sink, R: Threads + Wait + Syn
     }
 }
 
-/// A run with several workers: its project, their number, and how many source frames they share.
+/// A run with several workers: its project, which frames, their number, and how many source frames they share.
 #[derive(Drop)]
 struct CrewRun {
     project: PathText,
+    extent: Extent,
     workers: u16,
     share: u16,
 }
@@ -146,6 +151,7 @@ fn crew_of(found: &Option<Command>) -> Option<CrewRun>
         Some(
             Command::Run {
                 project,
+                extent,
                 workers,
                 share,
             },
@@ -155,6 +161,7 @@ fn crew_of(found: &Option<Command>) -> Option<CrewRun>
             }
             Some(CrewRun {
                 project,
+                extent,
                 workers,
                 share,
             })
@@ -172,6 +179,7 @@ fn by_crew<S: Scans + Send, D: Disk + Send, K: Sink, R: Threads + Wait + Sync>(
     disk: D,
     out: &mut K,
 ) -> Ended<S, D>
+    requires extent { IsExtent crew.now.extent }
     requires workers { HasCount crew.now.workers }
     requires share { HasCount crew.now.share }
     requires scans { (1 ≤ vec_len scans) × (vec_len scans ≤ 16) }
@@ -179,7 +187,7 @@ fn by_crew<S: Scans + Send, D: Disk + Send, K: Sink, R: Threads + Wait + Sync>(
     requires no_fault { D.faults disk ≡ 0 }
     requires first_moment { D.tells ≡ true → (D.history disk).now ≡ 0 }
     ensures crew { OnSink K.written K.faults out.old out.new (OnDisk D.tells D.history D.faults disk result.disk
-        (AnsweredByCrew S.world S.faults S.loads S.same crew.now.project crew.now.workers scans.items result.scans.items)) result.outcome }
+        (AnsweredByCrew S.world S.faults S.loads S.same crew.now.project crew.now.extent crew.now.workers scans.items result.scans.items)) result.outcome }
     ensures handed_back { vec_len result.scans ≡ vec_len scans }
     ensures later { K.faults out.old ≤ K.faults out.new }
     ensures untouched { IsLeftAlone disk result.disk result.outcome }
@@ -193,6 +201,7 @@ fn by_crew<S: Scans + Send, D: Disk + Send, K: Sink, R: Threads + Wait + Sync>(
         rt,
         alloc,
         &crew.project,
+        crew.extent,
         crew.workers,
         crew.share,
         scans,

@@ -1,5 +1,5 @@
 -- A run that was begun on an empty disk.
-use Rattle.std.proofs.Common.{◌≡◌, ℕ, zero, suc, ◌+◌, Bool, true, false, not, List, [], ◌∷◌, length, get_or, filter, count_by, refl, sym, ap, subst, ◌∙◌, inl, inr, arith}
+use Rattle.std.proofs.Common.{◌≡◌, ℕ, zero, suc, ◌+◌, ◌-◌, Bool, true, false, not, List, [], ◌∷◌, length, get_or, filter, count_by, refl, sym, ap, subst, ◌∙◌, inl, inr, arith}
 use Rattle.std.specs.Prelude.{◌⊎◌, Option, Some, None, IsSome, IfSome, is_some}
 use Rattle.std.specs.List.{range_with_len}
 use Rattle.cf_base.specs.declared.file.FileId.{FileId}
@@ -45,9 +45,9 @@ all_closed : (gates : List Bool) → ((k : ℕ) → get_or gates k false ≡ fal
 all_closed gates shut from zero = refl
 all_closed gates shut from (suc count) = rw (shut from) (ap suc (all_closed gates shut (from + 1) count))
 
-closed_count : (gates : List Bool) → ((k : ℕ) → get_or gates k false ≡ true → ⊥) → (count : ℕ) → length (closed_frames gates count) ≡ count
+closed_count : (gates : List Bool) → ((k : ℕ) → get_or gates k false ≡ true → ⊥) → (count : ℕ) → length (closed_frames gates 0 count) ≡ count
 unfolding closed_frames
-closed_count gates shut count = all_closed gates (is_shut gates shut) 0 count
+closed_count gates shut count = all_closed gates (is_shut gates shut) 0 (count - 0) ∙ omega arith
 
 module _ (old : History) (faults : ℕ) (fresh : IsNewDisk (λ id. None) old faults) where
   -- a file is sealed in no image
@@ -64,22 +64,22 @@ module _ (old : History) (faults : ℕ) (fresh : IsNewDisk (λ id. None) old fau
       none : (version : Version) → IsInForce version files → ⊥
       none = no_seal files (image_empty files image)
 
-  module _ (job : JobData) (told : Option World) (new : History) where
+  module _ (job : JobData) (count : ℕ) (all : count ≡ frames_of job) (told : Option World) (new : History) where
     -- at Done the folder has the whole reel
-    pub whole_at_done : HasWhole job told old new → IfSome told (λ world. IsWhole job world (moment_of new))
-    whole_at_done whole = by told whole.shown
+    pub whole_at_done : HasWhole job 0 count told old new → IfSome told (λ world. IsWhole job 0 (frames_of job) world (moment_of new))
+    whole_at_done whole = subst (λ (n : ℕ). IfSome told (λ world. IsWhole job 0 n world (moment_of new))) all (by told whole.shown)
       where
-        by : (files : Option World) → IfSome files (λ world. Surely (moment_of old) (IsSoundReel job world) → IsWhole job world (moment_of new)) → IfSome files (λ world. IsWhole job world (moment_of new))
+        by : (files : Option World) → IfSome files (λ world. Surely (moment_of old) (IsSoundReel job world) → IsWhole job 0 count world (moment_of new)) → IfSome files (λ world. IsWhole job 0 count world (moment_of new))
         by None shown = tt
         by (Some world) shown = shown (sound job world)
 
     module _ (capacity : ℕ) (report : Report) (log : List ShareStep) where
       -- and every frame is among those that were finished
-      pub acked_at_done : WasOpened job told capacity true old new Done report log ⊎ WasUnopened job true old new Done report log → report.kept + report.rendered ≡ frames_of job
+      pub acked_at_done : WasOpened job 0 count told capacity true old new Done report log ⊎ WasUnopened job true old new Done report log → report.kept + report.rendered ≡ frames_of job
       acked_at_done (inl opened) =
           let shut : (k : ℕ) → get_or opened.gates k false ≡ true → ⊥ = λ k is. let acks = ((opened.opening refl k).0 is).0 in unsealed (acks.version, acks.in_force) in
           let kept : report.kept ≡ 0 = opened.kept ∙ none_open opened.gates shut in
-          let rendered : report.rendered ≡ frames_of job = opened.finished.all refl ∙ closed_count opened.gates shut (frames_of job) in
+          let rendered : report.rendered ≡ frames_of job = opened.finished.all refl ∙ closed_count opened.gates shut count ∙ all in
           omega (arith, kept, rendered)
       acked_at_done (inr refused) = absurd refused.why
 
@@ -94,7 +94,7 @@ module _ (old : History) (faults : ℕ) (fresh : IsNewDisk (λ id. None) old fau
       never_refused NoMemory why disk memory = memory refl
 
       -- so a run over files that are told, of which no load fails, ends otherwise for want of memory alone
-      pub ends_in_memory : (end : RunEnd) → WasOpened job told capacity true old new end report log ⊎ WasUnopened job true old new end report log → IsSome told
+      pub ends_in_memory : (end : RunEnd) → WasOpened job 0 count told capacity true old new end report log ⊎ WasUnopened job true old new end report log → IsSome told
           → (end ≡ SourceFault → ⊥) → (end ≡ Done → ⊥) → (end ≡ DiskFault → ⊥) → (end ≡ NoMemory → ⊥) → ⊥
       ends_in_memory end (inl opened) tells source done disk memory = by end opened.is_end source done disk memory
         where

@@ -6,12 +6,13 @@ use Rattle.conform_job.specs.Job.{JobData}
 use Rattle.reel_disk.specs.Disk.{moment_of}
 use Rattle.reel_disk.specs.MemoryDisk.{history_in}
 use Rattle.reel_disk.specs.declared.memory.MemoryDisk.{MemoryDisk}
+use Rattle.reel_writer.specs.Reel.{frames_of}
 use Rattle.single_run.specs.Run.{IsWhole}
 use Rattle.demo_run.specs.Demo.{reel_digest, reel_text}
 
 -- the disk has the whole reel of the job over this world
 abbrev pub IsWholeOn : MemoryDisk → JobData → World → Type 0
-IsWholeOn disk job world = IsWhole job world (moment_of (history_in disk))
+IsWholeOn disk job world = IsWhole job 0 (frames_of job) world (moment_of (history_in disk))
 
 -- it is the digest of that reel, and the text of it
 abbrev pub IsReelDigest : JobData → World → List ℕ → Type 0

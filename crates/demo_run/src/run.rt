@@ -32,7 +32,13 @@ pub(crate) fn run(
     ensures whole { OnOk result (IfSome (⟦<UnfailingScans as Scans>⟧.world scan.old) (IsWholeOn disk.new job.now)) }
 {
     let (end, report, _) = run_alone::<Brand, UnfailingScans, MemoryDisk>(
-        alloc, job, scan, disk, SHARE,
+        alloc,
+        job,
+        scan,
+        disk,
+        SHARE,
+        0,
+        job.count(),
     );
     match end {
         RunEnd::Done => Ok(report.kept + report.rendered),

@@ -7,7 +7,7 @@ use std::alloc::Global;
 
 /// Two workers over four frames, of which the second is done.
 fn board_of_four(alloc: Global) -> Result<Board, Failed<Never>> {
-    Board::new(alloc, &[false, true, false, false], 2)
+    Board::new(alloc, &[false, true, false, false], 0, 4, 2)
 }
 
 /// Claims a frame, if the worker is idle.
@@ -156,7 +156,7 @@ fn after_a_stop_none_is_claimed_and_others_may_finish(rt: HostRuntime) {
 
 #[test]
 fn a_reel_that_was_done_has_no_frame_left(rt: HostRuntime) {
-    let done = Board::new(rt.alloc(), &[true, true], 16);
+    let done = Board::new(rt.alloc(), &[true, true], 0, 2, 16);
     let mut board = done.ok().expect(&rt, "a board");
     assert!(rt; claim(&mut board, 15) == Some(Claim::NoneLeft));
     assert!(rt; claim(&mut board, 16) == None);

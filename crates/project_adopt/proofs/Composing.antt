@@ -13,7 +13,7 @@ use Rattle.resume_ledger.specs.declared.layout.Version.TheVariants.{Two}
 use Rattle.resume_ledger.specs.Ledger.{IsInForce}
 use Rattle.resume_ledger.specs.Sound.{WritesOnly}
 use Rattle.resume_ledger.proofs.Reading.{writes_along}
-use Rattle.reel_writer.specs.Reel.{HasFrameFiles, IsReelRun, IsSoundReel}
+use Rattle.reel_writer.specs.Reel.{frames_of, HasFrameFiles, IsReelRun, IsSoundReel}
 use Rattle.reel_writer.specs.Changes.{HasKept, IsOwnFile, MayWrite}
 use Rattle.reel_writer.proofs.ReelLaws.{reel_run_along}
 use Rattle.reel_writer.proofs.Writing.{writes_wider}
@@ -21,7 +21,7 @@ use Rattle.reconform.specs.Adopt.{IsOfOld, WasAdopted, IsWhyUnadopted}
 use Rattle.reconform.specs.declared.adopting.Adopted.{Adopted}
 use Rattle.reconform.specs.declared.adopting.AdoptFault.{AdoptFault}
 use Rattle.reconform.specs.declared.adopting.AdoptFault.TheVariants as faults
-use Rattle.single_run.specs.Run.{AreAllAcked}
+use Rattle.single_run.specs.Run.{AreAllAcked, IsOwnFileOf, MayWriteOf}
 use Rattle.frame_fetch.specs.declared.run_end.RunEnd.{RunEnd}
 use Rattle.frame_fetch.specs.declared.run_end.RunEnd.TheVariants as ends
 use Rattle.single_run.proofs.Closing.{whole_reel}
@@ -101,21 +101,21 @@ module _ (job : JobData) (old mid new : History) (two : IsInForce Two (view_of m
 
   -- what the folder kept at the opening, it keeps at the run's
   module _ (kept : (k : ℕ) → HasKept job k (view_of old) → HasKept job k (view_of mid)) where
-    own_first : (q : FileId) → IsOwnFile job (view_of mid) q → IsOwnFile job (view_of old) q
+    own_first : (q : FileId) → IsOwnFileOf job 0 (frames_of job) (view_of mid) q → IsOwnFile job (view_of old) q
     own_first q (inl ledger) = inl ledger
-    own_first q (inr frame) = inr (frame.0, frame.1, λ was. frame.2 (kept frame.0 was), frame.3)
+    own_first q (inr frame) = inr (frame.0, frame.2, λ was. frame.3 (kept frame.0 was), frame.4)
 
-    write_first : (q : FileId) → MayWrite job (view_of mid) q → MayWrite job (view_of old) q
+    write_first : (q : FileId) → MayWriteOf job 0 (frames_of job) (view_of mid) q → MayWrite job (view_of old) q
     write_first q (inl ledger) = inl ledger
-    write_first q (inr frame) = inr (frame.0, frame.1, λ was. frame.2 (kept frame.0 was), frame.3)
+    write_first q (inr frame) = inr (frame.0, frame.2, λ was. frame.3 (kept frame.0 was), frame.4)
 
-    pub both_spare : {lent told : Option World} → IsReelRun job lent old mid → IsReelRun job told mid new → Spares old mid (IsOwnFile job (view_of old)) → Spares mid new (IsOwnFile job (view_of mid)) → Spares old new (IsOwnFile job (view_of old))
+    pub both_spare : {lent told : Option World} → IsReelRun job lent old mid → IsReelRun job told mid new → Spares old mid (IsOwnFile job (view_of old)) → Spares mid new (IsOwnFileOf job 0 (frames_of job) (view_of mid)) → Spares old new (IsOwnFile job (view_of old))
     both_spare first second spared rest =
-        spares_along old mid new (IsOwnFile job (view_of old)) first.extends second.extends spared (spares_wider mid new (IsOwnFile job (view_of mid)) (IsOwnFile job (view_of old)) own_first rest)
+        spares_along old mid new (IsOwnFile job (view_of old)) first.extends second.extends spared (spares_wider mid new (IsOwnFileOf job 0 (frames_of job) (view_of mid)) (IsOwnFile job (view_of old)) own_first rest)
 
-    pub both_write : {lent told : Option World} → IsReelRun job lent old mid → IsReelRun job told mid new → WritesOnly old mid (MayWrite job (view_of old)) → WritesOnly mid new (MayWrite job (view_of mid)) → WritesOnly old new (MayWrite job (view_of old))
+    pub both_write : {lent told : Option World} → IsReelRun job lent old mid → IsReelRun job told mid new → WritesOnly old mid (MayWrite job (view_of old)) → WritesOnly mid new (MayWriteOf job 0 (frames_of job) (view_of mid)) → WritesOnly old new (MayWrite job (view_of old))
     both_write first second wrote rest =
-        writes_along (MayWrite job (view_of old)) old mid new first.extends second.extends wrote (writes_wider mid new (MayWrite job (view_of mid)) (MayWrite job (view_of old)) write_first rest)
+        writes_along (MayWrite job (view_of old)) old mid new first.extends second.extends wrote (writes_wider mid new (MayWriteOf job 0 (frames_of job) (view_of mid)) (MayWrite job (view_of old)) write_first rest)
 
 -- a frame that the adoption's opening kept is acknowledged behind it
 kept_on : (job old_job : JobData) (tells : Bool) (old_files before after : Files) (done : Adopted) → WasAdopted job old_job tells old_files before after done → tells ≡ true → IsInForce Two after
@@ -140,7 +140,7 @@ module _ (job old_job : JobData) (lent told : Option World) (tells_lent : Tells 
   -- both folders were opened
   module _ (done : Adopted) (adopted : WasAdopted job old_job tells (view_of h) (view_of before) (view_of between) done) (two : tells ≡ true → IsInForce Two (view_of between))
       (loads loads_after : ℕ) (reached : Outcome) (output : List ℕ) (rest : IsRest job done told loads loads_after (at tells between f_between) (at tells after f_after_all) reached output) where
-    both_acked : reached ≡ outcome.Done → tells ≡ true → AreAllAcked job (moment_of after)
+    both_acked : reached ≡ outcome.Done → tells ≡ true → AreAllAcked job 0 (frames_of job) (moment_of after)
     both_acked is t = rest.run.keeps.acked (done_ends job.parts.reels rest.run.how reached rest.run.reply.reached_is is) t
 
     both_ran : tells ≡ true → IsReelRun job lent before after
@@ -168,7 +168,7 @@ module _ (job old_job : JobData) (lent told : Option World) (tells_lent : Tells 
     pub promised_on : tells ≡ true → IsPromised job lent (at tells before f_before) (at tells after f_after_all) reached
     promised_on t = record {
       run = both_ran t;
-      whole = λ is. whole_reel job lent before after (both_ran t) (both_acked is t);
+      whole = λ is. whole_reel job 0 (frames_of job) lent before after (both_ran t) (both_acked is t);
     }
 
   -- the adoption didn't come to its end

@@ -28,6 +28,8 @@ use Rattle.outcome_line.specs.declared.outcome.Outcome.{Outcome}
 use Rattle.outcome_line.specs.declared.outcome.Outcome.TheVariants as outcome
 use Rattle.project_job.specs.Jobs.{ComesTo, cube_count}
 use Rattle.project_run.specs.Calls.{DiskState, OnDisk}
+use Rattle.frame_range.specs.Parts.{range_of}
+use Rattle.frame_range.specs.declared.range.Extent.TheVariants.{Whole}
 use Rattle.project_run.specs.Run.{IsJobRun, IsOfRun, IsUnplanned, outcome_of_end}
 
 -- the frames of the reel, those that were acknowledged at the opening, those that were taken over, and the rendered ones
@@ -73,7 +75,7 @@ share_count = 8
 pub record IsRest (job : JobData) (done : Adopted) (told : Option World) (loads loads_after : ℕ) (disk disk_after : DiskState) (reached : Outcome) (output : List ℕ) : Type 0 where
   -- what `run` would have put
   pub run_output : List ℕ
-  pub run : IsJobRun job share_count told loads loads_after disk disk_after reached run_output
+  pub run : IsJobRun job Whole (range_of Whole (frames_of job)) share_count told loads loads_after disk disk_after reached run_output
   pub form : reached ≡ outcome.Done → output ≡ adopt_text done run.report
 
 -- The adoption didn't come to its end, and nothing was loaded or written after it.
@@ -96,7 +98,7 @@ Ends result Was = MatchResult result (λ text. Was outcome.Done) Was
 -- is lost; at Done the folder has the whole reel.
 pub record IsPromised (job : JobData) (told : Option World) (disk disk_after : DiskState) (reached : Outcome) : Type 0 where
   pub run : IsReelRun job told disk.history disk_after.history
-  pub whole : reached ≡ outcome.Done → HasWhole job told disk.history disk_after.history
+  pub whole : reached ≡ outcome.Done → HasWhole job 0 (frames_of job) told disk.history disk_after.history
 
 -- Frames of the old folder were taken over into the new one, as far as they have an intact donor, and the rest was run.
 pub record IsAdoption (job old_job : JobData) (told : Option World) (loads loads_after : ℕ) (old old_after disk disk_after : DiskState) (reached : Outcome) (output : List ℕ) : Type 0 where
@@ -114,7 +116,7 @@ pub record IsAdoption (job old_job : JobData) (told : Option World) (loads loads
   pub untouched : MatchResult adopted (λ done. Unit {0}) (λ why. IsOfOld why → disk_after ≡ disk)
   -- the old folder was changed at no moment
   pub still : disk.tells ≡ true → IsStill old.history old_after.history
-  pub acked : reached ≡ outcome.Done → disk.tells ≡ true → AreAllAcked job (moment_of disk_after.history)
+  pub acked : reached ≡ outcome.Done → disk.tells ≡ true → AreAllAcked job 0 (frames_of job) (moment_of disk_after.history)
   -- what may have changed in the new one, and what was written, as in a run
   pub spares : disk.tells ≡ true → Spares disk.history disk_after.history (IsOwnFile job (view_of disk.history))
   pub writes : disk.tells ≡ true → WritesOnly disk.history disk_after.history (MayWrite job (view_of disk.history))

@@ -101,6 +101,6 @@ fn run_rest<S: Scans, D: Disk>(
 
     ensures disk { LeavesDisk D.faults D.loans (result ≡ Err Outcome.DiskFault) disk.old disk.new }
 {
-    let (end, report, _) = run_alone::<Brand, S, D>(alloc, job, scan, disk, SHARE);
+    let (end, report, _) = run_alone::<Brand, S, D>(alloc, job, scan, disk, SHARE, 0, job.count());
     reply_of(alloc, job, done, end, &report)
 }

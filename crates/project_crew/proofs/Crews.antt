@@ -8,12 +8,14 @@ use Rattle.frame_share.specs.declared.step.ShareStep.{ShareStep}
 use Rattle.reel_disk.specs.Disk.{Files, moment_of, view_of}
 use Rattle.reel_disk.specs.Runs.{Spares}
 use Rattle.resume_ledger.specs.Sound.{WritesOnly}
-use Rattle.reel_writer.specs.Changes.{IsOwnFile, MayWrite}
+use Rattle.frame_range.specs.Parts.{range_of}
+use Rattle.frame_range.specs.declared.range.Extent.{Extent}
+use Rattle.frame_range.specs.declared.range.FrameRange.{FrameRange}
 use Rattle.reel_writer.specs.Reel.{frames_of, HasFrameFiles, IsReelRun, IsSoundReel}
 use Rattle.render_board.specs.declared.step.Step.{Step}
 use Rattle.station.specs.Crews.{AreWorked, TookNoSteps, TookSteps}
 use Rattle.frame_fetch.specs.Ends.{IsChange}
-use Rattle.single_run.specs.Run.{AreAllAcked, HasWhole}
+use Rattle.single_run.specs.Run.{AreAllAcked, HasWhole, IsOwnFileOf, MayWriteOf}
 use Rattle.single_run.specs.declared.report.Report.{Report}
 use Rattle.frame_fetch.specs.declared.run_end.RunEnd.{RunEnd}
 use Rattle.frame_fetch.specs.declared.run_end.RunEnd.TheVariants as ends
@@ -23,7 +25,7 @@ use Rattle.outcome_line.specs.declared.outcome.Outcome.{Outcome}
 use Rattle.outcome_line.specs.declared.outcome.Outcome.TheVariants as outcomes
 use Rattle.project_crew.specs.Crew.{HasFailed, HasFirstLoaded, IsJobRunByCrew, IsCrewReply, told_by}
 use Rattle.project_run.specs.Calls.{DiskState}
-use Rattle.project_run.specs.Run.{ReportsEnd}
+use Rattle.project_run.specs.Run.{ReportsEnd, report_text}
 
 -- an error is the same error of another result
 same_error : {A : Type 0} (a b : Outcome) → ◌≡◌ {A = Result A Outcome} (Err a) (Err b) → a ≡ b
@@ -39,27 +41,27 @@ module _ {S : Type 0} (world : S → Option World) (faults loads : S → ℕ) (s
       let at = worked.failed is in
       (at.0, at.1, λ scan. (worked.each at.0 scan at.1).failed at.2)
 
-  pub crew_job_run : (log : List ShareStep) (job : JobData) (told : Option World) (workers count : ℕ) (old new : List S) (disk disk_after : DiskState) (how : RunEnd) (report : Report) (steps : Option (List Step)) → count ≡ length old
+  pub crew_job_run : (log : List ShareStep) (job : JobData) (extent : Extent) (range : FrameRange) (told : Option World) (workers count : ℕ) (old new : List S) (disk disk_after : DiskState) (how : RunEnd) (report : Report) (steps : Option (List Step)) → count ≡ length old
       → report.frames ≡ frames_of job
-      → MatchOption steps (TookNoSteps job disk.tells disk.history disk_after.history how report log) (λ all. TookSteps job told (min workers count) disk.tells disk.history disk_after.history all how report log)
+      → MatchOption steps (TookNoSteps job disk.tells disk.history disk_after.history how report log) (λ all. TookSteps job range.low range.high told (min workers count) disk.tells disk.history disk_after.history all how report log)
       → (disk.tells ≡ true → IsReelRun job told disk.history disk_after.history)
-      → (how ≡ ends.Done → disk.tells ≡ true → AreAllAcked job (moment_of disk_after.history))
-      → (how ≡ ends.Done → disk.tells ≡ true → HasWhole job told disk.history disk_after.history)
+      → (how ≡ ends.Done → disk.tells ≡ true → AreAllAcked job range.low range.high (moment_of disk_after.history))
+      → (how ≡ ends.Done → disk.tells ≡ true → HasWhole job range.low range.high told disk.history disk_after.history)
       → ((world : World) (files : Files) → IsSoundReel job world files → HasFrameFiles job files)
-      → (disk.tells ≡ true → Spares disk.history disk_after.history (IsOwnFile job (view_of disk.history)))
-      → (disk.tells ≡ true → WritesOnly disk.history disk_after.history (MayWrite job (view_of disk.history)))
+      → (disk.tells ≡ true → Spares disk.history disk_after.history (IsOwnFileOf job range.low range.high (view_of disk.history)))
+      → (disk.tells ≡ true → WritesOnly disk.history disk_after.history (MayWriteOf job range.low range.high (view_of disk.history)))
       → AreWorked world faults loads same (min workers count) report.loads (how ≡ ends.SourceFault) old new
       → (IsChange how → 1 ≤ report.loads)
-      → (reached : Outcome) (output : List ℕ) → ReportsEnd job how report reached output
-      → IsJobRunByCrew world faults loads same job told workers old new disk disk_after reached output
-  crew_job_run log job told workers count old new disk disk_after how report steps all frames ran run acked whole sound_has spares writes scans changed reached output reply = record {
+      → (reached : Outcome) (output : List ℕ) → ReportsEnd job how (report_text extent range report) reached output
+      → IsJobRunByCrew world faults loads same job extent range told workers old new disk disk_after reached output
+  crew_job_run log job extent range told workers count old new disk disk_after how report steps all frames ran run acked whole sound_has spares writes scans changed reached output reply = record {
     how = how;
     report = report;
     reply = reply;
     frames = frames;
     steps = steps;
     log = log;
-    ran = subst (λ n. MatchOption steps (TookNoSteps job disk.tells disk.history disk_after.history how report log) (λ all. TookSteps job told (min workers n) disk.tells disk.history disk_after.history all how report log)) all ran;
+    ran = subst (λ n. MatchOption steps (TookNoSteps job disk.tells disk.history disk_after.history how report log) (λ all. TookSteps job range.low range.high told (min workers n) disk.tells disk.history disk_after.history all how report log)) all ran;
     keeps = record { run = run; acked = acked; whole = whole; sound_has = sound_has; spares = spares; writes = writes };
     scans = subst (λ n. AreWorked world faults loads same (min workers n) report.loads (how ≡ ends.SourceFault) old new) all scans;
     changed = changed;
@@ -109,11 +111,11 @@ module _ {S : Type 0} (world : S → Option World) (faults loads : S → ℕ) (s
     failed_first [] first some is rose = absurd (omega (arith, some))
     failed_first (scan ∷ scans) first some is rose = (0, omega arith, λ d. subst (λ n. HasRisen n (faults used)) (ap faults (sym is)) rose)
 
-    pub uncrewed : (path : List ℕ) (workers : ℕ) (scans : List S) (first : S) (disk : DiskState) (reached : Outcome) (output : List ℕ) → 0 < length scans → get_or scans 0 first ≡ first
+    pub uncrewed : {extent : Extent} (path : List ℕ) (workers : ℕ) (scans : List S) (first : S) (disk : DiskState) (reached : Outcome) (output : List ℕ) → 0 < length scans → get_or scans 0 first ≡ first
         → IfSome (world first) (λ files. HasPlanned (file_at files) path (Err reached)) → IsOfJob reached → AreLoaded 1 3 (loads first) (loads used)
         → HasLoadedFor (world first) path (loads first) (loads used) reached → (reached ≢ outcomes.SourceFault → faults used ≡ faults first)
         → faults first ≤ faults used → world used ≡ world first → same first used
-        → IsCrewReply world faults loads same path workers scans (set scans 0 used) disk disk reached output
+        → IsCrewReply world faults loads same path extent workers scans (set scans 0 used) disk disk reached output
     uncrewed path workers [] first disk reached output some is why kind texts refused steady later told lent = absurd (omega (arith, some))
     uncrewed path workers (scan ∷ scans) first disk reached output some is why kind texts refused steady later told lent = inr (record {
       why = subst (λ s. IfSome (world s) (λ files. HasPlanned (file_at files) path (Err reached))) (sym is) why;
@@ -129,17 +131,18 @@ module _ {S : Type 0} (world : S → Option World) (faults loads : S → ℕ) (s
       others = refl;
     })
 
-    pub crewed : (job : JobData) (path : List ℕ) (workers : ℕ) (scans new : List S) (first : S) (disk disk_after : DiskState) (reached : Outcome) (output : List ℕ) → 0 < length scans → get_or scans 0 first ≡ first
+    pub crewed : (job : JobData) (extent : Extent) (range : FrameRange) (path : List ℕ) (workers : ℕ) (scans new : List S) (first : S) (disk disk_after : DiskState) (reached : Outcome) (output : List ℕ) → range ≡ range_of extent (frames_of job) → 0 < length scans → get_or scans 0 first ≡ first
         → IfSome (world first) (λ files. HasPlanned (file_at files) path (Ok job)) → world used ≡ world first
         → HasFirstLoaded world faults loads same (2 + cube_count job.parts.project.cube) scans (set scans 0 used)
-        → IsJobRunByCrew world faults loads same job (told_by world (set scans 0 used)) workers (set scans 0 used) new disk disk_after reached output
-        → IsCrewReply world faults loads same path workers scans new disk disk_after reached output
-    crewed job path workers scans new first disk disk_after reached output some is comes told texts ran = inl (record {
+        → IsJobRunByCrew world faults loads same job extent range (told_by world (set scans 0 used)) workers (set scans 0 used) new disk disk_after reached output
+        → IsCrewReply world faults loads same path extent workers scans new disk disk_after reached output
+    crewed job extent range path workers scans new first disk disk_after reached output whole some is comes told texts ran = inl (record {
       job = job;
       comes = subst (λ o. IfSome o (λ files. HasPlanned (file_at files) path (Ok job))) (told_first scans some is) comes;
       planned = set scans 0 used;
       texts = texts;
-      ran = subst (λ o. IsJobRunByCrew world faults loads same job o workers (set scans 0 used) new disk disk_after reached output) (told_still scans first some is told) ran;
+      ran = subst (λ (r : FrameRange). IsJobRunByCrew world faults loads same job extent r (told_by world scans) workers (set scans 0 used) new disk disk_after reached output) whole
+          (subst (λ o. IsJobRunByCrew world faults loads same job extent range o workers (set scans 0 used) new disk disk_after reached output) (told_still scans first some is told) ran);
     })
       where
         told_first : (scans : List S) → 0 < length scans → get_or scans 0 first ≡ first → world first ≡ told_by world scans

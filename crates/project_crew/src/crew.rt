@@ -3,11 +3,14 @@ ghost use Rattle.std.specs.Prelude.{◌≡◌, ◌≤◌, true, All, AllPairs, E
 ghost use Rattle.cf_base.specs.Count.{HasRisen};
 ghost use Rattle.conform_job.specs.Answers.{AreInfosOf};
 ghost use Rattle.project_crew.specs.Crew.{HasFailed, IsJobRunByCrew, IsCrewReply, told_by};
+ghost use Rattle.frame_range.specs.Parts.{IsExtent};
+ghost use Rattle.reel_writer.specs.Reel.{frames_of};
 ghost use Rattle.project_run.specs.Calls.{IsLeftAlone, OnDisk, Replies};
 ghost use Rattle.project_run.specs.Run.{IsOfRun, IsShareCount};
 
 use cf_base::PathText;
 use conform_job::Job;
+use frame_range::{Extent, FrameRange, range_of};
 use outcome_line::Outcome;
 use project_job::planned;
 use project_run::reply_of;
@@ -29,8 +32,8 @@ pub struct CrewEnded<S, D> {
     pub disk: D,
 }
 
-/// The report of a run of the project at a path in the reel folder, by so many workers, or the outcome that was reached. The
-/// scans tell one world, or none does; the disk was never used.
+/// The report of a run of the project at a path in the reel folder, over all its frames or those of a part, by so many workers,
+/// or the outcome that was reached. The scans tell one world, or none does; the disk was never used.
 ///
 /// The project is planned with the first scan; then each of the first `workers` scans has a worker. The outcomes are those of
 /// a run on one thread, and come for the same causes. It may wait for the lock that the workers share.
@@ -38,6 +41,7 @@ pub fn run_crewed<S: Scans + Send, D: Disk + Send, R: Threads + Wait + Sync>(
     rt: &R,
     alloc: Global,
     path: &PathText,
+    extent: Extent,
     workers: u16,
     share: u16,
     mut scans: Vec<S>,
@@ -45,12 +49,13 @@ pub fn run_crewed<S: Scans + Send, D: Disk + Send, R: Threads + Wait + Sync>(
 ) -> CrewEnded<S, D>
     requires scans { (1 ≤ vec_len scans) × (vec_len scans ≤ 16) }
     requires one_world { AllPairs (λ a b. S.world a ≡ S.world b) scans.items }
+    requires extent { IsExtent extent }
     requires workers { (1 ≤ workers) × (workers ≤ 16) }
     requires share { IsShareCount share }
     requires no_fault { D.faults disk ≡ 0 }
     requires first_moment { D.tells ≡ true → (D.history disk).now ≡ 0 }
     ensures reply { Replies result.result (OnDisk D.tells D.history D.faults disk result.disk
-        (IsCrewReply S.world S.faults S.loads S.same path.now workers scans.items result.scans.items)) }
+        (IsCrewReply S.world S.faults S.loads S.same path.now extent workers scans.items result.scans.items)) }
     ensures kind { MatchResult result.result (λ text. Unit {0}) IsOfRun }
     ensures handed_back { vec_len result.scans ≡ vec_len scans }
 
@@ -70,22 +75,26 @@ pub fn run_crewed<S: Scans + Send, D: Disk + Send, R: Threads + Wait + Sync>(
             };
         }
     };
-    let ended = run_job(rt, alloc, &job, workers, share, scans, disk);
+    let range = range_of(extent, job.count());
+    let ended = run_job(rt, alloc, &job, extent, range, workers, share, scans, disk);
     // By a call, as in a run on one thread.
     drop(job);
     ended
 }
 
-/// The report of a run of a job by so many workers, or the outcome that was reached.
+/// The report of a run over a range of a job's frames by so many workers, or the outcome that was reached.
 fn run_job<S: Scans + Send, D: Disk + Send, R: Threads + Wait + Sync>(
     rt: &R,
     alloc: Global,
     job: &Job,
+    extent: Extent,
+    range: FrameRange,
     workers: u16,
     share: u16,
     scans: Vec<S>,
     disk: D,
 ) -> CrewEnded<S, D>
+    requires range { (range.low ≤ range.high) × (range.high ≤ frames_of job.now) }
     requires scans { (1 ≤ vec_len scans) × (vec_len scans ≤ 16) }
     requires one_world { All (λ scan. S.world scan ≡ told_by S.world scans.items) scans.items }
     requires workers { (1 ≤ workers) × (workers ≤ 16) }
@@ -94,7 +103,7 @@ fn run_job<S: Scans + Send, D: Disk + Send, R: Threads + Wait + Sync>(
     requires no_fault { D.faults disk ≡ 0 }
     requires first_moment { D.tells ≡ true → (D.history disk).now ≡ 0 }
     ensures ran { Replies result.result (OnDisk D.tells D.history D.faults disk result.disk
-        (IsJobRunByCrew S.world S.faults S.loads S.same job.now (told_by S.world scans.items) workers scans.items result.scans.items)) }
+        (IsJobRunByCrew S.world S.faults S.loads S.same job.now extent range (told_by S.world scans.items) workers scans.items result.scans.items)) }
     ensures kind { MatchResult result.result (λ text. Unit {0}) IsOfRun }
     ensures handed_back { vec_len result.scans ≡ vec_len scans }
 
@@ -111,8 +120,18 @@ fn run_job<S: Scans + Send, D: Disk + Send, R: Threads + Wait + Sync>(
         log: _,
         scans,
         disk,
-    } = run_crew::<Brand, S, D, R>(rt, alloc, job, scans, workers, disk, u32::from(share));
-    let result = reply_of(alloc, job, end, &report);
+    } = run_crew::<Brand, S, D, R>(
+        rt,
+        alloc,
+        job,
+        scans,
+        workers,
+        disk,
+        u32::from(share),
+        range.low,
+        range.high,
+    );
+    let result = reply_of(alloc, job, extent, range, end, &report);
     CrewEnded {
         result,
         scans,

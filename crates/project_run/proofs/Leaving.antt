@@ -23,9 +23,12 @@ use Rattle.project_run.specs.Look.{HasFound, IsBehindLook, outcome_of_fault}
 use Rattle.project_run.specs.Quality.{IsTabled}
 use Rattle.project_run.specs.Calls.{DiskState, IsLeftAlone, IsRefusal, LeavesDiskFor, LeavesScanFor}
 use Rattle.reel_writer.specs.Leaves.{LeavesDisk}
+use Rattle.frame_range.specs.declared.range.Extent.{Extent}
+use Rattle.frame_range.specs.declared.range.FrameRange.{FrameRange}
 use Rattle.project_run.specs.Run.{IsJobRun, outcome_of_end}
 use Rattle.project_run.specs.Sheet.{HasSheet}
 use Rattle.project_run.specs.Status.{IsStatus, outcome_of_peek}
+use Rattle.project_run.specs.Sums.{IsSummed}
 use Rattle.project_run.specs.Verify.{IsVerified, outcome_of_check}
 
 -- what was reached is one of two outcomes, and neither is a refusal
@@ -79,8 +82,8 @@ behind outcomes.NoMemory kind refused = refused
 pub end_unrefused : (entries : List ReelEntry) (how : RunEnd) (reached : Outcome) → (reached ≡ outcome_of_end entries how) ⊎ (reached ≡ outcomes.NoMemory) → IsRefusal reached → ⊥
 end_unrefused entries how reached is = neither reached (outcome_of_end entries how) outcomes.NoMemory (no_end entries how) (λ no. no) is
 
-pub run_unrefused : {share : ℕ} (job : JobData) (told : Option World) (disk disk_after : DiskState) (loads loads_after : ℕ) (reached : Outcome) (output : List ℕ)
-    → IsJobRun job share told loads loads_after disk disk_after reached output → IsRefusal reached → ⊥
+pub run_unrefused : {extent : Extent} {range : FrameRange} {share : ℕ} (job : JobData) (told : Option World) (disk disk_after : DiskState) (loads loads_after : ℕ) (reached : Outcome) (output : List ℕ)
+    → IsJobRun job extent range share told loads loads_after disk disk_after reached output → IsRefusal reached → ⊥
 run_unrefused job told disk disk_after loads loads_after reached output ran = end_unrefused job.parts.reels ran.how reached ran.reply.reached_is
 
 pub status_unrefused : (job : JobData) (disk disk_after : DiskState) (reached : Outcome) (output : List ℕ) → IsStatus job disk disk_after reached output → IsRefusal reached → ⊥
@@ -94,6 +97,10 @@ found_unrefused job disk disk_after reached Found each has = by has.ledger has.f
     by : (ledger : Result ViewState OpenFault) → MatchResult ledger Found (λ fault. (reached ≡ outcome_of_fault fault) ⊎ (reached ≡ outcomes.NoMemory)) → IsRefusal reached → ⊥
     by (Ok view) found = each view found
     by (Err fault) is = neither reached (outcome_of_fault fault) outcomes.NoMemory (no_fault fault) (λ no. no) is
+
+pub sums_unrefused : (job : JobData) (disk disk_after : DiskState) (reached : Outcome) (output : List ℕ) → IsSummed job disk disk_after reached output → IsRefusal reached → ⊥
+sums_unrefused job disk disk_after reached output summed = found_unrefused job disk disk_after reached _
+    (λ view sums. neither reached outcomes.Done outcomes.NoMemory (λ no. no) (λ no. no) sums.kind) summed.seen
 
 pub check_unrefused : (job : JobData) (disk disk_after : DiskState) (reached : Outcome) (output : List ℕ) → IsVerified job disk disk_after reached output → IsRefusal reached → ⊥
 check_unrefused job disk disk_after reached output verified = found_unrefused job disk disk_after reached _

@@ -1,5 +1,8 @@
 -- A look at the ledger, and then at the files.
-use Rattle.std.proofs.Common.{◌≡◌, ℕ, false, true, List, length, Ok, Err, ap, inl, refl, sym, subst}
+use Rattle.std.proofs.Common.{◌≡◌, ◌∙◌, ℕ, ◌+◌, false, true, List, [], ◌∷◌, ◌++◌, append-nil, flat_map, length, Ok, Err, ap, inl, refl, sym, subst}
+use Rattle.std.specs.List.{range_with_len}
+use Rattle.std.proofs.lemmas.List.Concat.{flat_map-append}
+use Rattle.cf_base.proofs.RangeLaws.{range_more}
 use Rattle.cf_base.specs.declared.file.FileId.{FileId}
 use Rattle.cf_base.specs.declared.file.FileId.TheVariants as file
 use Rattle.conform_job.specs.Job.{JobData}
@@ -21,6 +24,7 @@ use Rattle.project_run.specs.Look.{HasFound, HasSeen, outcome_of_fault}
 use Rattle.project_run.specs.Quality.{IsCounted, IsTabled}
 use Rattle.project_run.specs.Calls.{DiskState}
 use Rattle.project_run.specs.Sheet.{HasSheet, IsSheeted, sheet_text}
+use Rattle.project_run.specs.Sums.{AreSums, IsSummed}
 use Rattle.project_run.specs.Verify.{IsChecked, IsVerified}
 
 -- what was found of the view of a look
@@ -42,6 +46,12 @@ seen_by Found job disk mid after view digest count digest_is count_is looked sti
   seen = found_by Found job disk after view digest count digest_is count_is shown size reached found;
   still = λ t. still_along disk.history mid.history after.history (looked t) (still t);
 }
+
+-- one line more, behind those of the frames before
+pub one_line_more : (line : ℕ → List ℕ) (i : ℕ) → flat_map line (range_with_len 0 (i + 1)) ≡ flat_map line (range_with_len 0 i) ++ line i
+one_line_more line i =
+    ap (flat_map line) (range_more i) ∙ flat_map-append line (range_with_len 0 i) (i ∷ [])
+    ∙ ap (λ (l : List ℕ). flat_map line (range_with_len 0 i) ++ l) (append-nil (line i))
 
 -- what a look left as it was, is checked as it was before the look
 checked_before : (job : JobData) (disk mid : DiskState) (view : ViewState) → mid.tells ≡ disk.tells → (disk.tells ≡ true → IsStill disk.history mid.history)
@@ -80,6 +90,16 @@ sheeted_before tone job disk mid after view tells looked reached output was = re
 -- a folder that was looked at, and then spared
 spared_along : (old mid new : History) (Mine : FileId → Type 0) → IsStill old mid → Extends mid new → Spares mid new Mine → Spares old new Mine
 spared_along old mid new Mine still later spares = spares_along old mid new Mine (passes_extends old mid (moment_of old) still.passes) later (still_spares old mid Mine still) spares
+
+-- nothing was asked of the disk behind the look
+pub summed_by : (job : JobData) (disk after : DiskState) (view : ViewState) (digest : List ℕ) (count : ℕ) → digest ≡ job.parts.digest → count ≡ frames_of job
+    → (disk.tells ≡ true → IsStill disk.history after.history)
+    → (disk.tells ≡ true → IsViewOf digest count (view_of disk.history) view) → length view.gates ≡ count
+    → (reached : Outcome) (output : List ℕ) → AreSums job view reached output → IsSummed job disk after reached output
+summed_by job disk after view digest count digest_is count_is looked shown size reached output was = record {
+  seen = found_by (λ v. AreSums job v reached output) job disk after view digest count digest_is count_is shown size reached was;
+  still = looked;
+}
 
 module _ (job : JobData) (disk mid after : DiskState) (view : ViewState) (digest : List ℕ) (count : ℕ) where
   pub verified_by : digest ≡ job.parts.digest → count ≡ frames_of job → mid.tells ≡ disk.tells

@@ -14,6 +14,10 @@ use Rattle.frame_fetch.specs.declared.run_end.RunEnd.{RunEnd}
 use Rattle.frame_fetch.specs.declared.run_end.RunEnd.TheVariants as ends
 use Rattle.project_job.specs.Asked.{HasLoadedFor}
 use Rattle.project_job.specs.Jobs.{AreLoaded, HasPlanned, IsOfJob, cube_count}
+use Rattle.reel_writer.specs.Reel.{frames_of}
+use Rattle.frame_range.specs.Parts.{range_of}
+use Rattle.frame_range.specs.declared.range.Extent.{Extent}
+use Rattle.frame_range.specs.declared.range.FrameRange.{FrameRange}
 use Rattle.project_run.specs.Calls.{DiskState}
 use Rattle.project_run.specs.Run.{IsKnown, IsOfRun, IsJobRun, IsRunReply, IsUnplanned}
 use Rattle.project_run.specs.Look.{IsLookReply, IsOfLook}
@@ -50,8 +54,8 @@ refused_end job tells old new ends.SourceFault is = tt
 refused_end job tells old new ends.DiskFault is = tt
 refused_end job tells old new ends.NoMemory is = tt
 
-pub is_known : {capacity : ℕ} {log : List ShareStep} (job : JobData) (told : Option World) (tells : Bool) (old new : History) (how : RunEnd) (report : Report)
-    → WasOpened job told capacity tells old new how report log ⊎ WasUnopened job tells old new how report log → IsKnown job how
+pub is_known : {low high capacity : ℕ} {log : List ShareStep} (job : JobData) (told : Option World) (tells : Bool) (old new : History) (how : RunEnd) (report : Report)
+    → WasOpened job low high told capacity tells old new how report log ⊎ WasUnopened job tells old new how report log → IsKnown job how
 is_known job told tells old new how report (inl opened) = opened_end job told how opened.is_end
 is_known job told tells old new how report (inr refused) = refused_end job tells old new how refused.why
 
@@ -97,15 +101,16 @@ look_verifies other kind = kind
 pub job_verifies : (outcome : Outcome) → IsOfJob outcome → IsOfVerify outcome
 job_verifies outcome kind = look_verifies outcome (job_looks outcome kind)
 
-pub run_in : {share : ℕ} (job : JobData) (here told : Option World) (path : List ℕ) (disk disk_after : DiskState) (loads between loads_after : ℕ) (reached : Outcome) (output : List ℕ) → here ≡ told
+pub run_in : {share : ℕ} (job : JobData) (extent : Extent) (range : FrameRange) (here told : Option World) (path : List ℕ) (disk disk_after : DiskState) (loads between loads_after : ℕ) (reached : Outcome) (output : List ℕ) → range ≡ range_of extent (frames_of job) → here ≡ told
     → IfSome told (λ world. HasPlanned (file_at world) path (Ok job)) → between ≡ count_after (2 + cube_count job.parts.project.cube) loads
-    → IsJobRun job share here between loads_after disk disk_after reached output → IsRunReply path share told loads loads_after disk disk_after reached output
-run_in {share = share} job here told path disk disk_after loads between loads_after reached output same comes texts ran = inl (record {
+    → IsJobRun job extent range share here between loads_after disk disk_after reached output → IsRunReply path extent share told loads loads_after disk disk_after reached output
+run_in {share = share} job extent range here told path disk disk_after loads between loads_after reached output all same comes texts ran = inl (record {
   job = job;
   comes = comes;
   planned = between;
   texts = texts;
-  ran = subst (λ told. IsJobRun job share told between loads_after disk disk_after reached output) same ran;
+  ran = subst (λ (r : FrameRange). IsJobRun job extent r share told between loads_after disk disk_after reached output) all
+      (subst (λ told. IsJobRun job extent range share told between loads_after disk disk_after reached output) same ran);
 })
 
 pub looked_in : (Looked : JobData → Type 0) (job : JobData) (told : Option World) (path : List ℕ) (disk disk_after : DiskState) (loads loads_after : ℕ) (reached : Outcome)

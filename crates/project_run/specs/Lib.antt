@@ -4,4 +4,5 @@ pub mod Quality
 pub mod Run
 pub mod Sheet
 pub mod Status
+pub mod Sums
 pub mod Verify

@@ -1,8 +1,9 @@
--- The command `run`: the reel of a project's job, rendered into the reel folder. All of it is this project's own rule.
+-- The commands `run` and `part`: the reel of a project's job, or a part of it, rendered into the reel folder. All of it is this
+-- project's own rule. `run` is the extent of all frames.
 --     IsSafeRun      what every run of a job keeps, on one thread or by a crew
 --     RanItsJob      the project came to a job, and the job was run in the folder
 --     IsUnplanned      it came to none, and the folder is as it was
-use Rattle.std.specs.Prelude.{◌≡◌, ◌⊎◌, ℕ, ◌+◌, ◌≤◌, true, List, [], ◌∷◌, ◌++◌, codes, decimal, slice_get, unwrap_or, Option, Some, IfSome, Ok, Err}
+use Rattle.std.specs.Prelude.{◌≡◌, ◌⊎◌, ℕ, ◌+◌, ◌-◌, ◌≤◌, true, List, [], ◌∷◌, ◌++◌, codes, decimal, slice_get, unwrap_or, Option, Some, IfSome, Ok, Err}
 use Rattle.std.specs.Option.{option_map}
 use Rattle.cf_base.specs.Count.{HasRisen}
 use Rattle.cf_base.specs.declared.reel.ReelEntry.{ReelEntry}
@@ -11,13 +12,16 @@ use Rattle.frame_share.specs.declared.step.ShareStep.{ShareStep}
 use Rattle.reel_disk.specs.Disk.{Files, moment_of, view_of}
 use Rattle.reel_disk.specs.Runs.{Spares}
 use Rattle.resume_ledger.specs.Sound.{WritesOnly}
-use Rattle.reel_writer.specs.Changes.{IsOwnFile, MayWrite}
+use Rattle.frame_range.specs.Parts.{range_of}
+use Rattle.frame_range.specs.declared.range.Extent.{Extent}
+use Rattle.frame_range.specs.declared.range.Extent.TheVariants.{Whole, Part}
+use Rattle.frame_range.specs.declared.range.FrameRange.{FrameRange}
 use Rattle.reel_writer.specs.Reel.{frames_of, HasFrameFiles, IsReelRun, IsSoundReel}
 use Rattle.conform_job.specs.Answers.{count_after}
 use Rattle.conform_job.specs.Job.{JobData}
 use Rattle.conform_job.specs.Keys.{info_at}
 use Rattle.frame_fetch.specs.Ends.{IsChange}
-use Rattle.single_run.specs.Run.{WasRun, AreAllAcked, HasWhole}
+use Rattle.single_run.specs.Run.{WasRun, AreAllAcked, HasWhole, IsOwnFileOf, MayWriteOf}
 use Rattle.single_run.specs.declared.report.Report.{Report}
 use Rattle.frame_fetch.specs.declared.run_end.RunEnd.{RunEnd}
 use Rattle.frame_fetch.specs.declared.run_end.RunEnd.TheVariants as ends
@@ -39,6 +43,19 @@ run_text report =
     ++ spaced_line (codes "kept" ∷ decimal report.kept ∷ [])
     ++ spaced_line (codes "rendered" ∷ decimal report.rendered ∷ [])
 
+-- the frames of the reel, the range of the part, and of the range those that were acknowledged at the opening and the rendered
+-- ones, which make it up
+abbrev pub part_text : FrameRange → Report → List ℕ
+part_text range report =
+    spaced_line (codes "frames" ∷ decimal report.frames ∷ [])
+    ++ spaced_line (codes "part" ∷ decimal range.low ∷ decimal range.high ∷ [])
+    ++ spaced_line (codes "kept" ∷ decimal (range.high - range.low - report.rendered) ∷ [])
+    ++ spaced_line (codes "rendered" ∷ decimal report.rendered ∷ [])
+
+abbrev pub report_text : Extent → FrameRange → Report → List ℕ
+report_text Whole range report = run_text report
+report_text (Part part parts) range report = part_text range report
+
 -- the name of a reel by its place
 abbrev pub name_in : List ReelEntry → ℕ → List ℕ
 name_in entries reel = unwrap_or (option_map (λ (e : ReelEntry). e.name) (slice_get entries reel)) []
@@ -53,10 +70,10 @@ outcome_of_end entries ends.SourceFault = outcome.SourceFault
 outcome_of_end entries ends.DiskFault = outcome.DiskFault
 outcome_of_end entries ends.NoMemory = outcome.NoMemory
 
--- What a run that ended so and did that comes to: the outcome of its end, or want of memory for the report.
-pub record ReportsEnd (job : JobData) (how : RunEnd) (report : Report) (reached : Outcome) (output : List ℕ) : Type 0 where
+-- What a run that ended so and has that to report comes to: the outcome of its end, or want of memory for the report.
+pub record ReportsEnd (job : JobData) (how : RunEnd) (text : List ℕ) (reached : Outcome) (output : List ℕ) : Type 0 where
   pub reached_is : (reached ≡ outcome_of_end job.parts.reels how) ⊎ (reached ≡ outcome.NoMemory)
-  pub form : reached ≡ outcome.Done → output ≡ run_text report
+  pub form : reached ≡ outcome.Done → output ≡ text
 
 -- a source file that changed is one that the job has
 abbrev pub IsKnown : JobData → RunEnd → Type 0
@@ -64,41 +81,41 @@ IsKnown job (ends.Changed key was now) = info_at job.infos key ≡ Some was
 IsKnown job other = Unit {0}
 
 -- What a run that ended so keeps: at every moment of it each frame that a crash leaves acknowledged is the definition's, and no
--- acknowledgement is lost; at Done the folder has the whole reel.
-pub record IsSafeRun (job : JobData) (told : Option World) (how : RunEnd) (disk disk_after : DiskState) : Type 0 where
+-- acknowledgement is lost; at Done the folder has all frames of the range.
+pub record IsSafeRun (job : JobData) (range : FrameRange) (told : Option World) (how : RunEnd) (disk disk_after : DiskState) : Type 0 where
   pub run : disk.tells ≡ true → IsReelRun job told disk.history disk_after.history
-  pub acked : how ≡ ends.Done → disk.tells ≡ true → AreAllAcked job (moment_of disk_after.history)
-  pub whole : how ≡ ends.Done → disk.tells ≡ true → HasWhole job told disk.history disk_after.history
+  pub acked : how ≡ ends.Done → disk.tells ≡ true → AreAllAcked job range.low range.high (moment_of disk_after.history)
+  pub whole : how ≡ ends.Done → disk.tells ≡ true → HasWhole job range.low range.high told disk.history disk_after.history
   -- sound files lose none
   pub sound_has : (world : World) (files : Files) → IsSoundReel job world files → HasFrameFiles job files
-  -- what it may have changed: the ledger's files, and those of frames that the folder didn't acknowledge
-  pub spares : disk.tells ≡ true → Spares disk.history disk_after.history (IsOwnFile job (view_of disk.history))
+  -- what it may have changed: the ledger's files, and those of frames of the range that the folder didn't acknowledge
+  pub spares : disk.tells ≡ true → Spares disk.history disk_after.history (IsOwnFileOf job range.low range.high (view_of disk.history))
   -- what it wrote: of the ledger's files those of version 2 alone
-  pub writes : disk.tells ≡ true → WritesOnly disk.history disk_after.history (MayWrite job (view_of disk.history))
+  pub writes : disk.tells ≡ true → WritesOnly disk.history disk_after.history (MayWriteOf job range.low range.high (view_of disk.history))
 
--- The job was run in the folder.
-pub record IsJobRun (job : JobData) (share : ℕ) (told : Option World) (loads loads_after : ℕ) (disk disk_after : DiskState) (reached : Outcome) (output : List ℕ) : Type 0 where
+-- The job was run in the folder, over a range of its frames.
+pub record IsJobRun (job : JobData) (extent : Extent) (range : FrameRange) (share : ℕ) (told : Option World) (loads loads_after : ℕ) (disk disk_after : DiskState) (reached : Outcome) (output : List ℕ) : Type 0 where
   pub how : RunEnd
   pub report : Report
-  pub reply : ReportsEnd job how report reached output
+  pub reply : ReportsEnd job how (report_text extent range report) reached output
   pub frames : report.frames ≡ frames_of job
   -- what the folder acknowledged and does now, what was rendered, and what was asked for and loaded, with a share of so many
   -- frames; or why the folder was not opened
   pub log : List ShareStep
-  pub ran : WasRun job told share disk.tells disk.history disk_after.history how report log
-  pub keeps : IsSafeRun job told how disk disk_after
+  pub ran : WasRun job range.low range.high told share disk.tells disk.history disk_after.history how report log
+  pub keeps : IsSafeRun job range told how disk disk_after
   pub loaded : loads_after ≡ count_after report.loads loads
   -- a source file that changed was loaded
   pub changed : IsChange how → HasRisen loads loads_after
 
--- The project came to this job, which was run in the folder.
-pub record RanItsJob (told : Option World) (path : List ℕ) (share : ℕ) (disk disk_after : DiskState) (loads loads_after : ℕ) (reached : Outcome) (output : List ℕ) : Type 0 where
+-- The project came to this job, which was run in the folder, as far as it was asked for.
+pub record RanItsJob (told : Option World) (path : List ℕ) (extent : Extent) (share : ℕ) (disk disk_after : DiskState) (loads loads_after : ℕ) (reached : Outcome) (output : List ℕ) : Type 0 where
   pub job : JobData
   pub comes : IfSome told (λ world. ComesTo (file_at world) path (Ok job.parts))
   -- the loads when it was planned
   pub planned : ℕ
   pub texts : planned ≡ count_after (2 + cube_count job.parts.project.cube) loads
-  pub ran : IsJobRun job share told planned loads_after disk disk_after reached output
+  pub ran : IsJobRun job extent (range_of extent (frames_of job)) share told planned loads_after disk disk_after reached output
 
 -- The project came to no job, and the folder is as it was.
 pub record IsUnplanned (told : Option World) (path : List ℕ) (disk disk_after : DiskState) (loads loads_after : ℕ) (reached : Outcome) : Type 0 where
@@ -109,9 +126,9 @@ pub record IsUnplanned (told : Option World) (path : List ℕ) (disk disk_after 
   -- of a refused one the files up to the one that has the fault
   pub refused : HasLoadedFor told path loads loads_after reached
 
-abbrev pub IsRunReply : List ℕ → ℕ → Option World → (loads loads_after : ℕ) → (disk disk_after : DiskState) → Outcome → List ℕ → Type 0
-IsRunReply path share told loads loads_after disk disk_after reached output =
-    RanItsJob told path share disk disk_after loads loads_after reached output ⊎ IsUnplanned told path disk disk_after loads loads_after reached
+abbrev pub IsRunReply : List ℕ → Extent → (share : ℕ) → Option World → (loads loads_after : ℕ) → (disk disk_after : DiskState) → Outcome → List ℕ → Type 0
+IsRunReply path extent share told loads loads_after disk disk_after reached output =
+    RanItsJob told path extent share disk disk_after loads loads_after reached output ⊎ IsUnplanned told path disk disk_after loads loads_after reached
 
 -- the outcomes that a run of a job may come to in place of Done
 abbrev pub IsOfRun : Outcome → Type 0

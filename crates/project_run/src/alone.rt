@@ -1,14 +1,17 @@
 //! A run on one thread.
-ghost use Rattle.std.specs.Prelude.{◌≡◌, Err, MatchResult};
+ghost use Rattle.std.specs.Prelude.{◌≡◌, ◌≤◌, Err, MatchResult};
 ghost use Rattle.conform_job.specs.Answers.{AreInfosOf};
 ghost use Rattle.scan_source.specs.Leaves.{LeavesScan};
 ghost use Rattle.project_run.specs.Calls.{LeavesDiskFor, LeavesScanFor, OnDisk, Replies, OverScan};
+ghost use Rattle.frame_range.specs.Parts.{IsExtent};
 ghost use Rattle.reel_writer.specs.Leaves.{LeavesDisk};
+ghost use Rattle.reel_writer.specs.Reel.{frames_of};
 ghost use Rattle.project_run.specs.Run.{IsJobRun, IsOfRun, IsRunReply, IsShareCount};
 
 use crate::report::reply_of;
 use cf_base::PathText;
 use conform_job::Job;
+use frame_range::{Extent, FrameRange, range_of};
 use outcome_line::Outcome;
 use project_job::planned;
 use reel_disk::Disk;
@@ -17,7 +20,8 @@ use single_run::run_alone;
 use std::alloc::Global;
 use std::marker::Brand;
 
-/// The report of a run of the project at a path in the reel folder, on one thread, or the outcome that was reached.
+/// The report of a run of the project at a path in the reel folder, over all its frames or those of a part, on one thread, or
+/// the outcome that was reached.
 ///
 /// First the project is planned: what refuses it, `SourceFault` and `NoMemory` leave the folder as it was. Then the job is
 /// run: `OtherJob` and `BadLedger` where the folder is so, `Changed` where a source file isn't what the plan found,
@@ -25,13 +29,15 @@ use std::marker::Brand;
 pub fn run<S: Scans, D: Disk>(
     alloc: Global,
     path: &PathText,
+    extent: Extent,
     share: u16,
     scan: &mut S,
     disk: &mut D,
 ) -> Result<Vec<u8>, Outcome>
-    requires { IsShareCount share }
+    requires extent { IsExtent extent }
+    requires share { IsShareCount share }
     ensures folder { Replies result (OnDisk D.tells D.history D.faults disk.old disk.new
-        (OverScan S.world S.loads scan.old scan.new (IsRunReply path.now share))) }
+        (OverScan S.world S.loads scan.old scan.new (IsRunReply path.now extent share))) }
     ensures kind { MatchResult result (λ text. Unit {0}) IsOfRun }
 
     ensures scan { LeavesScanFor S.world S.faults S.heads S.same path.now result scan.old scan.new }
@@ -41,30 +47,42 @@ pub fn run<S: Scans, D: Disk>(
         Ok(job) => job,
         Err(outcome) => return Err(outcome),
     };
-    let reply = run_job(alloc, &job, share, scan, disk);
+    let range = range_of(extent, job.count());
+    let reply = run_job(alloc, &job, extent, range, share, scan, disk);
     // By a call: a job that falls out of scope is dropped part by part, here and in each proof.
     drop(job);
     reply
 }
 
-/// The report of a run of a job, or the outcome that was reached.
+/// The report of a run over a range of a job's frames, or the outcome that was reached.
 fn run_job<S: Scans, D: Disk>(
     alloc: Global,
     job: &Job,
+    extent: Extent,
+    range: FrameRange,
     share: u16,
     scan: &mut S,
     disk: &mut D,
 ) -> Result<Vec<u8>, Outcome>
+    requires range { (range.low ≤ range.high) × (range.high ≤ frames_of job.now) }
     requires share { IsShareCount share }
     requires infos { AreInfosOf job.now.parts (S.world scan.old) job.now.infos }
     ensures ran { Replies result (OnDisk D.tells D.history D.faults disk.old disk.new
-        (OverScan S.world S.loads scan.old scan.new (IsJobRun job.now share))) }
+        (OverScan S.world S.loads scan.old scan.new (IsJobRun job.now extent range share))) }
     ensures kind { MatchResult result (λ text. Unit {0}) IsOfRun }
 
     ensures scan { LeavesScan S.world S.faults S.same (result ≡ Err Outcome.SourceFault) scan.old scan.new }
 
     ensures disk { LeavesDisk D.faults D.loans (result ≡ Err Outcome.DiskFault) disk.old disk.new }
 {
-    let (end, report, _) = run_alone::<Brand, S, D>(alloc, job, scan, disk, u32::from(share));
-    reply_of(alloc, job, end, &report)
+    let (end, report, _) = run_alone::<Brand, S, D>(
+        alloc,
+        job,
+        scan,
+        disk,
+        u32::from(share),
+        range.low,
+        range.high,
+    );
+    reply_of(alloc, job, extent, range, end, &report)
 }

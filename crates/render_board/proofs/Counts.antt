@@ -1,5 +1,5 @@
 -- How many frames are free and done.
-use Rattle.std.proofs.Common.{◌≡◌, ◌≢◌, ℕ, zero, suc, ◌+◌, ◌<◌, ◌≤◌, Bool, true, false, cond, inl, inr, List, [], ◌∷◌, ◌++◌, length, get_or, count_by, refl, sym, ◌∙◌, ap, subst, arith}
+use Rattle.std.proofs.Common.{◌≡◌, ◌≢◌, ℕ, zero, suc, ◌+◌, ◌<◌, ◌≤◌, Bool, true, false, cond, inl, inr, List, [], ◌∷◌, ◌++◌, length, get_or, count_by, refl, sym, ◌∙◌, ap, subst, arith, ◌-◌}
 use Rattle.std.specs.List.{range_with_len}
 use Rattle.std.proofs.lemmas.List.{length_push}
 use Rattle.std.proofs.lemmas.List.FromFn.{length-range_with_len}
@@ -10,9 +10,9 @@ use Rattle.render_board.specs.declared.step.Why.{Why}
 use Rattle.render_board.specs.declared.board.Turn.TheVariants as turns
 use Rattle.render_board.specs.Board.{Log, is_done, is_free, free_count, done_count, turn_of, IsNext, IsLegal, with_step}
 use Rattle.render_board.specs.History.{finished_of}
-use Rattle.render_board.proofs.Steps.{or_false, equal_or_not, isnt_other, claimed_own, finished_own, done_as_before, free_as_before}
+use Rattle.render_board.proofs.Steps.{or_false, equal_or_not, isnt_other, claimed_own, finished_own, done_as_before, free_as_before, range_is}
 use Rattle.render_board.proofs.Runs.{legal_induction}
-use Rattle.render_board.proofs.Holding.{held_isnt_done, held_within, least_free_is}
+use Rattle.render_board.proofs.Holding.{held_isnt_done, held_within, held_inside, least_free_is}
 use Rattle.render_board.proofs.Histories.{finished_of-claim, finished_of-finish, finished_of-stop}
 
 counted_cons : (p : ℕ → Bool) (x : ℕ) (xs : List ℕ) → count_by p (x ∷ xs) ≡ cond (p x) 1 0 + count_by p xs
@@ -109,3 +109,35 @@ whole_count log legal all = omega (arith, done_count_is log legal, count_all (is
 -- So at most as many frames are finished as the reel has.
 pub finished_most : (log : Log) → IsLegal log → length (finished_of log.steps) ≤ length log.start
 finished_most log legal = omega (arith, done_count_is log legal, done_count_most log)
+
+-- how many frames of the range are done, and how many were at the start
+abbrev range_done : Log → ℕ
+range_done log = count_by (is_done log) (range_with_len log.low (log.high - log.low))
+
+abbrev range_begun : Log → ℕ
+range_begun log = count_by (λ i. get_or log.start i false) (range_with_len log.low (log.high - log.low))
+
+range_more : (log : Log) (s : Step) → IsLegal log → IsNext log s → range_done log ≡ range_begun log + length (finished_of log.steps)
+    → range_done (with_step log s) ≡ range_begun log + length (finished_of (log.steps ++ s ∷ []))
+range_more log (Claim w i) legal next old =
+    count_same (is_done log) (is_done (with_step log (Claim w i))) log.low (log.high - log.low) (λ j low. done_as_before log (Claim w i) j refl) ∙ old ∙ ap (λ xs. range_begun log + length xs) (sym (finished_of-claim log.steps w i))
+range_more log (Stop w why) legal next old =
+    count_same (is_done log) (is_done (with_step log (Stop w why))) log.low (log.high - log.low) (λ j low. done_as_before log (Stop w why) j refl) ∙ old ∙ ap (λ xs. range_begun log + length xs) (sym (finished_of-stop log.steps w why))
+range_more log (Finish w i) legal next old =
+    let longer : length (finished_of (log.steps ++ Finish w i ∷ [])) ≡ length (finished_of log.steps) + 1 = ap length (finished_of-finish log.steps w i) ∙ length_push (finished_of log.steps) i in
+    let at = range_is log i (held_inside log w i legal next.1) in
+    let more = count_one_more (is_done log) (is_done (with_step log (Finish w i))) log.low (log.high - log.low) i at.0 (omega (arith, at.0, at.1)) (held_isnt_done log w i legal next.1) (finished_own log w i)
+    (λ j other. done_as_before log (Finish w i) j (isnt_other i j (λ e. other (sym e)))) in
+    omega (arith, old, longer, more)
+
+range_count_is : (log : Log) → IsLegal log → range_done log ≡ range_begun log + length (finished_of log.steps)
+range_count_is log legal =
+    let same = count_same (λ i. get_or log.start i false) (is_done (record log { steps = [] })) log.low (log.high - log.low) (λ j low. or_false (get_or log.start j false)) in
+    let first : range_done (record log { steps = [] }) ≡ range_begun log + 0 = omega (arith, same) in
+    legal_induction (λ l. range_done l ≡ range_begun l + length (finished_of l.steps)) log legal first range_more
+
+-- Where every frame of the range is done, those of the start and the finished ones are all.
+pub range_count : (log : Log) → IsLegal log → ((i : ℕ) → log.low ≤ i → i < log.high → is_done log i ≡ true)
+    → count_by (λ i. get_or log.start i false) (range_with_len log.low (log.high - log.low)) + length (finished_of log.steps) ≡ log.high - log.low
+range_count log legal all =
+    omega (arith, range_count_is log legal, count_all (is_done log) log.low (log.high - log.low) (λ j low high. all j low (omega (arith, low, high))))

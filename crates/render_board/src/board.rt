@@ -17,7 +17,7 @@ const MOST_WORKERS: usize = 16;
 pub enum Claim {
     /// The frame that the worker holds from now on.
     Take(u32),
-    /// No frame is free.
+    /// No frame of the range is free.
     NoneLeft,
     /// A worker has stopped, so no more frames are claimed.
     Stopped,
@@ -35,14 +35,18 @@ pub enum Turn {
 }
 
 /// The board of a run: which frames are free, claimed and done, and the history of its steps. Its
-/// workers go from 0, and so do its frames.
+/// workers go from 0, and so do its frames. Of these it has a range to be claimed: the others stay as
+/// they are.
 ///
-/// Contracts see the frames that were done at the start, the number of workers, and all steps in
-/// order.
+/// Contracts see the frames that were done at the start, the range, the number of workers, and all
+/// steps in order.
 #[derive(Drop)]
 pub struct Board {
     start: Vec<bool>,
-    /// No frame before it is free, and none from it on is claimed.
+    low: usize,
+    high: usize,
+    /// One of the range, or its end. No frame of the range before it is free, and none from it on is
+    /// claimed.
     cursor: usize,
     workers: u16,
     turns: [Turn; MOST_WORKERS],
@@ -55,7 +59,7 @@ impl Model for Board {
 
     ghost Value = { Log };
 
-    ghost view = { λ b. record { start = b.start.items; workers = b.workers; steps = b.history.items } };
+    ghost view = { λ b. record { start = b.start.items; low = b.low; high = b.high; workers = b.workers; steps = b.history.items } };
 
     ghost use Rattle.render_board.specs.Inside.{IsBoard};
 
@@ -64,20 +68,31 @@ impl Model for Board {
 
 impl Board {
     /// A board of 1 to 16 workers and 1 to 262,144 frames, of which these are done and the others
-    /// free. It has room for every history. `NoMemory` is the one failure, where memory runs out.
-    pub fn new(alloc: Global, done: &[bool], workers: u16) -> Result<Board, Fail<Never>>
+    /// free. Those from `low` up to `high`, which is left out, are to be claimed, which may be none. It
+    /// has room for every history. `NoMemory` is the one failure, where memory runs out.
+    pub fn new(
+        alloc: Global,
+        done: &[bool],
+        low: u32,
+        high: u32,
+        workers: u16,
+    ) -> Result<Board, Fail<Never>>
         requires some_workers { 1 ≤ workers }
         requires most_workers { workers ≤ 16 }
         requires some_frames { 1 ≤ length done.now }
         requires most_frames { length done.now ≤ 262144 }
-        ensures { IfOk result (λ board. board ≡ record { start = done.now; workers = workers; steps = [] }) }
+        requires range { (low ≤ high) × (high ≤ length done.now) }
+        ensures { IfOk result (λ board. board ≡ record { start = done.now; low = low; high = high; workers = workers; steps = [] }) }
     {
         let start = Vec::from_slice(alloc, done).map_err(|_| Fail::NoMemory)?;
-        let room = 2 * done.len() + MOST_WORKERS;
+        let (low, high) = (low as usize, high as usize);
+        let room = 2 * (high - low) + MOST_WORKERS;
         let history = Vec::with_capacity(alloc, room).map_err(|_| Fail::NoMemory)?;
         Ok(Board {
             start,
-            cursor: 0,
+            low,
+            high,
+            cursor: low,
             workers,
             turns: [Turn::Idle; MOST_WORKERS],
             has_stopped: false,
@@ -85,8 +100,8 @@ impl Board {
         })
     }
 
-    /// Takes the least free frame for an idle worker: `Stopped` exactly where a worker has stopped,
-    /// else `NoneLeft` exactly where no frame is free. Only a frame that is taken is a step. Takes
+    /// Takes the range's least free frame for an idle worker: `Stopped` exactly where a worker has
+    /// stopped, else `NoneLeft` exactly where no frame of the range is free. Only a frame that is taken is a step. Takes
     /// no memory.
     pub fn claim(&mut self, worker: u16) -> Claim
         requires worker { worker < self.old.workers }
@@ -142,6 +157,7 @@ impl Board {
         ensures most { result ≤ 16 }
         ensures some_frames { 1 ≤ length self.now.start }
         ensures most_frames { length self.now.start ≤ 262144 }
+        ensures range { (self.now.low ≤ self.now.high) × (self.now.high ≤ length self.now.start) }
         ensures legal { IsLegal self.now }
     {
         self.workers
@@ -163,12 +179,12 @@ impl Board {
         History::of(self.history)
     }
 
-    /// The least frame that is free.
+    /// The range's least frame that is free.
     fn next_free(&self) -> Option<u32>
         ensures least { result ≡ least_free self.now }
         ensures found { IfSome result (IsLeastFree self.now) }
     {
-        for at in self.cursor..self.start.len() {
+        for at in self.cursor..self.high {
             if !self.start[at] {
                 return Some(at as u32);
             }

@@ -32,7 +32,17 @@ pub(crate) fn crew_on<S: Scans + Send, D: Disk + Send, R: Threads + Wait + Sync>
     requires faults { D.faults disk ≡ 0 }
 {
     job.recall();
-    run_crew::<Brand, S, D, R>(rt, alloc, job, scans, workers, disk, share_cap)
+    run_crew::<Brand, S, D, R>(
+        rt,
+        alloc,
+        job,
+        scans,
+        workers,
+        disk,
+        share_cap,
+        0,
+        job.count(),
+    )
 }
 
 /// The same over a fresh disk, by as many workers as there are scans, which are those of `scans_together`. None where

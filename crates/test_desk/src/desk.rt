@@ -238,7 +238,15 @@ fn run<D: Disk>(
     requires { (1 ≤ share_cap) × (share_cap ≤ 16) }
 {
     job.recall();
-    let (end, report, _) = run_alone::<Brand, MemoryScans, D>(alloc, job, scans, disk, share_cap);
+    let (end, report, _) = run_alone::<Brand, MemoryScans, D>(
+        alloc,
+        job,
+        scans,
+        disk,
+        share_cap,
+        0,
+        job.count(),
+    );
     (end, report)
 }
 

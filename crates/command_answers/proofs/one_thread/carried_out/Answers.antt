@@ -7,6 +7,7 @@ use Rattle.project_run.specs.Quality.{IsQcReply}
 use Rattle.project_run.specs.Run.{IsRunReply}
 use Rattle.project_run.specs.Sheet.{IsSheetReply}
 use Rattle.project_run.specs.Status.{IsStatusReply}
+use Rattle.project_run.specs.Sums.{IsSumsReply}
 use Rattle.project_run.specs.Verify.{IsVerifyReply}
 use Rattle.command_words.specs.declared.command.Command.TheVariants as commands
 use Rattle.command_answers.specs.Commands.Verify.{IsThroughOrDamaged}
@@ -27,6 +28,9 @@ returns-in-Status-clause-no_call g c none = absurd (none (subst CallsDisk (sym c
 pub returns-in-Verify-clause-no_call : goal.returns-in-Verify-clause-no_call
 returns-in-Verify-clause-no_call g c none = absurd (none (subst CallsDisk (sym c.in-Verify.is) tt))
 
+pub returns-in-Sums-clause-no_call : goal.returns-in-Sums-clause-no_call
+returns-in-Sums-clause-no_call g c none = absurd (none (subst CallsDisk (sym c.in-Sums.is) tt))
+
 pub returns-in-Qc-clause-no_call : goal.returns-in-Qc-clause-no_call
 returns-in-Qc-clause-no_call g c none = absurd (none (subst CallsDisk (sym c.in-Qc.is) tt))
 
@@ -42,7 +46,7 @@ returns-in-Adopt-clause-no_old_call g c none = absurd (none (subst CallsOld (sym
 -- these make calls on the folder of the reel alone
 pub returns-in-Run-clause-reply : goal.returns-in-Run-clause-reply
 returns-in-Run-clause-reply g c =
-    reel_replied _ (commands.Run _ _ _) _ _ (λ house. IsRunReply _ _) IsThrough refl (replied_run c.in-Run.project c.in-Run.workers c.in-Run.share) g.S.Scans.world g.S.Scans.faults g.S.Scans.loads g.S.Scans.heads g.S.Scans.same c.args.scan.now c.run.new.scan
+    reel_replied _ (commands.Run _ _ _ _) _ _ (λ house. IsRunReply _ _ _) IsThrough refl (replied_run c.in-Run.project c.in-Run.extent c.in-Run.workers c.in-Run.share) g.S.Scans.world g.S.Scans.faults g.S.Scans.loads g.S.Scans.heads g.S.Scans.same c.args.scan.now c.run.new.scan
     g.D.Disk.tells g.D.Disk.history g.D.Disk.faults g.D.Disk.loans c.args.disk.now c.run.new.disk c.args.old.now
     c.args.command.now c.run.result c.in-Run.is c.run.ensures.folder c.run.ensures.kind c.run.ensures.scan c.run.ensures.disk
 
@@ -57,6 +61,12 @@ returns-in-Verify-clause-reply g c =
     reel_replied _ (commands.Verify _) _ _ (λ house. IsVerifyReply _) IsThroughOrDamaged refl (replied_verify c.in-Verify.project) g.S.Scans.world g.S.Scans.faults g.S.Scans.loads g.S.Scans.heads g.S.Scans.same c.args.scan.now c.verify.new.scan
     g.D.Disk.tells g.D.Disk.history g.D.Disk.faults g.D.Disk.loans c.args.disk.now c.verify.new.disk c.args.old.now
     c.args.command.now c.verify.result c.in-Verify.is c.verify.ensures.folder c.verify.ensures.kind c.verify.ensures.scan c.verify.ensures.disk
+
+pub returns-in-Sums-clause-reply : goal.returns-in-Sums-clause-reply
+returns-in-Sums-clause-reply g c =
+    reel_replied _ (commands.Sums _) _ _ (λ house. IsSumsReply _) IsThrough refl (replied_look (commands.Sums c.in-Sums.project) tt) g.S.Scans.world g.S.Scans.faults g.S.Scans.loads g.S.Scans.heads g.S.Scans.same c.args.scan.now c.sums.new.scan
+    g.D.Disk.tells g.D.Disk.history g.D.Disk.faults g.D.Disk.loans c.args.disk.now c.sums.new.disk c.args.old.now
+    c.args.command.now c.sums.result c.in-Sums.is c.sums.ensures.folder c.sums.ensures.kind c.sums.ensures.scan c.sums.ensures.disk
 
 pub returns-in-Qc-clause-reply : goal.returns-in-Qc-clause-reply
 returns-in-Qc-clause-reply g c =

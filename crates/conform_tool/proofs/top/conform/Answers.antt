@@ -1,6 +1,7 @@
 -- A run with several workers is a crew's, and all else is not.
 use Rattle.std.proofs.Common.{◌≡◌, ◌∙◌, ◌≤◌, arith, length, refl, rules, subst, sym, vec_len}
 use Rattle.command_words.specs.declared.command.Command.TheVariants as commands
+use Rattle.frame_range.specs.declared.range.Extent.TheVariants.{Whole}
 use Rattle.project_run.specs.Calls.{disk_state}
 use Rattle.command_answers.specs.States.{folders_of}
 use Rattle.command_answers.specs.Complete.{IsAccepted, IsComplete}
@@ -10,63 +11,63 @@ use Rattle.conform_tool.proofs.Conforming.{adopts_no_run, alone_found, crew_as, 
 use Rattle.conform_tool.proofs.top.conform.Goals as goal
 
 pub returns-in-Some-clause-crew : goal.returns-in-Some-clause-crew
-returns-in-Some-clause-crew g c path workers share spells many =
-    crew_as g.S.Scans.world g.S.Scans.faults g.S.Scans.loads g.S.Scans.same _ _ _ _ _ _ _ _ _ _ _
-    (run_found _ _ c.in-Some.crew.project path c.in-Some.crew.workers c.in-Some.crew.share workers share c.in-Ok.ensures.command c.in-Some.ensures.0 spells) c.by_crew.ensures.crew
+returns-in-Some-clause-crew g c path extent workers share spells many =
+    crew_as g.S.Scans.world g.S.Scans.faults g.S.Scans.loads g.S.Scans.same _ _ _ _ _ _ _ _ _ _ _ _ _
+    (run_found _ _ c.in-Some.crew.project path c.in-Some.crew.extent extent c.in-Some.crew.workers c.in-Some.crew.share workers share c.in-Ok.ensures.command c.in-Some.ensures.0 spells) c.by_crew.ensures.crew
 
 pub returns-in-Some-clause-answered : goal.returns-in-Some-clause-answered
 returns-in-Some-clause-answered g c alone =
-    let few = alone _ _ _ (found_run _ _ _ _ _ c.in-Ok.ensures.command c.in-Some.ensures.0) in
+    let few = alone _ _ _ _ (found_run _ _ _ _ _ _ c.in-Ok.ensures.command c.in-Some.ensures.0) in
     let many = c.in-Some.ensures.1 in
     absurd (omega (arith, few, many))
 
 pub returns-in-Some-clause-others : goal.returns-in-Some-clause-others
 returns-in-Some-clause-others g c alone =
-    let few = alone _ _ _ (found_run _ _ _ _ _ c.in-Ok.ensures.command c.in-Some.ensures.0) in
+    let few = alone _ _ _ _ (found_run _ _ _ _ _ _ c.in-Ok.ensures.command c.in-Some.ensures.0) in
     let many = c.in-Some.ensures.1 in
     absurd (omega (arith, few, many))
 
 pub returns-in-Some-clause-same : goal.returns-in-Some-clause-same
 returns-in-Some-clause-same g c alone =
-    let few = alone _ _ _ (found_run _ _ _ _ _ c.in-Ok.ensures.command c.in-Some.ensures.0) in
+    let few = alone _ _ _ _ (found_run _ _ _ _ _ _ c.in-Ok.ensures.command c.in-Some.ensures.0) in
     let many = c.in-Some.ensures.1 in
     absurd (omega (arith, few, many))
 
 pub returns-in-None-clause-crew : goal.returns-in-None-clause-crew
-returns-in-None-clause-crew g c path workers share spells many =
-    let few = alone_found _ _ c.in-Ok.ensures.command c.in-None.ensures path workers share spells in
+returns-in-None-clause-crew g c path extent workers share spells many =
+    let few = alone_found _ _ c.in-Ok.ensures.command c.in-None.ensures path extent workers share spells in
     absurd (omega (arith, few, many))
 
 -- a crew's run
 pub returns-in-Some-clause-headline : goal.returns-in-Some-clause-headline
-returns-in-Some-clause-headline g c world job runs =
-    crew_answered_promise c.job_laws.ensures.job g.S.Scans.world g.S.Scans.faults g.S.Scans.loads g.S.Scans.same runs.path runs.workers _ _ _ _ _ _ _
-    (crew_as g.S.Scans.world g.S.Scans.faults g.S.Scans.loads g.S.Scans.same _ _ _ _ _ _ _ _ _ _ _
-    (run_found _ _ c.in-Some.crew.project runs.path c.in-Some.crew.workers c.in-Some.crew.share runs.workers runs.share c.in-Ok.ensures.command c.in-Some.ensures.0 runs.spells) c.by_crew.ensures.crew)
+returns-in-Some-clause-headline g c world job extent runs =
+    crew_answered_promise c.job_laws.ensures.job g.S.Scans.world g.S.Scans.faults g.S.Scans.loads g.S.Scans.same runs.path extent runs.workers _ _ _ _ _ _ _
+    (crew_as g.S.Scans.world g.S.Scans.faults g.S.Scans.loads g.S.Scans.same _ _ _ _ _ _ _ _ _ _ _ _ _
+    (run_found _ _ c.in-Some.crew.project runs.path c.in-Some.crew.extent extent c.in-Some.crew.workers c.in-Some.crew.share runs.workers runs.share c.in-Ok.ensures.command c.in-Some.ensures.0 runs.spells) c.by_crew.ensures.crew)
     world job runs.scans_tell runs.disk_tells runs.comes
 
 pub returns-in-Some-clause-complete : goal.returns-in-Some-clause-complete
 returns-in-Some-clause-complete g c command world spells is accepted =
     let disk = disk_state g.D.Disk.tells g.D.Disk.history g.D.Disk.faults c.args.disk in
     let folders = folders_of g.D.Disk.tells g.D.Disk.history g.D.Disk.faults c.args.disk c.args.old.now in
-    let command_is = found_command _ _ command _ _ _ c.in-Ok.ensures.command c.in-Some.ensures.0 spells in
-    let complete = crew_answered_complete c.job_laws.ensures.job g.S.Scans.world g.S.Scans.faults g.S.Scans.loads g.S.Scans.same c.in-Some.crew.project c.in-Some.crew.workers _ _ disk _ world is
+    let command_is = found_command _ _ command _ _ _ _ c.in-Ok.ensures.command c.in-Some.ensures.0 spells in
+    let complete = crew_answered_complete c.job_laws.ensures.job g.S.Scans.world g.S.Scans.faults g.S.Scans.loads g.S.Scans.same c.in-Some.crew.project c.in-Some.crew.extent c.in-Some.crew.workers _ _ disk _ world is
     (subst (λ k. IsAccepted k world folders) command_is accepted) c.in-Some.crew.share _ _ _ c.by_crew.ensures.crew in
     λ scans_steady disk_steady old_steady sink_steady. subst (λ k. IsComplete k c.by_crew.result.outcome) (sym command_is) (complete scans_steady disk_steady sink_steady)
 
 pub returns-in-Some-clause-unfailed : goal.returns-in-Some-clause-unfailed
 returns-in-Some-clause-unfailed g c command spells =
-    let unfailed = crew_unfailed g.S.Scans.world g.S.Scans.faults g.S.Scans.loads g.S.Scans.same c.in-Some.crew.project c.in-Some.crew.workers c.in-Some.crew.share _ _ _ _ _ _ _ c.by_crew.ensures.crew
-    command (found_command _ _ command _ _ _ c.in-Ok.ensures.command c.in-Some.ensures.0 spells) in
+    let unfailed = crew_unfailed g.S.Scans.world g.S.Scans.faults g.S.Scans.loads g.S.Scans.same c.in-Some.crew.project c.in-Some.crew.extent c.in-Some.crew.workers c.in-Some.crew.share _ _ _ _ _ _ _ c.by_crew.ensures.crew
+    command (found_command _ _ command _ _ _ _ c.in-Ok.ensures.command c.in-Some.ensures.0 spells) in
     λ scans_steady disk_steady old_steady sink_steady. unfailed scans_steady disk_steady sink_steady
 
 pub returns-in-Some-clause-adopted : goal.returns-in-Some-clause-adopted
 returns-in-Some-clause-adopted g c world job adopts =
-    absurd (adopts_no_run adopts.path adopts.old_path _ _ _ (found_command _ _ _ _ _ _ c.in-Ok.ensures.command c.in-Some.ensures.0 adopts.spells))
+    absurd (adopts_no_run adopts.path adopts.old_path _ _ _ _ (found_command _ _ _ _ _ _ _ c.in-Ok.ensures.command c.in-Some.ensures.0 adopts.spells))
 
 pub returns-in-None-clause-old_folder : goal.returns-in-None-clause-old_folder
-returns-in-None-clause-old_folder g c path workers share spells many =
-    let few = alone_found _ _ c.in-Ok.ensures.command c.in-None.ensures path workers share spells in
+returns-in-None-clause-old_folder g c path extent workers share spells many =
+    let few = alone_found _ _ c.in-Ok.ensures.command c.in-None.ensures path extent workers share spells in
     absurd (omega (arith, few, many))
 
 -- all else, with the first scan
@@ -104,23 +105,23 @@ returns-in-None-clause-unfailed g c =
 
 -- no memory was left to read the words
 pub returns-in_default-clause-headline : goal.returns-in_default-clause-headline
-returns-in_default-clause-headline g c world job runs =
+returns-in_default-clause-headline g c world job extent runs =
     let disk = disk_state g.D.Disk.tells g.D.Disk.history g.D.Disk.faults c.args.disk in
-    crew_answered_promise c.job_laws.ensures.job g.S.Scans.world g.S.Scans.faults g.S.Scans.loads g.S.Scans.same runs.path runs.workers c.args.scans.items c.args.scans.items disk disk _ _ _
-    (crew_unread g.S.Scans.world g.S.Scans.faults g.S.Scans.loads g.S.Scans.same runs.path runs.workers c.args.scans.items c.args.scans.items disk disk _ _ _ refl refl c.put_line-outcome.ensures.put)
+    crew_answered_promise c.job_laws.ensures.job g.S.Scans.world g.S.Scans.faults g.S.Scans.loads g.S.Scans.same runs.path extent runs.workers c.args.scans.items c.args.scans.items disk disk _ _ _
+    (crew_unread g.S.Scans.world g.S.Scans.faults g.S.Scans.loads g.S.Scans.same runs.path extent runs.workers c.args.scans.items c.args.scans.items disk disk _ _ _ refl refl c.put_line-outcome.ensures.put)
     world job runs.scans_tell runs.disk_tells runs.comes
 
 pub returns-in_default-clause-adopted : goal.returns-in_default-clause-adopted
 returns-in_default-clause-adopted g c world job adopts =
     let disk = disk_state g.D.Disk.tells g.D.Disk.history g.D.Disk.faults c.args.disk in
-    crew_answered_promise c.job_laws.ensures.job g.S.Scans.world g.S.Scans.faults g.S.Scans.loads g.S.Scans.same adopts.path 2 c.args.scans.items c.args.scans.items disk disk _ _ _
-    (crew_unread g.S.Scans.world g.S.Scans.faults g.S.Scans.loads g.S.Scans.same adopts.path 2 c.args.scans.items c.args.scans.items disk disk _ _ _ refl refl c.put_line-outcome.ensures.put)
+    crew_answered_promise c.job_laws.ensures.job g.S.Scans.world g.S.Scans.faults g.S.Scans.loads g.S.Scans.same adopts.path Whole 2 c.args.scans.items c.args.scans.items disk disk _ _ _
+    (crew_unread g.S.Scans.world g.S.Scans.faults g.S.Scans.loads g.S.Scans.same adopts.path Whole 2 c.args.scans.items c.args.scans.items disk disk _ _ _ refl refl c.put_line-outcome.ensures.put)
     world job adopts.scans_tell adopts.disk_tells adopts.comes
 
 -- a run with several workers makes calls on the folder
 pub returns-in-Some-clause-no_call : goal.returns-in-Some-clause-no_call
 returns-in-Some-clause-no_call g c none =
-    absurd (none (commands.Run c.in-Some.crew.project c.in-Some.crew.workers c.in-Some.crew.share) (found_run _ _ _ _ _ c.in-Ok.ensures.command c.in-Some.ensures.0) tt)
+    absurd (none (commands.Run c.in-Some.crew.project c.in-Some.crew.extent c.in-Some.crew.workers c.in-Some.crew.share) (found_run _ _ _ _ _ _ c.in-Ok.ensures.command c.in-Some.ensures.0) tt)
 
 pub returns-in-None-clause-no_call : goal.returns-in-None-clause-no_call
 returns-in-None-clause-no_call g c = c.by_one.ensures.no_call _ c.in-Ok.ensures.command

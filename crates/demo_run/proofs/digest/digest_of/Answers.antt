@@ -16,7 +16,7 @@ loop-i-preserved c = record {
   hashed = λ world whole.
       let file = frame_file c.args.job.now (file_at world) in
       let read : c.as_slice.result.now ≡ file c.loop-i.i =
-      c.as_slice.ensures.value ∙ read_is _ _ _ _ _ _ c.loop-i.invariant.view c.file_of.ensures c.in_ok-read_file.ensures.bytes (whole c.loop-i.i (omega arith)) in
+      c.as_slice.ensures.value ∙ read_is _ _ _ _ _ _ c.loop-i.invariant.view c.file_of.ensures c.in_ok-read_file.ensures.bytes (whole c.loop-i.i (omega arith) (omega arith)) in
       let more = ap (λ (bytes : List ℕ). flat_map file (range_with_len 0 c.loop-i.i) ++ bytes) read ∙ sym (one_file_more file c.loop-i.i) in
       subst (Holds256 c.update.new.self) more (c.update.ensures _ (c.loop-i.invariant.hashed world whole));
 }

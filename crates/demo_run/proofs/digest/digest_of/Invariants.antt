@@ -5,6 +5,7 @@ use Rattle.scan_source.specs.World.{World, file_at}
 use Rattle.frame_render.specs.Frame.{frame_file}
 use Rattle.reel_disk.specs.Disk.{view_of, moment_of}
 use Rattle.reel_disk.specs.MemoryDisk.{history_in}
+use Rattle.reel_writer.specs.Reel.{frames_of}
 use Rattle.single_run.specs.Run.{IsWhole}
 use Rattle.demo_run.proofs.digest.digest_of.Given as goal
 
@@ -12,5 +13,5 @@ use Rattle.demo_run.proofs.digest.digest_of.Given as goal
 abbrev pub invariant-loop-i : goal.invariant-loop-i
 invariant-loop-i l = record {
   view : view_of (history_in l.disk) ≡ view_of (history_in l.initial.disk);
-  hashed : (world : World) → IsWhole l.job world (moment_of (history_in l.initial.disk)) → Holds256 l.hasher (flat_map (frame_file l.job (file_at world)) (range_with_len 0 l.i));
+  hashed : (world : World) → IsWhole l.job 0 (frames_of l.job) world (moment_of (history_in l.initial.disk)) → Holds256 l.hasher (flat_map (frame_file l.job (file_at world)) (range_with_len 0 l.i));
 }

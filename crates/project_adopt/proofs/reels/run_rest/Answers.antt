@@ -1,10 +1,13 @@
 -- The rest is run as the command `run` does.
-use Rattle.std.proofs.Common.{ℕ, List, refl}
+use Rattle.std.proofs.Common.{ℕ, List, refl, subst}
 use Rattle.outcome_line.specs.declared.outcome.Outcome.{Outcome}
 use Rattle.project_run.specs.Calls.{disk_state}
-use Rattle.project_run.specs.Run.{run_text}
+use Rattle.frame_range.specs.Parts.{range_of}
+use Rattle.frame_range.specs.declared.range.Extent.TheVariants.{Whole}
+use Rattle.project_run.specs.Run.{IsSafeRun, run_text}
+use Rattle.single_run.specs.Run.{WasRun}
 use Rattle.project_run.proofs.Runs.{is_known, match_each}
-use Rattle.project_adopt.specs.Adopt.{ReportsAdoption, IsRest}
+use Rattle.project_adopt.specs.Adopt.{ReportsAdoption, IsRest, share_count}
 use Rattle.project_adopt.proofs.reels.run_rest.Goals as goal
 
 pub reply_of-requires : goal.reply_of-requires
@@ -26,8 +29,9 @@ returns-clause-ran g c =
         reply = record { reached_is = reply.reached_is; form = λ done. refl };
         frames = run.frames;
         log = c.run_alone-end.result.2;
-        ran = run.ran;
-        keeps = record { run = run.run; acked = run.acked; whole = run.whole; sound_has = run.sound_has; spares = run.spares; writes = run.writes };
+        ran = subst (λ (n : ℕ). WasRun c.args.job.now 0 n (g.S.Scans.world c.args.scan.now) share_count g.D.Disk.tells (g.D.Disk.history c.args.disk.now) (g.D.Disk.history c.run_alone-end.new.disk) end report c.run_alone-end.result.2) c.count.ensures.count run.ran;
+        keeps = subst (λ (n : ℕ). IsSafeRun c.args.job.now (range_of Whole n) (g.S.Scans.world c.args.scan.now) end (at c.args.disk.now) (at c.run_alone-end.new.disk)) c.count.ensures.count
+            (record { run = run.run; acked = run.acked; whole = run.whole; sound_has = run.sound_has; spares = run.spares; writes = run.writes });
         loaded = run.scan.asked;
         changed = run.changed;
       };

@@ -1,6 +1,7 @@
 -- The project comes to its job, which a crew runs in the folder.
-use Rattle.std.proofs.Common.{◌≡◌, ◌<◌, get_or, length, rules}
+use Rattle.std.proofs.Common.{◌≡◌, ◌∙◌, ap, ◌<◌, get_or, length, rules}
 use Rattle.project_crew.proofs.Crews.{all_tell, crewed, error_as, failed_before, failed_first, first_loaded, still_tell, uncrewed}
+use Rattle.frame_range.specs.Parts.{range_of}
 use Rattle.project_run.proofs.Runs.{match_each}
 use Rattle.project_run.proofs.Leaving.{end_unrefused, left_by}
 use Rattle.project_crew.proofs.crew.run_crewed.Goals as goal
@@ -32,8 +33,9 @@ returns-clause-reply g c =
     let first : get_or c.args.scans.items 0 c.index_mut.result.now ≡ c.index_mut.result.now = search rules in
     let job = c.in-Ok.ensures in
     let texts = first_loaded g.S.Scans.world g.S.Scans.faults g.S.Scans.loads g.S.Scans.same c.planned.new.scan _ c.args.scans.items c.index_mut.result.now some first job.loaded (job.scan.counts.steady (λ is. cc)) job.scan.told job.scan.lent in
-    let reply = crewed g.S.Scans.world g.S.Scans.faults g.S.Scans.loads g.S.Scans.same c.planned.new.scan c.in-Ok.job c.args.path.now c.args.workers c.args.scans.items _ c.index_mut.result.now _ _ in
-    match_each _ _ _ _ _ c.run_job-ended.ensures.ran (λ text ran. reply _ _ some first job.told job.scan.told texts ran) (λ outcome ran. reply _ _ some first job.told job.scan.told texts ran)
+    let all = c.range_of-range.ensures.range ∙ ap (range_of c.args.extent) c.count.ensures.count in
+    let reply = crewed g.S.Scans.world g.S.Scans.faults g.S.Scans.loads g.S.Scans.same c.planned.new.scan c.in-Ok.job c.args.extent c.range_of-range.result c.args.path.now c.args.workers c.args.scans.items _ c.index_mut.result.now _ _ in
+    match_each _ _ _ _ _ c.run_job-ended.ensures.ran (λ text ran. reply _ _ all some first job.told job.scan.told texts ran) (λ outcome ran. reply _ _ all some first job.told job.scan.told texts ran)
 
 pub returns-clause-failed : goal.returns-clause-failed
 returns-clause-failed g c is =

@@ -1,6 +1,7 @@
 -- The project comes to its job, which is run in the folder.
-use Rattle.std.proofs.Common.{inr}
+use Rattle.std.proofs.Common.{inr, ap, ◌∙◌}
 use Rattle.scan_source.proofs.Leaving.{leaves_then}
+use Rattle.frame_range.specs.Parts.{range_of}
 use Rattle.project_run.proofs.Runs.{match_each, of_job, run_in, unplanned}
 use Rattle.project_run.proofs.Leaving.{disk_left, disk_unplanned, run_unrefused, scan_left, scan_unplanned}
 use Rattle.project_run.proofs.alone.run.Goals as goal
@@ -8,8 +9,9 @@ use Rattle.project_run.proofs.alone.run.Goals as goal
 pub returns-clause-folder : goal.returns-clause-folder
 returns-clause-folder g c =
     let job = c.in-Ok.ensures in
-    let reply = run_in c.in-Ok.job (g.S.Scans.world c.planned.new.scan) (g.S.Scans.world c.args.scan.now) c.args.path.now _ _ (g.S.Scans.loads c.args.scan.now) (g.S.Scans.loads c.planned.new.scan) _ in
-    match_each _ _ _ _ _ c.run_job-reply.ensures.ran (λ text ran. reply _ _ job.scan.told job.told job.loaded ran) (λ outcome ran. reply _ _ job.scan.told job.told job.loaded ran)
+    let all = c.range_of-range.ensures.range ∙ ap (range_of c.args.extent) c.count.ensures.count in
+    let reply = run_in c.in-Ok.job c.args.extent c.range_of-range.result (g.S.Scans.world c.planned.new.scan) (g.S.Scans.world c.args.scan.now) c.args.path.now _ _ (g.S.Scans.loads c.args.scan.now) (g.S.Scans.loads c.planned.new.scan) _ in
+    match_each _ _ _ _ _ c.run_job-reply.ensures.ran (λ text ran. reply _ _ all job.scan.told job.told job.loaded ran) (λ outcome ran. reply _ _ all job.scan.told job.told job.loaded ran)
 
 pub returns-clause-scan : goal.returns-clause-scan
 returns-clause-scan g c =

@@ -2,15 +2,17 @@ use Rattle.std.proofs.Common.{◌≡◌, ℕ, suc, ◌+◌, ◌-◌, ◌<◌, tr
 use Rattle.std.specs.Prelude.{Err}
 use Rattle.frame_render.specs.Frame.{frame_size}
 use Rattle.reel_disk.proofs.Sparing.{spares_itself, spares_along, spares_wider}
-use Rattle.reel_writer.specs.Changes.{IsRunFile}
-use Rattle.reel_writer.specs.Reel.{frames_of}
+use Rattle.conform_job.specs.Job.{file_of}
+use Rattle.reel_writer.specs.Reel.{IsWrittenFile}
+use Rattle.single_run.specs.Run.{IsRangeFile}
+use Rattle.single_run.proofs.Ranging.{range_file}
 use Rattle.reel_writer.proofs.ReelLaws.{reel_run_itself, reel_run_along}
 use Rattle.single_run.specs.Asks.{IsNext, asks_of_frames, closed_frames}
 use Rattle.single_run.specs.Ran.{ArePast, WereFinished}
 use Rattle.frame_fetch.specs.Sharing.{IsPaired, asks_of}
 use Rattle.frame_fetch.specs.declared.run_end.RunEnd.TheVariants as end
 use Rattle.frame_fetch.proofs.Logs.{asks_along, paired_along}
-use Rattle.single_run.proofs.Running.{acked_then, acks_are, is_next, all_finished, asks_more, asks_passed, asks_first, taken, stopped, not_begun, unbegun, gates_are, run_file_along, acks_then, gates_then, kept_then, not_done}
+use Rattle.single_run.proofs.Running.{acked_then, acks_are, is_next, all_finished, asks_more, asks_passed, asks_first, taken, stopped, not_begun, unbegun, gates_are, acks_then, gates_then, kept_then, not_done}
 use Rattle.frame_fetch.proofs.Counting.{err_same}
 use Rattle.frame_fetch.proofs.Scanning.{scanned_itself, scanned_as, scanned_along}
 use Rattle.single_run.proofs.Stepping.{past_itself, past_none, past_more, asks_if_closed, gate_still, if_still}
@@ -18,10 +20,10 @@ use Rattle.single_run.proofs.frames.run_frames.Goals as goal
 
 pub loop-i-init : goal.loop-i-init
 loop-i-init g c = record {
-  within = omega arith;
-  ending = c.count-i-end.ensures.count ∙ ap frames_of c.requires.job;
-  past = past_none c.args.reel.now c.requires.is_open;
-  asked = ap asks_of c.requires.unasked ∙ sym (asks_first g.N.Work.job c.args.reel.now.ledger.gates);
+  late = omega arith;
+  within = c.requires.range.0;
+  past = past_none c.args.low c.args.reel.now c.requires.is_open;
+  asked = ap asks_of c.requires.unasked ∙ sym (asks_first g.N.Work.job c.args.reel.now.ledger.gates c.args.low);
   paired = subst (IsPaired ⊥) (sym c.requires.unasked) tt;
   capacity = refl;
   parts = refl;
@@ -30,7 +32,7 @@ loop-i-init g c = record {
   few = let zero = c.requires.zero.0 in omega (arith, zero);
   room = c.in-Ok.ensures.room ∙ ap frame_size c.requires.job;
   run = λ told. reel_run_itself g.N.Work.job g.N.Work.files (g.D.Disk.history c.args.reel.now.disk);
-  spares = λ told. spares_itself (g.D.Disk.history c.args.reel.now.disk) (IsRunFile g.N.Work.job c.args.reel.now.ledger.gates);
+  spares = λ told. spares_itself (g.D.Disk.history c.args.reel.now.disk) (IsRangeFile g.N.Work.job c.args.low c.args.high c.args.reel.now.ledger.gates);
   faults = refl;
   same_disk = refl;
   scan = scanned_as g.S.Scans.world g.S.Scans.faults g.S.Scans.loads c.args.scan.now c.args.scan.now 0 c.args.loads.now ⊥ ⊥ (sym c.requires.zero.0) (λ never. never) (λ never. never) (scanned_itself g.S.Scans.world g.S.Scans.faults g.S.Scans.loads ⊥ (λ never. never) c.args.scan.now);
@@ -43,12 +45,12 @@ loop-i-preserved-then-is_passed_over g c =
     let inv = c.loop-i.invariant in
     let next : suc c.loop-i.i ≡ c.loop-i.i + 1 = omega arith in
     let acked : get_or c.loop-i.reel.ledger.gates c.loop-i.i false ≡ true = sym c.is_passed_over.ensures.passed ∙ c.if-is_passed_over.true in
-    let was = sym (gate_still c.args.reel.now c.loop-i.reel c.loop-i.i inv.past) ∙ acked in
+    let was = sym (gate_still c.args.low c.args.reel.now c.loop-i.reel c.loop-i.i inv.late inv.past) ∙ acked in
     record {
-      within = let lt = c.loop-i-test.true in let all = inv.ending in omega (arith, lt, all);
-      ending = inv.ending;
-      past = subst (λ (n : ℕ). ArePast n c.args.reel.now c.loop-i.reel) next (past_more c.args.reel.now c.loop-i.reel c.loop-i.i inv.past c.loop-i.reel (past_itself c.loop-i.reel c.loop-i.i acked inv.past.is_open));
-      asked = subst (λ (n : ℕ). asks_of c.loop-i.share.steps ≡ asks_of_frames g.N.Work.job (closed_frames c.args.reel.now.ledger.gates n)) next (inv.asked ∙ sym (asks_passed g.N.Work.job c.args.reel.now.ledger.gates c.loop-i.i was));
+      late = let was = inv.late in omega (arith, was);
+      within = let lt = c.loop-i-test.true in omega (arith, lt);
+      past = subst (λ (n : ℕ). ArePast c.args.low n c.args.reel.now c.loop-i.reel) next (past_more c.args.low c.args.reel.now c.loop-i.reel c.loop-i.i inv.late inv.past c.loop-i.reel (past_itself c.loop-i.reel c.loop-i.i acked inv.past.is_open));
+      asked = subst (λ (n : ℕ). asks_of c.loop-i.share.steps ≡ asks_of_frames g.N.Work.job (closed_frames c.args.reel.now.ledger.gates c.args.low n)) next (inv.asked ∙ sym (asks_passed g.N.Work.job c.args.reel.now.ledger.gates c.args.low c.loop-i.i inv.late was));
       paired = inv.paired;
       capacity = inv.capacity;
       parts = inv.parts;
@@ -76,17 +78,17 @@ loop-i-preserved g c =
     let inv = c.loop-i.invariant in
     let step = c.in-Ok-run_frame.ensures in
     let next : suc c.loop-i.i ≡ c.loop-i.i + 1 = omega arith in
-    let still = if_still c.args.reel.now c.loop-i.reel c.loop-i.i inv.past in
+    let still = if_still c.args.low c.args.reel.now c.loop-i.reel c.loop-i.i inv.late inv.past in
     let asked = step.asked in
     let reel = step.reel in
     let steady = reel.steady (λ same. cc) in
     record {
-      within = let lt = c.loop-i-test.true in let all = inv.ending in omega (arith, lt, all);
-      ending = inv.ending;
-      past = subst (λ (n : ℕ). ArePast n c.args.reel.now c.run_frame.new.reel) next (past_more c.args.reel.now c.loop-i.reel c.loop-i.i inv.past c.run_frame.new.reel reel.past);
-      asked = subst (λ (n : ℕ). asks_of c.run_frame.new.share.steps ≡ asks_of_frames g.N.Work.job (closed_frames c.args.reel.now.ledger.gates n)) next
+      late = let was = inv.late in omega (arith, was);
+      within = let lt = c.loop-i-test.true in omega (arith, lt);
+      past = subst (λ (n : ℕ). ArePast c.args.low n c.args.reel.now c.run_frame.new.reel) next (past_more c.args.low c.args.reel.now c.loop-i.reel c.loop-i.i inv.late inv.past c.run_frame.new.reel reel.past);
+      asked = subst (λ (n : ℕ). asks_of c.run_frame.new.share.steps ≡ asks_of_frames g.N.Work.job (closed_frames c.args.reel.now.ledger.gates c.args.low n)) next
           (ap asks_of asked.steps ∙ asks_along c.loop-i.share.steps asked.more ∙ ap (λ l. l ++ asks_of asked.more) inv.asked
-          ∙ ap (λ l. asks_of_frames g.N.Work.job (closed_frames c.args.reel.now.ledger.gates c.loop-i.i) ++ l) (asked.asks ∙ sym (asks_if_closed g.N.Work.job c.loop-i.reel.ledger.gates c.loop-i.i reel.fresh) ∙ ap (asks_of_frames g.N.Work.job) still) ∙ sym (asks_more g.N.Work.job c.args.reel.now.ledger.gates c.loop-i.i));
+          ∙ ap (λ l. asks_of_frames g.N.Work.job (closed_frames c.args.reel.now.ledger.gates c.args.low c.loop-i.i) ++ l) (asked.asks ∙ sym (asks_if_closed g.N.Work.job c.loop-i.reel.ledger.gates c.loop-i.i reel.fresh) ∙ ap (asks_of_frames g.N.Work.job) still) ∙ sym (asks_more g.N.Work.job c.args.reel.now.ledger.gates c.args.low c.loop-i.i inv.late));
       paired = subst (IsPaired ⊥) (sym asked.steps) (paired_along ⊥ c.loop-i.share.steps asked.more inv.paired asked.paired);
       capacity = asked.room ∙ inv.capacity;
       parts = step.fetched.loaded.parts ∙ inv.parts;
@@ -95,8 +97,8 @@ loop-i-preserved g c =
       few = let was = inv.few in let two = step.fetched.loaded.few in omega (arith, was, two);
       room = step.room;
       run = λ told. reel_run_along g.N.Work.job g.N.Work.files _ _ _ (inv.run told) (reel.run told) (reel.none_lost told);
-      spares = λ told. spares_along _ _ _ (IsRunFile g.N.Work.job c.args.reel.now.ledger.gates) (inv.run told).extends (reel.run told).extends (inv.spares told)
-          (spares_wider _ _ (IsRunFile g.N.Work.job c.loop-i.reel.ledger.gates) (IsRunFile g.N.Work.job c.args.reel.now.ledger.gates) (run_file_along c.args.reel.now c.loop-i.reel c.loop-i.i c.requires.none inv.past g.N.Work.job) (reel.spares told));
+      spares = λ told. spares_along _ _ _ (IsRangeFile g.N.Work.job c.args.low c.args.high c.args.reel.now.ledger.gates) (inv.run told).extends (reel.run told).extends (inv.spares told)
+          (spares_wider _ _ (IsWrittenFile (file_of g.N.Work.job c.loop-i.i)) (IsRangeFile g.N.Work.job c.args.low c.args.high c.args.reel.now.ledger.gates) (range_file g.N.Work.job c.args.low c.args.high c.args.reel.now.ledger.gates c.loop-i.i inv.late c.loop-i-test.true (sym (gate_still c.args.low c.args.reel.now c.loop-i.reel c.loop-i.i inv.late inv.past) ∙ reel.fresh)) (reel.spares told));
       faults = steady ∙ inv.faults;
       same_disk = reel.same ∙ inv.same_disk;
       scan = scanned_along g.S.Scans.world g.S.Scans.faults g.S.Scans.loads _ _ _ c.loop-i.loads (c.run_frame.new.loads - c.loop-i.loads) c.run_frame.new.loads ⊥ ⊥ (let later = step.fetched.loaded.later in omega (arith, later)) (λ never. never) inv.scan
@@ -106,45 +108,43 @@ loop-i-preserved g c =
 
 -- no room for a frame
 pub returns-in-Err-clause-finished : goal.returns-in-Err-clause-finished
-returns-in-Err-clause-finished g c = unbegun g.N.Work.job c.args.reel.now.ledger.gates end.NoMemory _ _ (λ same. cc) (ap length c.requires.none) c.requires.unasked
+returns-in-Err-clause-finished g c = unbegun g.N.Work.job c.args.low c.args.high c.args.reel.now.ledger.gates end.NoMemory _ _ (λ same. cc) (ap length c.requires.none) c.requires.unasked
 
 pub returns-in-Err-clause-reel : goal.returns-in-Err-clause-reel
-returns-in-Err-clause-reel g c = not_begun g.N.Work.job g.N.Work.files g.D.Disk.tells g.D.Disk.history g.D.Disk.loans g.D.Disk.faults end.NoMemory c.args.reel.now (λ same. cc) c.requires.none c.requires.is_open
+returns-in-Err-clause-reel g c = not_begun g.N.Work.job c.args.low c.args.high g.N.Work.files g.D.Disk.tells g.D.Disk.history g.D.Disk.loans g.D.Disk.faults end.NoMemory c.args.reel.now (λ same. cc) c.requires.none c.requires.is_open
 
 -- a frame could not be made or finished
 pub returns-in-Err-run_frame-clause-finished : goal.returns-in-Err-run_frame-clause-finished
 returns-in-Err-run_frame-clause-finished g c =
     let inv = c.loop-i.invariant in
-    let lt : c.loop-i.i < c.count-i-end.result = c.loop-i-test.true in
-    let all = inv.ending in
-    subst (λ (l : List ℕ). WereFinished g.N.Work.job c.args.reel.now.ledger.gates c.in-Err-run_frame.end (length l) c.run_frame.new.share.steps) (sym (acks_then c.args.reel.now c.loop-i.reel c.loop-i.i c.requires.none inv.past c.run_frame.new.reel c.in-Err-run_frame.ensures.reel.unfinished))
-    (stopped g.N.Work.job c.args.reel.now.ledger.gates c.in-Err-run_frame.end c.loop-i.i c.loop-i.share c.run_frame.new.share (not_done g.N.Work.job g.N.Work.files c.in-Err-run_frame.end c.in-Err-run_frame.ensures.stop) (omega (arith, lt, all))
-    (sym (gate_still c.args.reel.now c.loop-i.reel c.loop-i.i inv.past) ∙ c.in-Err-run_frame.ensures.reel.fresh) inv.asked inv.paired c.in-Err-run_frame.ensures.tried)
+    let lt : c.loop-i.i < c.args.high = c.loop-i-test.true in
+    subst (λ (l : List ℕ). WereFinished g.N.Work.job c.args.low c.args.high c.args.reel.now.ledger.gates c.in-Err-run_frame.end (length l) c.run_frame.new.share.steps) (sym (acks_then c.args.low c.args.reel.now c.loop-i.reel c.loop-i.i inv.late c.requires.none inv.past c.run_frame.new.reel c.in-Err-run_frame.ensures.reel.unfinished))
+    (stopped g.N.Work.job c.args.low c.args.high c.args.reel.now.ledger.gates c.in-Err-run_frame.end c.loop-i.i c.loop-i.share c.run_frame.new.share (not_done g.N.Work.job g.N.Work.files c.in-Err-run_frame.end c.in-Err-run_frame.ensures.stop) inv.late (omega (arith, lt))
+    (sym (gate_still c.args.low c.args.reel.now c.loop-i.reel c.loop-i.i inv.late inv.past) ∙ c.in-Err-run_frame.ensures.reel.fresh) inv.asked inv.paired c.in-Err-run_frame.ensures.tried)
 
 pub returns-in-Err-run_frame-clause-reel : goal.returns-in-Err-run_frame-clause-reel
 returns-in-Err-run_frame-clause-reel g c = record {
   acks =
       let inv = c.loop-i.invariant in
-      let all = inv.ending in
       let within = inv.within in
-      let then_acks = acks_then c.args.reel.now c.loop-i.reel c.loop-i.i c.requires.none inv.past c.run_frame.new.reel c.in-Err-run_frame.ensures.reel.unfinished in
-      then_acks ∙ sym (taken c.args.reel.now.ledger.gates (frames_of g.N.Work.job) c.loop-i.i within) ∙ ap (λ (l : List ℕ). take (length l) (closed_frames c.args.reel.now.ledger.gates (frames_of g.N.Work.job))) (sym then_acks);
-  gates = gates_then c.args.reel.now c.loop-i.reel c.loop-i.i c.requires.none c.loop-i.invariant.past c.run_frame.new.reel c.in-Err-run_frame.ensures.reel.unfinished;
-  kept = kept_then c.args.reel.now c.loop-i.reel c.loop-i.i c.requires.none c.loop-i.invariant.past c.run_frame.new.reel c.in-Err-run_frame.ensures.reel.unfinished;
+      let late = inv.late in
+      let then_acks = acks_then c.args.low c.args.reel.now c.loop-i.reel c.loop-i.i inv.late c.requires.none inv.past c.run_frame.new.reel c.in-Err-run_frame.ensures.reel.unfinished in
+      then_acks ∙ sym (taken c.args.reel.now.ledger.gates c.args.low c.args.high c.loop-i.i late within) ∙ ap (λ (l : List ℕ). take (length l) (closed_frames c.args.reel.now.ledger.gates c.args.low c.args.high)) (sym then_acks);
+  gates = gates_then c.args.low c.args.reel.now c.loop-i.reel c.loop-i.i c.loop-i.invariant.late c.requires.none c.loop-i.invariant.past c.run_frame.new.reel c.in-Err-run_frame.ensures.reel.unfinished;
+  kept = kept_then c.args.low c.args.reel.now c.loop-i.reel c.loop-i.i c.loop-i.invariant.late c.requires.none c.loop-i.invariant.past c.run_frame.new.reel c.in-Err-run_frame.ensures.reel.unfinished;
   stays_open = λ other. c.in-Err-run_frame.ensures.reel.stays_open (λ is. other (err_same _ _ is));
   failed = λ told failed k other.
       let inv = c.loop-i.invariant in
-      let lt : c.loop-i.i < c.count-i-end.result = c.loop-i-test.true in
-      let all = inv.ending in
+      let lt : c.loop-i.i < c.args.high = c.loop-i-test.true in
       let unfinished = c.in-Err-run_frame.ensures.reel.unfinished in
-      let shut = sym (gate_still c.args.reel.now c.loop-i.reel c.loop-i.i inv.past) ∙ c.in-Err-run_frame.ensures.reel.fresh in
-      let next = is_next c.args.reel.now.ledger.gates (frames_of g.N.Work.job) c.loop-i.i (length c.run_frame.new.reel.acks) (omega (arith, lt, all)) shut (ap length (acks_then c.args.reel.now c.loop-i.reel c.loop-i.i c.requires.none inv.past c.run_frame.new.reel unfinished)) in
-      acked_then c.args.reel.now c.loop-i.reel c.loop-i.i c.requires.none inv.past c.run_frame.new.reel unfinished _ k
-      (c.in-Err-run_frame.ensures.reel.failed told (ap Err failed) k (λ is. other (subst (λ n. IsNext c.args.reel.now.ledger.gates (frames_of g.N.Work.job) (length c.run_frame.new.reel.acks) n) (sym is) next)));
+      let shut = sym (gate_still c.args.low c.args.reel.now c.loop-i.reel c.loop-i.i inv.late inv.past) ∙ c.in-Err-run_frame.ensures.reel.fresh in
+      let next = is_next c.args.reel.now.ledger.gates c.args.low c.args.high c.loop-i.i (length c.run_frame.new.reel.acks) inv.late (omega (arith, lt)) shut (ap length (acks_then c.args.low c.args.reel.now c.loop-i.reel c.loop-i.i inv.late c.requires.none inv.past c.run_frame.new.reel unfinished)) in
+      acked_then c.args.low c.args.reel.now c.loop-i.reel c.loop-i.i inv.late c.requires.none inv.past c.run_frame.new.reel unfinished _ k
+      (c.in-Err-run_frame.ensures.reel.failed told (ap Err failed) k (λ is. other (subst (λ n. IsNext c.args.reel.now.ledger.gates c.args.low c.args.high (length c.run_frame.new.reel.acks) n) (sym is) next)));
   run = λ told. reel_run_along g.N.Work.job g.N.Work.files _ _ _ (c.loop-i.invariant.run told) (c.run_frame.ensures.reel.run told) (c.run_frame.ensures.reel.none_lost told);
   spares = λ told.
-      spares_along _ _ _ (IsRunFile g.N.Work.job c.args.reel.now.ledger.gates) (c.loop-i.invariant.run told).extends (c.run_frame.ensures.reel.run told).extends (c.loop-i.invariant.spares told)
-      (spares_wider _ _ (IsRunFile g.N.Work.job c.loop-i.reel.ledger.gates) (IsRunFile g.N.Work.job c.args.reel.now.ledger.gates) (run_file_along c.args.reel.now c.loop-i.reel c.loop-i.i c.requires.none c.loop-i.invariant.past g.N.Work.job) (c.run_frame.ensures.reel.spares told));
+      spares_along _ _ _ (IsRangeFile g.N.Work.job c.args.low c.args.high c.args.reel.now.ledger.gates) (c.loop-i.invariant.run told).extends (c.run_frame.ensures.reel.run told).extends (c.loop-i.invariant.spares told)
+      (spares_wider _ _ (IsWrittenFile (file_of g.N.Work.job c.loop-i.i)) (IsRangeFile g.N.Work.job c.args.low c.args.high c.args.reel.now.ledger.gates) (range_file g.N.Work.job c.args.low c.args.high c.args.reel.now.ledger.gates c.loop-i.i c.loop-i.invariant.late c.loop-i-test.true (sym (gate_still c.args.low c.args.reel.now c.loop-i.reel c.loop-i.i c.loop-i.invariant.late c.loop-i.invariant.past) ∙ c.run_frame.ensures.reel.fresh)) (c.run_frame.ensures.reel.spares told));
   same = c.run_frame.ensures.reel.same ∙ c.loop-i.invariant.same_disk;
   cause = search rules;
   steady = λ other. c.in-Err-run_frame.ensures.reel.steady (λ is. other (err_same _ _ is)) ∙ c.loop-i.invariant.faults;
@@ -161,9 +161,10 @@ returns-clause-reel g c = record {
   acks =
       let inv = c.loop-i.invariant in
       let within = inv.within in
-      let acks = acks_are c.args.reel.now c.loop-i.reel c.loop-i.i c.requires.none inv.past in
-      acks ∙ sym (taken c.args.reel.now.ledger.gates (frames_of g.N.Work.job) c.loop-i.i within) ∙ ap (λ (l : List ℕ). take (length l) (closed_frames c.args.reel.now.ledger.gates (frames_of g.N.Work.job))) (sym acks);
-  gates = gates_are c.args.reel.now c.loop-i.reel c.loop-i.i c.requires.none c.loop-i.invariant.past;
+      let late = inv.late in
+      let acks = acks_are c.args.low c.args.reel.now c.loop-i.reel c.loop-i.i inv.late c.requires.none inv.past in
+      acks ∙ sym (taken c.args.reel.now.ledger.gates c.args.low c.args.high c.loop-i.i late within) ∙ ap (λ (l : List ℕ). take (length l) (closed_frames c.args.reel.now.ledger.gates c.args.low c.args.high)) (sym acks);
+  gates = gates_are c.args.low c.args.reel.now c.loop-i.reel c.loop-i.i c.loop-i.invariant.late c.requires.none c.loop-i.invariant.past;
   kept = c.loop-i.invariant.past.kept;
   stays_open = λ other. c.loop-i.invariant.past.is_open;
   failed = λ told failed. cc;
@@ -177,10 +178,9 @@ returns-clause-reel g c = record {
 pub returns-clause-finished : goal.returns-clause-finished
 returns-clause-finished g c =
     let inv = c.loop-i.invariant in
-    let late = c.loop-i-test.false in
+    let past = c.loop-i-test.false in
     let within = inv.within in
-    let ending = inv.ending in
-    let all : c.loop-i.i ≡ frames_of g.N.Work.job = omega (arith, late, within, ending) in
-    all_finished g.N.Work.job c.args.reel.now.ledger.gates (length c.loop-i.reel.acks) c.loop-i.share.steps
-    (ap length (acks_are c.args.reel.now c.loop-i.reel c.loop-i.i c.requires.none inv.past) ∙ ap (λ (n : ℕ). length (closed_frames c.args.reel.now.ledger.gates n)) all)
-    (inv.asked ∙ ap (λ (n : ℕ). asks_of_frames g.N.Work.job (closed_frames c.args.reel.now.ledger.gates n)) all) inv.paired
+    let all : c.loop-i.i ≡ c.args.high = omega (arith, past, within) in
+    all_finished g.N.Work.job c.args.low c.args.high c.args.reel.now.ledger.gates (length c.loop-i.reel.acks) c.loop-i.share.steps
+    (ap length (acks_are c.args.low c.args.reel.now c.loop-i.reel c.loop-i.i inv.late c.requires.none inv.past) ∙ ap (λ (n : ℕ). length (closed_frames c.args.reel.now.ledger.gates c.args.low n)) all)
+    (inv.asked ∙ ap (λ (n : ℕ). asks_of_frames g.N.Work.job (closed_frames c.args.reel.now.ledger.gates c.args.low n)) all) inv.paired c.requires.range.0

@@ -1,0 +1,29 @@
+-- The project comes to its job, and the folder is looked at.
+use Rattle.std.proofs.Common.{inr}
+use Rattle.project_run.proofs.Runs.{job_looks, looked_in, match_each, unplanned}
+use Rattle.project_run.proofs.Leaving.{sums_unrefused, disk_left, disk_unplanned, scan_looked, scan_unplanned}
+use Rattle.project_run.proofs.digests.sums.Goals as goal
+
+pub returns-clause-folder : goal.returns-clause-folder
+returns-clause-folder g c =
+    let job = c.in-Ok.ensures in
+    match_each _ _ _ _ _ c.sums_of-reply.ensures.summed (λ text summed. looked_in _ c.in-Ok.job _ _ _ _ _ _ _ job.told job.loaded summed) (λ outcome summed. looked_in _ c.in-Ok.job _ _ _ _ _ _ _ job.told job.loaded summed)
+
+pub returns-clause-scan : goal.returns-clause-scan
+returns-clause-scan g c =
+    let reply = c.sums_of-reply.ensures in
+    scan_looked g.S.Scans.world g.S.Scans.faults g.S.Scans.heads g.S.Scans.same c.args.path.now _ _ c.in-Ok.job _ _ _ c.in-Ok.ensures.scan reply.never reply.summed (λ reached was. sums_unrefused _ _ _ _ _ was)
+
+pub returns-clause-disk : goal.returns-clause-disk
+returns-clause-disk g c =
+    let reply = c.sums_of-reply.ensures in
+    disk_left g.D.Disk.faults g.D.Disk.loans _ _ _ _ _ reply.disk reply.summed (λ reached was. sums_unrefused _ _ _ _ _ was)
+
+-- no job was planned
+pub returns-in-Err : goal.returns-in-Err
+returns-in-Err g c = let job = c.in-Err.ensures in record {
+  folder = inr (unplanned _ _ _ _ _ _ job.told job.kind job.loads job.refused);
+  kind = job_looks _ job.kind;
+  scan = scan_unplanned g.S.Scans.world g.S.Scans.faults g.S.Scans.heads g.S.Scans.same c.args.path.now _ _ _ job.scan job.refused_heads;
+  disk = disk_unplanned g.D.Disk.faults g.D.Disk.loans c.in-Err.outcome c.args.disk.now job.kind;
+}
