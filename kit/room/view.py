@@ -1,0 +1,205 @@
+"""A list as a person sees it: its edits with their events, motion lines and notes, beside what the station takes.
+
+An edit is a row of event lines with one number, and the motion lines and notes behind it.
+"""
+
+from __future__ import annotations
+
+import os
+import re
+from dataclasses import dataclass, field
+from functools import cached_property
+from typing import Dict, List, Optional, Tuple
+
+from room.edit_list import EventLine, MotionLine, Note, fcm_words, read_event, read_motion, read_note
+from room.list_text import Line
+from room.taken import Reading, Taken, read_list
+from room.timecode import Counting
+
+# The words for a file that has no tape: the reel is then no source.
+FILE_REELS = ("AX", "AUX")
+
+
+@dataclass
+class Entry:
+    """An event line of an edit, its clip's name where a note gives one, and the event that the station takes of it."""
+
+    line: Line
+    event: EventLine
+    clip: str = ""
+    taken: Optional[Taken] = None
+
+
+@dataclass
+class Edit:
+    """Event lines of one number, and what belongs to them."""
+
+    entries: List[Entry] = field(default_factory=list)
+    motions: List[Tuple[Line, MotionLine]] = field(default_factory=list)
+    notes: List[Tuple[Line, Note]] = field(default_factory=list)
+
+    @property
+    def pictures(self) -> List[Entry]:
+        return [entry for entry in self.entries if entry.event.is_picture]
+
+    def note(self, key: str) -> str:
+        """The first value that a note of this key gives."""
+        return next((note.value for _, note in self.notes if note.key == key and note.value), "")
+
+    @property
+    def has_still(self) -> bool:
+        return any(note.key.endswith("CLIP IS A STILL") for _, note in self.notes)
+
+
+@dataclass
+class View:
+    """A whole list at a rate. What the station takes of it is read when it is first asked for."""
+
+    lines: List[Line]
+    rate: int
+    size: int
+    edits: List[Edit] = field(default_factory=list)
+    early_motions: List[Tuple[Line, MotionLine]] = field(default_factory=list)
+    notes: List[Tuple[Line, Note]] = field(default_factory=list)
+    fcm: List[Tuple[Line, str]] = field(default_factory=list)
+
+    @cached_property
+    def reading(self) -> Reading:
+        """The station's own reading, whose events are given to the entries."""
+        reading = read_list(self.lines, self.rate, self.size)
+        taken = {event.line: event for event in reading.events}
+        for entry in self.entries:
+            entry.taken = taken.get(entry.line.number)
+        return reading
+
+    @cached_property
+    def entries(self) -> List[Entry]:
+        return [entry for edit in self.edits for entry in edit.entries]
+
+    @cached_property
+    def pictures(self) -> List[Entry]:
+        return [entry for entry in self.entries if entry.event.is_picture]
+
+    def text_of(self, number: int) -> Optional[str]:
+        """The line with this number."""
+        return self.lines[number - 1].text if 1 <= number <= len(self.lines) else None
+
+    @cached_property
+    def uses_semicolons(self) -> bool:
+        """Whether separators tell how labels count: a list with no `;` at all says nothing by its `:`."""
+        return any(";" in label for entry in self.pictures for label in entry.event.labels)
+
+
+def view_of(lines: List[Line], rate: int, size: int = 0) -> View:
+    """The view of these lines."""
+    view = View(lines, rate, size)
+    is_open = False
+    for line in lines:
+        is_open = _add(view, line, is_open)
+    for edit in view.edits:
+        name_clips(edit)
+    return view
+
+
+def _add(view: View, line: Line, is_open: bool) -> bool:
+    """Adds a line; the answer is whether an event line of the same number would belong to the last edit."""
+    start = line.text[:80].lstrip(" \t")
+    if not start:
+        return is_open
+    event = None if start.startswith(("*", "FCM:", "FROM ")) else read_event(line.text)
+    if event is not None:
+        if not is_open or view.edits[-1].entries[-1].event.number != event.number:
+            view.edits.append(Edit())
+        view.edits[-1].entries.append(Entry(line, event))
+        return True
+    words = fcm_words(line.text)
+    if words is not None:
+        view.fcm.append((line, words))
+        return is_open
+    motion = read_motion(line.text) if start.startswith("M2") else None
+    if motion is not None:
+        (view.edits[-1].motions if view.edits else view.early_motions).append((line, motion))
+        return False
+    note = read_note(line.text)
+    if note is not None:
+        view.notes.append((line, note))
+        if view.edits:
+            view.edits[-1].notes.append((line, note))
+    return False
+
+
+def name_clips(edit: Edit) -> None:
+    """Gives each picture line its clip: in a transition FROM names the line before, and TO the incoming one."""
+    source = os.path.basename(edit.note("SOURCE FILE") or edit.note("FROM FILE") or "")
+    of_from = edit.note("FROM CLIP NAME") or source
+    of_to = edit.note("TO CLIP NAME")
+    pictures = edit.pictures
+    for place, entry in enumerate(pictures):
+        is_last = place == len(pictures) - 1
+        if is_last and entry.event.is_transition:
+            entry.clip = of_to or (of_from if len(pictures) == 1 else "")
+        else:
+            entry.clip = of_from
+
+
+def name_of_clip(clip: str) -> str:
+    """A clip's name without the ending of its file, for comparing."""
+    return re.sub(r"\.(mov|mxf|mp4|m4v|avi|dpx|exr|r3d|ari|arx|braw|crm|psd|tiff?|jpe?g|png)$", "", clip.strip(), flags=re.IGNORECASE)
+
+
+def contradicting_reels(view: View) -> Dict[str, Tuple[Entry, Entry]]:
+    """Reels that have two clips at one source time, neither of whose names begins with the other: they stand for several files.
+
+    The second condition leaves alone a tape whose editor gave a shot a longer name, such as `24-1` and `24-1 (FREEZE)`.
+    """
+    by_reel: Dict[str, List[Tuple[int, int, str, Entry]]] = {}
+    counting = Counting(view.rate)
+    for entry in view.pictures:
+        name = name_of_clip(entry.clip)
+        times = [counting.near_number(label.replace(";", ":")) for label in entry.event.labels[:2]]
+        if not name or entry.event.is_black or None in times:
+            continue
+        source_in, source_out = times
+        assert source_in is not None and source_out is not None
+        by_reel.setdefault(entry.event.reel, []).append((source_in, max(source_out, source_in), name, entry))
+    found: Dict[str, Tuple[Entry, Entry]] = {}
+    for reel, uses in by_reel.items():
+        if len({name for _, _, name, _ in uses}) > 1:
+            pair = _contradiction(sorted(uses, key=lambda use: use[:2]))
+            if pair is not None:
+                found[reel] = pair
+    return found
+
+
+def _contradiction(uses: List[Tuple[int, int, str, Entry]]) -> Optional[Tuple[Entry, Entry]]:
+    """Two uses of one time under names that don't go together, by one pass over the uses in the order of their times."""
+    open_uses: List[Tuple[int, int, str, Entry]] = []
+    for use in uses:
+        open_uses = [other for other in open_uses if other[1] > use[0]]
+        for other in open_uses:
+            if use[1] > use[0] and not use[2].startswith(other[2]) and not other[2].startswith(use[2]):
+                return (other[3], use[3]) if other[3].line.number < use[3].line.number else (use[3], other[3])
+        # More than a few names at one time tell nothing new.
+        if use[1] > use[0] and len(open_uses) < 20:
+            open_uses.append(use)
+    return None
+
+
+def is_ascending_reverse(taken: Taken, rate: int) -> bool:
+    """Whether a reversed event lists its range in ascending order: as long as the speed asks for, so that play would leave it."""
+    if taken.speed is None or taken.speed >= 0 or taken.is_black or taken.length == 0:
+        return False
+    source = taken.source_out - taken.source_in
+    wanted = taken.length * -taken.speed / (100 * rate)
+    return source > 1 and abs(source - wanted) <= 1
+
+
+def is_same_reel_transition(edit: Edit) -> bool:
+    """Whether an edit is a transition from a reel into itself."""
+    pictures = edit.pictures
+    return len(pictures) == 2 and pictures[1].event.is_transition and pictures[0].event.reel == pictures[1].event.reel
+
+
+def same_time(label: str, other: str) -> bool:
+    """Whether two labels have the same digits, whatever separates them."""
+    return re.sub("[^0-9]", "", label) == re.sub("[^0-9]", "", other)
