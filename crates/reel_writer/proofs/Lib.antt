@@ -2,4 +2,5 @@ mod Checking
 pub mod Finishing
 pub mod Keeping
 pub mod ReelLaws
+mod Rooms
 pub mod Writing

@@ -1,11 +1,17 @@
 //! A check of a reel's files against the ledger's records.
-ghost use Rattle.std.specs.Prelude.{◌≡◌, ◌<◌, true, length, Err};
+ghost use Rattle.std.specs.Prelude.{◌≡◌, ◌<◌, true, length, All, Err, IfOk, OnOk, IsErr};
 ghost use Rattle.reel_disk.specs.Disk.{view_of, IsStill};
+ghost use Rattle.conform_job.specs.Job.{file_of};
+ghost use Rattle.resume_ledger.specs.Hash.{digest_of_file};
+ghost use Rattle.reel_writer.specs.Ahead.{HasDigest};
 ghost use Rattle.reel_writer.specs.Leaves.{LeavesDisk};
 ghost use Rattle.reel_writer.specs.Reel.{frames_of};
 ghost use Rattle.reel_writer.specs.Damage.{HasChecked, IsCheckFor, HasCheckedOne, IsCheckOneFor, IsIntactWhereSound};
 
+use crate::ahead::{digest_in, fill_rooms};
+use crate::files::frame_len;
 use conform_job::Job;
+use frame_hash::{Hasher, Room, rooms_of};
 use reel_disk::{Disk, DiskFault};
 use resume_ledger::{LedgerView, digest_of_file};
 use std::alloc::Global;
@@ -32,12 +38,14 @@ pub enum CheckFault {
 ///
 /// `Damaged` comes exactly at the first frame where the two differ. `DiskFault` comes only where the
 /// disk's count of faults rose.
-pub fn check<D: Disk>(
+pub fn check<D: Disk, H: Hasher>(
     alloc: Global,
     disk: &mut D,
     job: &Job,
     view: &LedgerView,
+    hasher: &H,
 ) -> Result<u32, CheckFault>
+    requires can_hash { H.can_hash }
     requires size { length view.now.gates ≡ frames_of job.now }
     ensures answer { D.tells ≡ true
         → HasChecked job.now view.now (view_of (D.history disk.old)) result }
@@ -56,17 +64,26 @@ pub fn check<D: Disk>(
     let Ok(mut piece) = vec![in alloc; 0u8; 65536] else {
         return Err(CheckFault::NoMemory);
     };
-    check_all(disk, job, view, &mut piece)
+    let mut rooms = rooms_of(
+        alloc,
+        hasher.rooms().min(view.acked() as usize),
+        frame_len(job) as usize,
+    );
+    check_all(disk, job, view, hasher, &mut rooms, &mut piece)
 }
 
 /// Checks all frames.
-fn check_all<D: Disk>(
+fn check_all<D: Disk, H: Hasher>(
     disk: &mut D,
     job: &Job,
     view: &LedgerView,
+    hasher: &H,
+    rooms: &mut [Room],
     piece: &mut [u8],
 ) -> Result<u32, CheckFault>
+    requires can_hash { H.can_hash }
     requires size { length view.now.gates ≡ frames_of job.now }
+    requires rooms { D.tells ≡ true → All (HasDigest job.now (view_of (D.history disk.old))) rooms.old }
     requires piece { length piece.old ≡ 65536 }
     ensures answer { D.tells ≡ true
         → HasChecked job.now view.now (view_of (D.history disk.old)) result }
@@ -76,7 +93,7 @@ fn check_all<D: Disk>(
 {
     let mut records = 0;
     for i in 0..job.count() {
-        match check_one(disk, job, view, i, piece) {
+        match check_one(disk, job, view, hasher, i, rooms, piece) {
             Ok(more) => records += more,
             Err(fault) => return Err(fault),
         }
@@ -85,27 +102,33 @@ fn check_all<D: Disk>(
 }
 
 /// Checks a frame: whether it has a record, 1 or 0.
-fn check_one<D: Disk>(
+fn check_one<D: Disk, H: Hasher>(
     disk: &mut D,
     job: &Job,
     view: &LedgerView,
+    hasher: &H,
     i: u32,
+    rooms: &mut [Room],
     piece: &mut [u8],
 ) -> Result<u32, CheckFault>
+    requires can_hash { H.can_hash }
     requires size { length view.now.gates ≡ frames_of job.now }
     requires within { i < frames_of job.now }
+    requires rooms { D.tells ≡ true → All (HasDigest job.now (view_of (D.history disk.old))) rooms.old }
     requires piece { length piece.old ≡ 65536 }
     ensures answer { D.tells ≡ true
         → HasCheckedOne job.now view.now (view_of (D.history disk.old)) i result }
     ensures still { D.tells ≡ true → IsStill (D.history disk.old) (D.history disk.new) }
     ensures known { IsCheckOneFor view.now i result }
+    ensures rooms { OnOk result (D.tells ≡ true
+        → All (HasDigest job.now (view_of (D.history disk.old))) rooms.new) }
     ensures piece { length piece.new ≡ 65536 }
     ensures disk { LeavesDisk D.faults D.loans (result ≡ Err CheckFault.DiskFault) disk.old disk.new }
 {
     let Some(kept) = view.hash_of(i) else {
         return Ok(0);
     };
-    let found = match digest_of_file(disk, job.file_of(i), piece) {
+    let found = match digest_of(disk, job, view, hasher, i, rooms, piece) {
         Ok(found) => found,
         Err(DiskFault) => return Err(CheckFault::DiskFault),
     };
@@ -117,5 +140,40 @@ fn check_one<D: Disk>(
             kept,
             found,
         })
+    }
+}
+
+/// The SHA-256 of the file of frame `i`. Where it wasn't read ahead, it is read now, and with it those behind it.
+fn digest_of<D: Disk, H: Hasher>(
+    disk: &mut D,
+    job: &Job,
+    view: &LedgerView,
+    hasher: &H,
+    i: u32,
+    rooms: &mut [Room],
+    piece: &mut [u8],
+) -> Result<[u8; 32], DiskFault>
+    requires can_hash { H.can_hash }
+    requires size { length view.now.gates ≡ frames_of job.now }
+    requires within { i < frames_of job.now }
+    requires rooms { D.tells ≡ true → All (HasDigest job.now (view_of (D.history disk.old))) rooms.old }
+    requires piece { length piece.old ≡ 65536 }
+    ensures digest { IfOk result (λ digest. D.tells ≡ true
+        → digest ≡ digest_of_file (view_of (D.history disk.old) (file_of job.now i))) }
+    ensures still { D.tells ≡ true → IsStill (D.history disk.old) (D.history disk.new) }
+    ensures rooms { OnOk result (D.tells ≡ true
+        → All (HasDigest job.now (view_of (D.history disk.old))) rooms.new) }
+    ensures piece { length piece.new ≡ 65536 }
+    ensures disk { LeavesDisk D.faults D.loans (IsErr result) disk.old disk.new }
+{
+    if let Some(digest) = digest_in(rooms, i) {
+        return Ok(digest);
+    }
+    if let Err(DiskFault) = fill_rooms(disk, job, view, hasher, i, rooms) {
+        return Err(DiskFault);
+    }
+    match digest_in(rooms, i) {
+        Some(digest) => Ok(digest),
+        None => digest_of_file(disk, job.file_of(i), piece),
     }
 }

@@ -38,6 +38,14 @@ impl<N: Work> Hashed<N> {
         Hashed { frame, hash }
     }
 
+    /// A rendered frame whose file's digest was made already.
+    pub fn with(frame: Rendered<N>, hash: [u8; 32]) -> Hashed<N>
+        requires hash { hash ≡ sha256 frame.bytes }
+        ensures { result ≡ frame }
+    {
+        Hashed { frame, hash }
+    }
+
     /// The frame.
     pub fn frame(&self) -> &Rendered<N>
         ensures { result.now ≡ self.now }

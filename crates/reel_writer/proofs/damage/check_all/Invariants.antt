@@ -1,8 +1,9 @@
 use Rattle.std.proofs.Common.{◌≡◌, ◌≤◌, length, map, true}
-use Rattle.std.specs.Prelude.{count_by, is_some}
+use Rattle.std.specs.Prelude.{All, count_by, is_some}
 use Rattle.std.specs.List.{range_with_len}
 use Rattle.reel_disk.specs.Disk.{view_of, IsStill}
 use Rattle.resume_ledger.specs.Look.{hash_at}
+use Rattle.reel_writer.specs.Ahead.{HasDigest}
 use Rattle.reel_writer.specs.Damage.{AreIntact}
 use Rattle.reel_writer.proofs.damage.check_all.Given as goal
 
@@ -13,6 +14,7 @@ invariant-loop-i g l = record {
   intact : g.D.Disk.tells ≡ true → AreIntact l.job l.view (view_of (g.D.Disk.history l.fn.disk)) l.i;
   counted : l.records ≡ count_by is_some (map (hash_at l.view) (range_with_len 0 l.i));
   few : l.records ≤ l.i;
+  rooms : g.D.Disk.tells ≡ true → All (HasDigest l.job (view_of (g.D.Disk.history l.fn.disk))) l.rooms;
   piece : length l.piece ≡ 65536;
   same : g.D.Disk.loans l.disk ≡ g.D.Disk.loans l.fn.disk;
   faults : g.D.Disk.faults l.disk ≡ g.D.Disk.faults l.fn.disk;

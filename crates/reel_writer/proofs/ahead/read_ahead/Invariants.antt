@@ -1,0 +1,17 @@
+use Rattle.std.proofs.Common.{◌≡◌, ◌<◌, ◌≤◌, ℕ, true, length, get_or}
+use Rattle.frame_hash.specs.declared.Room.{Room}
+use Rattle.reel_disk.specs.Disk.{view_of, IsStill}
+use Rattle.reel_writer.specs.Ahead.{HasFile}
+use Rattle.reel_writer.proofs.ahead.read_ahead.Given as goal
+
+-- the rooms so far have the folder's files
+abbrev pub invariant-loop-n : goal.invariant-loop-n
+invariant-loop-n g l = record {
+  still : g.D.Disk.tells ≡ true → IsStill (g.D.Disk.history l.fn.disk) (g.D.Disk.history l.disk);
+  files : g.D.Disk.tells ≡ true → (k : ℕ) (d : Room) → k < l.n → HasFile l.job (view_of (g.D.Disk.history l.fn.disk)) (get_or l.rooms k d);
+  count : length l.rooms ≡ length l.fn.rooms;
+  within : l.n ≤ length l.rooms;
+  ending : l.n-end ≡ length l.rooms;
+  same : g.D.Disk.loans l.disk ≡ g.D.Disk.loans l.fn.disk;
+  faults : g.D.Disk.faults l.disk ≡ g.D.Disk.faults l.fn.disk;
+}

@@ -1,0 +1,35 @@
+//! A file of the folder that is read whole.
+ghost use Rattle.std.specs.Prelude.{◌≡◌, ◌↔◌, true, length, IfOk, IsErr, Some};
+ghost use Rattle.reel_disk.specs.Disk.{view_of, IsStill};
+ghost use Rattle.resume_ledger.specs.Sound.{HasSize};
+ghost use Rattle.reel_writer.specs.Leaves.{LeavesDisk};
+
+use cf_base::FileId;
+use reel_disk::{Disk, DiskFault, Got, Length};
+
+/// Reads a file that has as many bytes as `into`: whether it has. The calls on the disk are its length and one read.
+///
+/// `DiskFault` comes only where the disk's count of faults rose. Takes no memory.
+pub fn read_whole<D: Disk>(disk: &mut D, id: FileId, into: &mut [u8]) -> Result<bool, DiskFault>
+    ensures whole { IfOk result (λ is. D.tells ≡ true
+        → (is ≡ true) ↔ HasSize (length into.old) (view_of (D.history disk.old) id)) }
+    ensures bytes { IfOk result (λ is. is ≡ true → D.tells ≡ true
+        → view_of (D.history disk.old) id ≡ Some into.new) }
+    ensures room { length into.new ≡ length into.old }
+    ensures still { D.tells ≡ true → IsStill (D.history disk.old) (D.history disk.new) }
+    ensures disk { LeavesDisk D.faults D.loans (IsErr result) disk.old disk.new }
+{
+    let len = match disk.length(id) {
+        Length::There(len) => len,
+        Length::Absent => return Ok(false),
+        Length::Failed => return Err(DiskFault),
+    };
+    if len != into.len() as u64 {
+        return Ok(false);
+    }
+    match disk.read(id, 0, into) {
+        Got::Bytes(n) => Ok(n == into.len()),
+        Got::Absent => Ok(false),
+        Got::Failed => Err(DiskFault),
+    }
+}
