@@ -1,5 +1,5 @@
 //! The file of a frame: its header, and then its picture.
-ghost use Rattle.std.specs.Prelude.{◌≡◌, ◌<◌, ◌≤◌, length, take, IfSome};
+ghost use Rattle.std.specs.Prelude.{◌≡◌, ◌<◌, ◌≤◌, drop, length, take, IfSome};
 ghost use Rattle.std.specs.Option.{option_copied};
 ghost use Rattle.cf_base.specs.Timing.{frames_in_day};
 ghost use Rattle.dpx_header.specs.Writing.{IsOutHead, header_of};
@@ -141,6 +141,8 @@ pub(crate) fn put_header(job: &Job, i: u32, out: &mut [u8])
     requires index { i < frame_count job.now.parts.timeline.events }
     requires room { 2048 ≤ length out.old }
     ensures header { take 2048 out.new ≡ header_of (out_head job.now i) }
+    ensures behind { drop 2048 out.new ≡ drop 2048 out.old }
+    ensures size { length out.new ≡ length out.old }
     ensures planned { ArePlanned job.now.parts }
 {
     let mut header = [0; 2048];

@@ -1,5 +1,6 @@
 mod Answering
 mod Donating
+mod Dressing
 mod Going
 pub mod Painting
 mod PlanOrder

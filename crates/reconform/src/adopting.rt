@@ -12,6 +12,7 @@ ghost use Rattle.reconform.specs.Parts.{IsPart, IsSafeAdoption, WasLookedAt};
 
 use crate::frames::adopt_alike;
 use conform_job::{Job, Work};
+use frame_hash::Hasher;
 use reel_disk::Disk;
 use reel_writer::Reel;
 use resume_ledger::{Ledger, LedgerView, OpenFault, Version};
@@ -52,13 +53,15 @@ pub enum AdoptFault {
 /// `OldOtherJob` and `OldBadLedger` come exactly where 20.1 and 20.2 hold of `old`, and the new folder isn't touched then;
 /// after them `OtherJob` and `BadLedger` exactly where they hold of `disk`, and nothing is written there then. `DiskFault` comes
 /// only where the count of faults of one of the two disks rose, and `NoMemory` for want of memory alone.
-pub fn adopt<N: Work, O: Work, D: Disk>(
+pub fn adopt<N: Work, O: Work, D: Disk, H: Hasher>(
     alloc: Global,
     new_job: &Job,
     old_job: &Job,
     old: &mut D,
     disk: &mut D,
+    hasher: &H,
 ) -> Result<Adopted, AdoptFault>
+    requires can_hash { H.can_hash }
     requires new_job { new_job.now ≡ N.job }
     requires old_job { old_job.now ≡ O.job }
     requires one_world { O.files ≡ N.files }
@@ -91,18 +94,20 @@ pub fn adopt<N: Work, O: Work, D: Disk>(
     // Both disks are lent as they were. The count of one of them rose where a disk failed, and else both stay.
     ensures disks { LeavesDisks D.faults D.loans (IsErrOf result AdoptFault.DiskFault) old.old old.new disk.old disk.new }
 {
-    let (result, _) = adopt_into::<N, O, D, _>(alloc, new_job, old_job, old, &mut *disk);
+    let (result, _) = adopt_into::<N, O, D, _, H>(alloc, new_job, old_job, old, &mut *disk, hasher);
     result
 }
 
 /// An adoption that hands the new disk back.
-fn adopt_into<N: Work, O: Work, D: Disk, E: Disk>(
+fn adopt_into<N: Work, O: Work, D: Disk, E: Disk, H: Hasher>(
     alloc: Global,
     new_job: &Job,
     old_job: &Job,
     old: &mut D,
     disk: E,
+    hasher: &H,
 ) -> (Result<Adopted, AdoptFault>, E)
+    requires can_hash { H.can_hash }
     requires new_job { new_job.now ≡ N.job }
     requires old_job { old_job.now ≡ O.job }
     requires can_serve { IfSome N.files (λ world. CanServe N.job O.job world D.tells (view_of (D.history old.old))) }
@@ -117,20 +122,22 @@ fn adopt_into<N: Work, O: Work, D: Disk, E: Disk>(
 {
     new_job.recall();
     match Ledger::look(alloc, old, old_job.digest(), old_job.timeline().count()) {
-        Ok(view) => adopt_owned::<N, O, D, E>(alloc, new_job, old_job, old, &view, disk),
+        Ok(view) => adopt_owned::<N, O, D, E, H>(alloc, new_job, old_job, old, &view, disk, hasher),
         Err(fault) => (Err(of_old(fault)), disk),
     }
 }
 
 /// An adoption that hands the new disk back; the old folder was looked at.
-fn adopt_owned<N: Work, O: Work, D: Disk, E: Disk>(
+fn adopt_owned<N: Work, O: Work, D: Disk, E: Disk, H: Hasher>(
     alloc: Global,
     new_job: &Job,
     old_job: &Job,
     old: &mut D,
     view: &LedgerView,
     disk: E,
+    hasher: &H,
 ) -> (Result<Adopted, AdoptFault>, E)
+    requires can_hash { H.can_hash }
     requires new_job { new_job.now ≡ N.job }
     requires old_job { old_job.now ≡ O.job }
     requires tells { D.tells ≡ E.tells }
@@ -144,7 +151,7 @@ fn adopt_owned<N: Work, O: Work, D: Disk, E: Disk>(
     ensures disks { LeavesBoth D.faults D.loans E.faults E.loans (IsErrOf result.0 AdoptFault.DiskFault) old.old old.new disk result.1 }
 {
     match Reel::<E, N>::begin(alloc, disk, new_job) {
-        Ok(reel) => adopt_opened::<N, O, D, E>(alloc, new_job, old_job, old, view, reel),
+        Ok(reel) => adopt_opened::<N, O, D, E, H>(alloc, new_job, old_job, old, view, reel, hasher),
         Err((fault, disk)) => (Err(of_new(fault)), disk),
     }
 }
@@ -174,14 +181,16 @@ fn of_new(fault: OpenFault) -> AdoptFault
 }
 
 /// An adoption into a folder that was opened; it hands the disk back.
-fn adopt_opened<N: Work, O: Work, D: Disk, E: Disk>(
+fn adopt_opened<N: Work, O: Work, D: Disk, E: Disk, H: Hasher>(
     alloc: Global,
     new_job: &Job,
     old_job: &Job,
     old: &mut D,
     view: &LedgerView,
     reel: Reel<E, N>,
+    hasher: &H,
 ) -> (Result<Adopted, AdoptFault>, E)
+    requires can_hash { H.can_hash }
     requires new_job { new_job.now ≡ N.job }
     requires old_job { old_job.now ≡ O.job }
     requires looked { WasLookedAt N.job O.job N.files D.tells (view_of (D.history old.old)) view.now }
@@ -195,7 +204,7 @@ fn adopt_opened<N: Work, O: Work, D: Disk, E: Disk>(
         old.old old.new reel.disk result.1 }
 {
     let mut reel = reel;
-    match adopt_alike::<N, O, D, E>(alloc, new_job, old_job, old, view, &mut reel) {
+    match adopt_alike::<N, O, D, E, H>(alloc, new_job, old_job, old, view, &mut reel, hasher) {
         Ok(()) => {
             let kept = reel.kept();
             let adopted = reel.acks().len() as u32;

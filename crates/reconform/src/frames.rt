@@ -1,24 +1,32 @@
 //! The frames of an adoption, in order.
-ghost use Rattle.std.specs.Prelude.{◌≡◌, ◌+◌, ◌*◌, ◌<◌, ◌≤◌, ◌↔◌, true, false, drop, length, set, slice_index_or, IfOk, IfSome, OnOk, IsErr, IsErrOf};
+ghost use Rattle.std.specs.Prelude.{◌≡◌, ◌<◌, ◌↔◌, true, false, drop, length, set, slice_index_or, All, IfOk, IfSome, OnOk, IsErr, IsErrOf};
+ghost use Rattle.sha2.specs.Sha256.{sha256};
+ghost use Rattle.frame_hash.specs.Rooms.{IsFree};
 ghost use Rattle.cf_base.specs.Count.{HasCause};
-ghost use Rattle.frame_render.specs.Frame.{frame_file, frame_size, pixel_count};
+ghost use Rattle.frame_render.specs.Frame.{IsFileOf, frame_file, frame_size};
 ghost use Rattle.scan_source.specs.World.{file_at};
 ghost use Rattle.reel_disk.specs.Disk.{view_of, IsStill};
+ghost use Rattle.reel_writer.specs.Leaves.{LeavesDisk};
 ghost use Rattle.reel_writer.specs.Reel.{frames_of};
 ghost use Rattle.reconform.specs.Adopt.{IsSameReel, IsServed, LeavesBoth};
+ghost use Rattle.reconform.specs.Ahead.{CanFinish};
 ghost use Rattle.reconform.specs.Donor.{HasIntactDonor};
 ghost use Rattle.reconform.specs.Parts.{HasAdopted, HasDonors, IsPart, WasLookedAt};
 
 use crate::adopting::AdoptFault;
+use crate::ahead::{are_free, fill_rooms, free_place, place_of};
 use crate::donors::Donors;
 use crate::intact::read_intact;
 use crate::plan::{are_alike, plan_at};
 use conform_job::{Job, Work};
-use frame_render::{FrameBuf, rehead};
+use frame_hash::{Hasher, Room, rooms_of};
+use frame_render::{Rendered, rehead};
 use reel_disk::{Disk, DiskFault};
 use reel_writer::{Hashed, Reel};
 use resume_ledger::LedgerView;
-use std::alloc::{AllocError, Global};
+use sha2::{Digest, Sha256};
+use std::alloc::Global;
+use std::mem::replace;
 
 /// Reads the file of the donor of frame `i`, where it has one that is intact: whether it has. The donor's bytes are in `file`
 /// then.
@@ -53,31 +61,22 @@ fn read_donor<N: Work, O: Work, D: Disk>(
     }
 }
 
-/// The pixels of a file: its bytes from 2048 on.
-fn pixels_of(file: &[u8]) -> &[u8]
-    requires { 2048 ≤ length file.now }
-    ensures pixels { result.now ≡ drop 2048 file.now }
-    ensures count { length result.now + 2048 ≡ length file.now }
-{
-    &file[2048..]
-}
-
-/// Finishes frame `i` with these pixels. The room is handed back for another frame.
+/// Finishes frame `i`, whose file lies in a room with its digest. The room is free then.
 fn finish_frame<N: Work, E: Disk>(
+    alloc: Global,
     job: &Job,
     reel: &mut Reel<E, N>,
     i: u32,
-    pixels: &[u8],
-    room: FrameBuf,
-) -> Result<FrameBuf, DiskFault>
+    room: &mut Room,
+) -> Result<(), DiskFault>
     requires job { job.now ≡ N.job }
     requires index { i < frames_of N.job }
-    requires count { length pixels.now ≡ 4 * pixel_count N.job }
-    requires pixels { IfSome N.files (λ world. pixels.now ≡ drop 2048 (frame_file N.job (file_at world) i)) }
-    requires room { length room ≡ frame_size N.job }
+    requires size { length room.old.bytes.items ≡ frame_size N.job }
+    requires file { IsFileOf N.job N.files i room.old.bytes.items }
+    requires digest { room.old.digest ≡ sha256 room.old.bytes.items }
     requires is_open { reel.old.ledger.closed ≡ false }
     requires fresh { slice_index_or reel.old.ledger.gates i false ≡ false }
-    ensures room { IfOk result (λ room. length room ≡ frame_size N.job) }
+    ensures free { OnOk result (IsFree (frame_size N.job) room.new) }
     ensures finished { OnOk result (reel.new.ledger.gates ≡ set reel.old.ledger.gates i true) }
     ensures stays { IsSameReel reel.old reel.new }
     ensures stays_open { OnOk result (reel.new.ledger.closed ≡ false) }
@@ -86,15 +85,21 @@ fn finish_frame<N: Work, E: Disk>(
     ensures cause { HasCause (E.faults reel.old.disk) (E.faults reel.new.disk) (IsErr result) }
     ensures steady { OnOk result (E.faults reel.new.disk ≡ E.faults reel.old.disk) }
 {
-    let hashed = Hashed::of(rehead::<N>(job, i, pixels, room));
+    let bytes = replace(&mut room.bytes, Vec::new(alloc));
+    let hashed = Hashed::with(Rendered::<N>::of_file(job, i, bytes), room.digest);
     match reel.finish(&hashed) {
-        Ok(()) => Ok(hashed.into_frame().into_buf()),
+        Ok(()) => {
+            room.bytes = hashed.into_frame().into_bytes();
+            room.frame = None;
+            Ok(())
+        }
         Err(DiskFault) => Err(DiskFault),
     }
 }
 
-/// Adopts frame `i`, unless it is acknowledged or has no intact donor. The room is handed back for another frame.
-fn adopt_frame<N: Work, O: Work, D: Disk, E: Disk>(
+/// Adopts frame `i`, whose file wasn't read ahead, unless it has no intact donor. The room is free then.
+fn adopt_alone<N: Work, O: Work, D: Disk, E: Disk>(
+    alloc: Global,
     new_job: &Job,
     old_job: &Job,
     old: &mut D,
@@ -102,21 +107,72 @@ fn adopt_frame<N: Work, O: Work, D: Disk, E: Disk>(
     donors: &Donors,
     reel: &mut Reel<E, N>,
     i: u32,
-    file: &mut [u8],
-    room: FrameBuf,
-) -> Result<FrameBuf, DiskFault>
+    room: &mut Room,
+) -> Result<(), DiskFault>
     requires new_job { new_job.now ≡ N.job }
     requires old_job { old_job.now ≡ O.job }
     requires looked { WasLookedAt N.job O.job N.files D.tells (view_of (D.history old.old)) view.now }
     requires donors { HasDonors N.job O.job view.now.gates donors.now.by_plan }
     requires index { i < frames_of N.job }
-    requires file { length file.old ≡ frame_size O.job }
-    requires room { length room ≡ frame_size N.job }
+    requires size { length room.old.bytes.items ≡ frame_size N.job }
+    requires is_open { reel.old.ledger.closed ≡ false }
+    requires flags { length reel.old.ledger.gates ≡ frames_of N.job }
+    requires fresh { slice_index_or reel.old.ledger.gates i false ≡ false }
+    ensures free { OnOk result (IsFree (frame_size N.job) room.new) }
+    ensures served { OnOk result (D.tells ≡ true
+        → IsServed N.job O.job view.now (view_of (D.history old.old)) i reel.old.ledger.gates reel.new.ledger.gates) }
+    ensures stays { IsSameReel reel.old reel.new }
+    ensures stays_open { OnOk result (reel.new.ledger.closed ≡ false) }
+    ensures part { IsPart N.job N.files E.tells E.history reel.old.ledger.gates reel.old.disk reel.new.disk }
+    ensures still { D.tells ≡ true → IsStill (D.history old.old) (D.history old.new) }
+    ensures disks { LeavesBoth D.faults D.loans E.faults E.loans (IsErr result) old.old old.new reel.old.disk reel.new.disk }
+{
+    room.frame = None;
+    let served = match read_donor::<N, O, D>(
+        new_job,
+        old_job,
+        old,
+        view,
+        donors,
+        i,
+        &mut room.bytes,
+    ) {
+        Ok(served) => served,
+        Err(DiskFault) => return Err(DiskFault),
+    };
+    if served {
+        rehead::<N>(new_job, i, &mut room.bytes);
+        room.digest = Sha256::digest(&room.bytes);
+        return finish_frame(alloc, new_job, reel, i, room);
+    }
+    Ok(())
+}
+
+/// Adopts frame `i`, unless it is acknowledged or has no intact donor.
+fn adopt_frame<N: Work, O: Work, D: Disk, E: Disk, H: Hasher>(
+    alloc: Global,
+    new_job: &Job,
+    old_job: &Job,
+    old: &mut D,
+    view: &LedgerView,
+    donors: &Donors,
+    reel: &mut Reel<E, N>,
+    hasher: &H,
+    i: u32,
+    rooms: &mut [Room],
+) -> Result<(), DiskFault>
+    requires can_hash { H.can_hash }
+    requires new_job { new_job.now ≡ N.job }
+    requires old_job { old_job.now ≡ O.job }
+    requires looked { WasLookedAt N.job O.job N.files D.tells (view_of (D.history old.old)) view.now }
+    requires donors { HasDonors N.job O.job view.now.gates donors.now.by_plan }
+    requires index { i < frames_of N.job }
+    requires rooms { All (CanFinish N.job O.job N.files D.tells view.now (view_of (D.history old.old))) rooms.old }
+    requires some { 0 < length rooms.old }
     requires is_open { reel.old.ledger.closed ≡ false }
     requires size { length reel.old.ledger.gates ≡ frames_of N.job }
 
-    ensures room { IfOk result (λ room. length room ≡ frame_size N.job) }
-    ensures file { length file.new ≡ frame_size O.job }
+    ensures rooms { OnOk result (All (CanFinish N.job O.job N.files D.tells view.now (view_of (D.history old.old))) rooms.new) }
     ensures served { OnOk result (D.tells ≡ true
         → IsServed N.job O.job view.now (view_of (D.history old.old)) i reel.old.ledger.gates reel.new.ledger.gates) }
     ensures stays { IsSameReel reel.old reel.new }
@@ -126,20 +182,18 @@ fn adopt_frame<N: Work, O: Work, D: Disk, E: Disk>(
     ensures disks { LeavesBoth D.faults D.loans E.faults E.loans (IsErr result) old.old old.new reel.old.disk reel.new.disk }
 {
     if reel.is_acked(i) {
-        return Ok(room);
+        return Ok(());
     }
-    let served = match read_donor::<N, O, D>(new_job, old_job, old, view, donors, i, file) {
-        Ok(served) => served,
-        Err(DiskFault) => return Err(DiskFault),
-    };
-    if served {
-        return finish_frame(new_job, reel, i, pixels_of(file), room);
+    match donors.get(plan_at(new_job, i)) {
+        Some(_) => adopt_wanted::<N, O, D, E, H>(
+            alloc, new_job, old_job, old, view, donors, reel, hasher, i, rooms,
+        ),
+        None => Ok(()),
     }
-    Ok(room)
 }
 
-/// Adopts each frame of the new job that isn't acknowledged and has an intact donor, in order.
-fn adopt_frames<N: Work, O: Work, D: Disk, E: Disk>(
+/// Adopts frame `i`, which isn't acknowledged, unless its donor isn't intact.
+fn adopt_wanted<N: Work, O: Work, D: Disk, E: Disk, H: Hasher>(
     alloc: Global,
     new_job: &Job,
     old_job: &Job,
@@ -147,7 +201,130 @@ fn adopt_frames<N: Work, O: Work, D: Disk, E: Disk>(
     view: &LedgerView,
     donors: &Donors,
     reel: &mut Reel<E, N>,
+    hasher: &H,
+    i: u32,
+    rooms: &mut [Room],
+) -> Result<(), DiskFault>
+    requires can_hash { H.can_hash }
+    requires new_job { new_job.now ≡ N.job }
+    requires old_job { old_job.now ≡ O.job }
+    requires looked { WasLookedAt N.job O.job N.files D.tells (view_of (D.history old.old)) view.now }
+    requires donors { HasDonors N.job O.job view.now.gates donors.now.by_plan }
+    requires index { i < frames_of N.job }
+    requires rooms { All (CanFinish N.job O.job N.files D.tells view.now (view_of (D.history old.old))) rooms.old }
+    requires some { 0 < length rooms.old }
+    requires is_open { reel.old.ledger.closed ≡ false }
+    requires flags { length reel.old.ledger.gates ≡ frames_of N.job }
+    requires fresh { slice_index_or reel.old.ledger.gates i false ≡ false }
+    ensures rooms { OnOk result (All (CanFinish N.job O.job N.files D.tells view.now (view_of (D.history old.old))) rooms.new) }
+    ensures served { OnOk result (D.tells ≡ true
+        → IsServed N.job O.job view.now (view_of (D.history old.old)) i reel.old.ledger.gates reel.new.ledger.gates) }
+    ensures stays { IsSameReel reel.old reel.new }
+    ensures stays_open { OnOk result (reel.new.ledger.closed ≡ false) }
+    ensures part { IsPart N.job N.files E.tells E.history reel.old.ledger.gates reel.old.disk reel.new.disk }
+    ensures still { D.tells ≡ true → IsStill (D.history old.old) (D.history old.new) }
+    ensures disks { LeavesBoth D.faults D.loans E.faults E.loans (IsErr result) old.old old.new reel.old.disk reel.new.disk }
+{
+    if let Err(DiskFault) = make_ready::<N, O, D, E, H>(
+        new_job, old_job, old, view, donors, reel, hasher, i, rooms,
+    ) {
+        return Err(DiskFault);
+    }
+    serve::<N, O, D, E>(alloc, new_job, old_job, old, view, donors, reel, i, rooms)
+}
+
+/// Fills the rooms from frame `i` on, once all are free.
+fn make_ready<N: Work, O: Work, D: Disk, E: Disk, H: Hasher>(
+    new_job: &Job,
+    old_job: &Job,
+    old: &mut D,
+    view: &LedgerView,
+    donors: &Donors,
+    reel: &Reel<E, N>,
+    hasher: &H,
+    i: u32,
+    rooms: &mut [Room],
+) -> Result<(), DiskFault>
+    requires can_hash { H.can_hash }
+    requires new_job { new_job.now ≡ N.job }
+    requires old_job { old_job.now ≡ O.job }
+    requires looked { WasLookedAt N.job O.job N.files D.tells (view_of (D.history old.old)) view.now }
+    requires donors { HasDonors N.job O.job view.now.gates donors.now.by_plan }
+    requires rooms { All (CanFinish N.job O.job N.files D.tells view.now (view_of (D.history old.old))) rooms.old }
+    ensures rooms { OnOk result (All (CanFinish N.job O.job N.files D.tells view.now (view_of (D.history old.old))) rooms.new) }
+    ensures still { D.tells ≡ true → IsStill (D.history old.old) (D.history old.new) }
+    ensures disk { LeavesDisk D.faults D.loans (IsErr result) old.old old.new }
+{
+    if are_free(rooms) {
+        return fill_rooms::<N, O, D, E, H>(
+            new_job, old_job, old, view, donors, reel, hasher, i, rooms,
+        );
+    }
+    Ok(())
+}
+
+/// Adopts frame `i`, which isn't acknowledged: from its room, or where it has none, alone.
+fn serve<N: Work, O: Work, D: Disk, E: Disk>(
+    alloc: Global,
+    new_job: &Job,
+    old_job: &Job,
+    old: &mut D,
+    view: &LedgerView,
+    donors: &Donors,
+    reel: &mut Reel<E, N>,
+    i: u32,
+    rooms: &mut [Room],
+) -> Result<(), DiskFault>
+    requires new_job { new_job.now ≡ N.job }
+    requires old_job { old_job.now ≡ O.job }
+    requires looked { WasLookedAt N.job O.job N.files D.tells (view_of (D.history old.old)) view.now }
+    requires donors { HasDonors N.job O.job view.now.gates donors.now.by_plan }
+    requires index { i < frames_of N.job }
+    requires rooms { All (CanFinish N.job O.job N.files D.tells view.now (view_of (D.history old.old))) rooms.old }
+    requires some { 0 < length rooms.old }
+    requires is_open { reel.old.ledger.closed ≡ false }
+    requires flags { length reel.old.ledger.gates ≡ frames_of N.job }
+    requires fresh { slice_index_or reel.old.ledger.gates i false ≡ false }
+    ensures rooms { OnOk result (All (CanFinish N.job O.job N.files D.tells view.now (view_of (D.history old.old))) rooms.new) }
+    ensures served { OnOk result (D.tells ≡ true
+        → IsServed N.job O.job view.now (view_of (D.history old.old)) i reel.old.ledger.gates reel.new.ledger.gates) }
+    ensures stays { IsSameReel reel.old reel.new }
+    ensures stays_open { OnOk result (reel.new.ledger.closed ≡ false) }
+    ensures part { IsPart N.job N.files E.tells E.history reel.old.ledger.gates reel.old.disk reel.new.disk }
+    ensures still { D.tells ≡ true → IsStill (D.history old.old) (D.history old.new) }
+    ensures disks { LeavesBoth D.faults D.loans E.faults E.loans (IsErr result) old.old old.new reel.old.disk reel.new.disk }
+{
+    match place_of(rooms, i) {
+        Some(n) => finish_frame(alloc, new_job, reel, i, &mut rooms[n]),
+        None => {
+            let n = free_place(rooms);
+            adopt_alone::<N, O, D, E>(
+                alloc,
+                new_job,
+                old_job,
+                old,
+                view,
+                donors,
+                reel,
+                i,
+                &mut rooms[n],
+            )
+        }
+    }
+}
+
+/// Adopts each frame of the new job that isn't acknowledged and has an intact donor, in order.
+fn adopt_frames<N: Work, O: Work, D: Disk, E: Disk, H: Hasher>(
+    alloc: Global,
+    new_job: &Job,
+    old_job: &Job,
+    old: &mut D,
+    view: &LedgerView,
+    donors: &Donors,
+    reel: &mut Reel<E, N>,
+    hasher: &H,
 ) -> Result<(), AdoptFault>
+    requires can_hash { H.can_hash }
     requires new_job { new_job.now ≡ N.job }
     requires old_job { old_job.now ≡ O.job }
     requires looked { WasLookedAt N.job O.job N.files D.tells (view_of (D.history old.old)) view.now }
@@ -159,32 +336,50 @@ fn adopt_frames<N: Work, O: Work, D: Disk, E: Disk>(
     ensures disks { LeavesBoth D.faults D.loans E.faults E.loans (IsErrOf result AdoptFault.DiskFault)
         old.old old.new reel.old.disk reel.new.disk }
 {
-    let (mut room, mut file) = match room_for(alloc, new_job, old_job) {
-        Ok(made) => made,
-        Err(_) => return Err(AdoptFault::NoMemory),
-    };
+    let mut rooms = rooms_of(alloc, hasher.rooms().max(1), frame_len(new_job));
+    if rooms.is_empty() {
+        return Err(AdoptFault::NoMemory);
+    }
+    adopt_each::<N, O, D, E, H>(
+        alloc, new_job, old_job, old, view, donors, reel, hasher, &mut rooms,
+    )
+}
+
+/// The same, in rooms that are there.
+fn adopt_each<N: Work, O: Work, D: Disk, E: Disk, H: Hasher>(
+    alloc: Global,
+    new_job: &Job,
+    old_job: &Job,
+    old: &mut D,
+    view: &LedgerView,
+    donors: &Donors,
+    reel: &mut Reel<E, N>,
+    hasher: &H,
+    rooms: &mut [Room],
+) -> Result<(), AdoptFault>
+    requires can_hash { H.can_hash }
+    requires new_job { new_job.now ≡ N.job }
+    requires old_job { old_job.now ≡ O.job }
+    requires looked { WasLookedAt N.job O.job N.files D.tells (view_of (D.history old.old)) view.now }
+    requires donors { HasDonors N.job O.job view.now.gates donors.now.by_plan }
+    requires rooms { All (CanFinish N.job O.job N.files D.tells view.now (view_of (D.history old.old))) rooms.old }
+    requires some { 0 < length rooms.old }
+    requires is_open { reel.old.ledger.closed ≡ false }
+    requires size { length reel.old.ledger.gates ≡ frames_of N.job }
+
+    ensures adopted { HasAdopted N.job O.job N.files D.tells D.history E.tells E.history view.now result old.old old.new reel.old reel.new }
+    ensures disks { LeavesBoth D.faults D.loans E.faults E.loans (IsErrOf result AdoptFault.DiskFault)
+        old.old old.new reel.old.disk reel.new.disk }
+{
     for i in 0..new_job.count() {
-        match adopt_frame::<N, O, D, E>(
-            new_job, old_job, old, view, donors, reel, i, &mut file, room,
+        match adopt_frame::<N, O, D, E, H>(
+            alloc, new_job, old_job, old, view, donors, reel, hasher, i, rooms,
         ) {
-            Ok(back) => room = back,
+            Ok(()) => {}
             Err(DiskFault) => return Err(AdoptFault::DiskFault),
         }
     }
     Ok(())
-}
-
-/// Room for a frame of the new job, and for the file of one of the old job.
-fn room_for(alloc: Global, new_job: &Job, old_job: &Job) -> Result<(FrameBuf, Vec<u8>), AllocError>
-    ensures room { IfOk result (λ made. length made.0 ≡ frame_size new_job.now) }
-    ensures file { IfOk result (λ made. length made.1.items ≡ frame_size old_job.now) }
-{
-    let room = match FrameBuf::new(alloc, new_job) {
-        Ok(room) => room,
-        Err(_) => return Err(AllocError),
-    };
-    let file = vec![in alloc; 0u8; frame_len(old_job)]?;
-    Ok((room, file))
 }
 
 /// How many bytes the file of a frame has: 2048 of header and four for each pixel.
@@ -196,14 +391,16 @@ fn frame_len(job: &Job) -> usize
 }
 
 /// Adopts what can be, where the two jobs are alike.
-pub(crate) fn adopt_alike<N: Work, O: Work, D: Disk, E: Disk>(
+pub(crate) fn adopt_alike<N: Work, O: Work, D: Disk, E: Disk, H: Hasher>(
     alloc: Global,
     new_job: &Job,
     old_job: &Job,
     old: &mut D,
     view: &LedgerView,
     reel: &mut Reel<E, N>,
+    hasher: &H,
 ) -> Result<(), AdoptFault>
+    requires can_hash { H.can_hash }
     requires new_job { new_job.now ≡ N.job }
     requires old_job { old_job.now ≡ O.job }
     requires looked { WasLookedAt N.job O.job N.files D.tells (view_of (D.history old.old)) view.now }
@@ -216,8 +413,8 @@ pub(crate) fn adopt_alike<N: Work, O: Work, D: Disk, E: Disk>(
 {
     if are_alike(new_job, old_job) {
         return match Donors::of(alloc, old_job, view) {
-            Ok(donors) => adopt_frames::<N, O, D, E>(
-                alloc, new_job, old_job, old, view, &donors, reel,
+            Ok(donors) => adopt_frames::<N, O, D, E, H>(
+                alloc, new_job, old_job, old, view, &donors, reel, hasher,
             ),
             Err(_) => Err(AdoptFault::NoMemory),
         };

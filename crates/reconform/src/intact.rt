@@ -4,13 +4,12 @@ ghost use Rattle.cf_base.specs.Count.{HasCause};
 ghost use Rattle.conform_job.specs.Job.{file_of};
 ghost use Rattle.frame_render.specs.Frame.{frame_size};
 ghost use Rattle.reel_disk.specs.Disk.{view_of, IsStill};
-ghost use Rattle.resume_ledger.specs.Sound.{HasSize};
 ghost use Rattle.reel_writer.specs.Reel.{frames_of};
 ghost use Rattle.reconform.specs.Donor.{IsIntact, IsOfHash};
 
-use cf_base::FileId;
 use conform_job::Job;
-use reel_disk::{Disk, DiskFault, Got, Length};
+use reel_disk::{Disk, DiskFault};
+use reel_writer::read_whole;
 use resume_ledger::LedgerView;
 use sha2::{Digest, Sha256};
 
@@ -40,33 +39,6 @@ pub(crate) fn read_intact<D: Disk>(
         Ok(true) => Ok(is_of_hash(view.hash_of(j), into)),
         Ok(false) => Ok(false),
         Err(DiskFault) => Err(DiskFault),
-    }
-}
-
-/// Reads a file that has as many bytes as `into`: whether it has. The calls on the disk are its length and one read.
-fn read_whole<D: Disk>(disk: &mut D, id: FileId, into: &mut [u8]) -> Result<bool, DiskFault>
-    ensures whole { IfOk result (λ is. D.tells ≡ true
-        → (is ≡ true) ↔ HasSize (length into.old) (view_of (D.history disk.old) id)) }
-    ensures bytes { IfOk result (λ is. is ≡ true → D.tells ≡ true
-        → view_of (D.history disk.old) id ≡ Some into.new) }
-    ensures room { length into.new ≡ length into.old }
-    ensures still { D.tells ≡ true → IsStill (D.history disk.old) (D.history disk.new) }
-    ensures same { D.loans disk.new ≡ D.loans disk.old }
-    ensures cause { HasCause (D.faults disk.old) (D.faults disk.new) (IsErr result) }
-    ensures steady { OnOk result (D.faults disk.new ≡ D.faults disk.old) }
-{
-    let len = match disk.length(id) {
-        Length::There(len) => len,
-        Length::Absent => return Ok(false),
-        Length::Failed => return Err(DiskFault),
-    };
-    if len != into.len() as u64 {
-        return Ok(false);
-    }
-    match disk.read(id, 0, into) {
-        Got::Bytes(n) => Ok(n == into.len()),
-        Got::Absent => Ok(false),
-        Got::Failed => Err(DiskFault),
     }
 }
 

@@ -3,6 +3,7 @@
 #![tactic(auto)]
 
 mod adopting;
+mod ahead;
 mod donors;
 mod frames;
 mod intact;

@@ -1,6 +1,6 @@
--- The first bytes are the header's.
-use Rattle.std.proofs.Common.{◌≡◌, length, drop, sym, ap, ◌∙◌, arith}
-use Rattle.std.proofs.lemmas.List.{length-take-le, take-append-le, take_all}
+-- The first bytes are the header's, and the others stay.
+use Rattle.std.proofs.Common.{◌≡◌, length, length-append, length-drop, drop, sym, ap, ◌∙◌, arith}
+use Rattle.std.proofs.lemmas.List.{drop_at, length-take-le, take-append-le, take_all}
 use Rattle.dpx_header.specs.Writing.{header_of}
 use Rattle.frame_render.proofs.file.put_header.Goals as goal
 
@@ -16,3 +16,13 @@ returns-clause-header c =
     ∙ is
     ∙ c.write_header.ensures.header
     ∙ ap header_of c.out_head.ensures.head
+
+pub returns-clause-behind : goal.returns-clause-behind
+returns-clause-behind c =
+    drop_at c.copy_from_slice.new.self (drop 2048 c.args.out.now) 2048 (ap length c.copy_from_slice.ensures.after ∙ c.write_header.array_long)
+
+pub returns-clause-size : goal.returns-clause-size
+returns-clause-size c =
+    let long : length c.copy_from_slice.new.self ≡ 2048 = ap length c.copy_from_slice.ensures.after ∙ c.write_header.array_long in
+    let room = c.requires.room in
+    omega (arith, long, room, length-append c.copy_from_slice.new.self (drop 2048 c.args.out.now), length-drop 2048 c.args.out.now)

@@ -1,19 +1,20 @@
-use Rattle.std.proofs.Common.{◌≡◌, List, ℕ, length, ap, ◌∙◌, sym, subst, rules}
-use Rattle.conform_job.specs.Job.{JobData, file_of}
-use Rattle.frame_render.specs.Frame.{IsFileOf, frame_size}
-use Rattle.frame_render.proofs.Filled.{refilled, reheaded}
+-- The header is the frame's own, and the pixels are those that were there.
+use Rattle.std.proofs.Common.{◌≡◌, ◌*◌, ◌++◌, length, length-drop, take, drop, refl, sym, ap, ◌∙◌, subst, arith}
+use Rattle.std.proofs.lemmas.List.{take-append-drop}
+use Rattle.dpx_header.specs.Writing.{header_of}
+use Rattle.conform_job.specs.Job.{JobData}
+use Rattle.frame_render.specs.Frame.{out_head, pixel_count}
+use Rattle.frame_render.proofs.Filled.{reheaded}
 use Rattle.frame_render.proofs.reheaded.rehead.Goals as goal
 
-pub invariant_of-result : goal.invariant_of-result
-invariant_of-result g c =
-    let room : length c.buf.inside.bytes.items ≡ c.buf.inside.bytes.len = search rules in
-    let kept : length c.put_file.new.out ≡ c.buf.inside.bytes.len = search rules in
-    let same = refilled c.buf.inside.bytes.len c.put_file.new.out c.buf.inside.bytes.items room kept in
-    let bytes = rw c.requires.job at c.put_file.ensures in
-    let size : length c.put_file.new.out ≡ frame_size g.N.Work.job = search rules in (
-      c.requires.index,
-      c.file_of.ensures ∙ ap (λ (job : JobData). file_of job c.args.i) c.requires.job,
-      ap length same ∙ size,
-      subst (λ (bs : List ℕ). IsFileOf g.N.Work.job g.N.Work.files c.args.i bs) (sym same)
-          (reheaded g.N.Work.job g.N.Work.files c.args.i c.args.pixels.now c.put_file.new.out size c.requires.size bytes c.requires.pixels),
-    )
+pub returns-clause-file : goal.returns-clause-file
+returns-clause-file g c =
+    let new = c.put_header.new.out in
+    let pixels = drop 2048 c.args.file.now in
+    let size = c.requires.size in
+    let count : length pixels ≡ 4 * pixel_count g.N.Work.job = omega (arith, size, length-drop 2048 c.args.file.now) in
+    let head : take 2048 new ≡ header_of (out_head g.N.Work.job c.args.i) =
+        c.put_header.ensures.header ∙ ap (λ (job : JobData). header_of (out_head job c.args.i)) c.requires.job in
+    let is : new ≡ header_of (out_head g.N.Work.job c.args.i) ++ pixels =
+        sym (take-append-drop 2048 new) ∙ ap (λ rest. take 2048 new ++ rest) c.put_header.ensures.behind ∙ ap (λ front. front ++ pixels) head in
+    reheaded g.N.Work.job g.N.Work.files c.args.i pixels new (c.put_header.ensures.size ∙ size) count is c.requires.pixels

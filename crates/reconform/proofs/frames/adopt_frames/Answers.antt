@@ -1,105 +1,23 @@
-use Rattle.std.proofs.Common.{rules, ◌≡◌, length, refl, sym, ap, ◌∙◌, subst, arith}
+use Rattle.std.proofs.Common.{List, get_or, ap, ◌∙◌, subst, sym}
+use Rattle.std.specs.Prelude.{All}
+use Rattle.frame_hash.specs.declared.Room.{Room}
 use Rattle.frame_render.specs.Frame.{frame_size}
-use Rattle.frame_render.proofs.Filled.{refilled}
-use Rattle.reel_disk.specs.Disk.{Moment, view_of}
-use Rattle.resume_ledger.proofs.Reading.{still_along}
-use Rattle.reel_writer.specs.Reel.{frames_of}
-use Rattle.reconform.specs.Adopt.{AreServed, IsServed}
-use Rattle.reconform.proofs.Going.{both_behind, both_itself, looked_along, part_along, part_itself, still_itself}
-use Rattle.reconform.proofs.Serving.{adopted_none, same_along, same_itself, served_first, served_more}
+use Rattle.reel_disk.specs.Disk.{view_of}
+use Rattle.reconform.specs.Ahead.{CanFinish}
+use Rattle.reconform.proofs.Dressing.{free_can_finish}
+use Rattle.reconform.proofs.Going.{both_itself}
+use Rattle.reconform.proofs.Serving.{adopted_none}
 use Rattle.reconform.proofs.frames.adopt_frames.Goals as goal
 
-pub loop-i-init : goal.loop-i-init
-loop-i-init g c = record {
-  within = omega arith;
-  ending = c.count-i-end.ensures.count ∙ ap frames_of c.requires.new_job;
-  served = λ told. served_first g.N.Work.job g.O.Work.job c.args.view.now (view_of (g.D.Disk.history c.args.old.now)) c.args.reel.now.ledger.gates;
-  stays = same_itself c.args.reel.now;
-  is_open = c.requires.is_open;
-  room = c.in-Ok.ensures.room ∙ ap frame_size c.requires.new_job;
-  file = c.in-Ok.ensures.file ∙ ap frame_size c.requires.old_job;
-  part = part_itself g.N.Work.job g.N.Work.files g.E.Disk.tells g.E.Disk.history c.args.reel.now.ledger.gates c.args.reel.now.disk;
-  still = λ told. still_itself (g.D.Disk.history c.args.old.now);
-  faults_old = refl;
-  faults = refl;
-  same_old = refl;
-  same_disk = refl;
-}
-
-pub adopt_frame-requires-clause-looked : goal.adopt_frame-requires-clause-looked
-adopt_frame-requires-clause-looked g c =
-    looked_along g.N.Work.job g.O.Work.job g.D.Disk.tells (g.D.Disk.history c.args.old.now) (g.D.Disk.history c.loop-i.old) c.loop-i.invariant.still g.N.Work.files c.args.view.now c.requires.looked
-
-pub adopt_frame-requires-clause-size : goal.adopt_frame-requires-clause-size
-adopt_frame-requires-clause-size g c = c.loop-i.invariant.stays.size ∙ c.requires.size
-
-pub loop-i-preserved : goal.loop-i-preserved
-loop-i-preserved g c =
-    let inv = c.loop-i.invariant in
-    let step = c.in-Ok-adopt_frame.ensures in
-    record {
-      within = let lt = c.loop-i-test.true in let all = inv.ending in omega (arith, lt, all);
-      ending = inv.ending;
-      served = λ told. served_more g.N.Work.job g.O.Work.job c.args.view.now (view_of (g.D.Disk.history c.args.old.now)) c.loop-i.i c.args.reel.now.ledger.gates c.loop-i.reel.ledger.gates c.adopt_frame.new.reel.ledger.gates (inv.served told)
-          (subst (λ (m : Moment). IsServed g.N.Work.job g.O.Work.job c.args.view.now m.view c.loop-i.i c.loop-i.reel.ledger.gates c.adopt_frame.new.reel.ledger.gates) (inv.still told).same (step.served told));
-      stays = same_along _ _ _ inv.stays step.stays;
-      is_open = step.stays_open;
-      room = step.room;
-      file =
-          let long : length c.loop-i.file.items ≡ c.loop-i.file.len = search rules in
-          ap length (refilled c.loop-i.file.len c.adopt_frame.new.file c.loop-i.file.items long (c.adopt_frame.ensures.file ∙ sym inv.file ∙ long)) ∙ c.adopt_frame.ensures.file;
-      part = part_along g.N.Work.job g.N.Work.files g.E.Disk.tells g.E.Disk.history c.args.reel.now.ledger.gates c.loop-i.reel.ledger.gates inv.stays.grows c.args.reel.now.disk c.loop-i.reel.disk c.adopt_frame.new.reel.disk inv.part step.part;
-      still = λ told. still_along _ _ _ (inv.still told) (step.still told);
-      faults_old = step.disks.old_steady (λ is. cc) ∙ inv.faults_old;
-      faults = step.disks.steady (λ is. cc) ∙ inv.faults;
-      same_old = step.disks.old_lent ∙ inv.same_old;
-      same_disk = step.disks.lent ∙ inv.same_disk;
-    }
+pub adopt_each-requires-clause-rooms : goal.adopt_each-requires-clause-rooms
+adopt_each-requires-clause-rooms g c =
+    subst (λ (rooms : List Room). All (CanFinish g.N.Work.job g.O.Work.job g.N.Work.files g.D.Disk.tells c.args.view.now (view_of (g.D.Disk.history c.args.old.now))) rooms) (sym c.deref_mut.ensures.value)
+    (λ k d within. let free = c.rooms_of-rooms.ensures k d within in free_can_finish g.N.Work.job g.O.Work.job g.N.Work.files g.D.Disk.tells c.args.view.now (view_of (g.D.Disk.history c.args.old.now))
+    (get_or c.rooms_of-rooms.result.items k d) (free.0, free.1 ∙ c.frame_len.ensures ∙ ap frame_size c.requires.new_job))
 
 -- no room
-pub returns-in-Err-clause-adopted : goal.returns-in-Err-clause-adopted
-returns-in-Err-clause-adopted g c = adopted_none g.N.Work.job g.O.Work.job g.N.Work.files g.D.Disk.tells g.D.Disk.history g.E.Disk.tells g.E.Disk.history c.args.view.now c.args.old.now c.args.reel.now
+pub returns-then-is_empty-clause-adopted : goal.returns-then-is_empty-clause-adopted
+returns-then-is_empty-clause-adopted g c = adopted_none g.N.Work.job g.O.Work.job g.N.Work.files g.D.Disk.tells g.D.Disk.history g.E.Disk.tells g.E.Disk.history c.args.view.now c.args.old.now c.args.reel.now
 
-pub returns-in-Err-clause-disks : goal.returns-in-Err-clause-disks
-returns-in-Err-clause-disks g c = both_itself g.D.Disk.faults g.D.Disk.loans g.E.Disk.faults g.E.Disk.loans _ (λ is. cc) c.args.old.now c.args.reel.now.disk
-
--- a disk failed
-pub returns-in-Err-adopt_frame-clause-adopted : goal.returns-in-Err-adopt_frame-clause-adopted
-returns-in-Err-adopt_frame-clause-adopted g c =
-    let inv = c.loop-i.invariant in
-    let step = c.adopt_frame.ensures in
-    record {
-      served = tt;
-      stays = same_along _ _ _ inv.stays step.stays;
-      stays_open = tt;
-      end = search rules;
-      part = part_along g.N.Work.job g.N.Work.files g.E.Disk.tells g.E.Disk.history c.args.reel.now.ledger.gates c.loop-i.reel.ledger.gates inv.stays.grows c.args.reel.now.disk c.loop-i.reel.disk c.adopt_frame.new.reel.disk inv.part step.part;
-      still = λ told. still_along _ _ _ (inv.still told) (step.still told);
-    }
-
-pub returns-in-Err-adopt_frame-clause-disks : goal.returns-in-Err-adopt_frame-clause-disks
-returns-in-Err-adopt_frame-clause-disks g c =
-    both_behind g.D.Disk.faults g.D.Disk.loans g.E.Disk.faults g.E.Disk.loans _ _ (λ is. refl) (λ is. refl) c.args.old.now c.loop-i.old c.adopt_frame.new.old c.args.reel.now.disk c.loop-i.reel.disk c.adopt_frame.new.reel.disk c.loop-i.invariant.faults_old c.loop-i.invariant.faults c.loop-i.invariant.same_old c.loop-i.invariant.same_disk
-    c.in-Err-adopt_frame.ensures.disks
-
--- every frame was served
-pub returns-clause-adopted : goal.returns-clause-adopted
-returns-clause-adopted g c =
-    let inv = c.loop-i.invariant in
-    let late = c.loop-i-test.false in
-    let within = inv.within in
-    let ending = inv.ending in
-    let all : c.loop-i.i ≡ frames_of g.N.Work.job = omega (arith, late, within, ending) in
-    record {
-      served = λ told. subst (λ n. AreServed g.N.Work.job g.O.Work.job c.args.view.now (view_of (g.D.Disk.history c.args.old.now)) n c.args.reel.now.ledger.gates c.loop-i.reel.ledger.gates) all (inv.served told);
-      stays = inv.stays;
-      stays_open = inv.is_open;
-      end = tt;
-      part = inv.part;
-      still = inv.still;
-    }
-
-pub returns-clause-disks : goal.returns-clause-disks
-returns-clause-disks g c =
-    both_behind g.D.Disk.faults g.D.Disk.loans g.E.Disk.faults g.E.Disk.loans _ _ (λ is. is) (λ is. is) c.args.old.now c.loop-i.old c.loop-i.old c.args.reel.now.disk c.loop-i.reel.disk c.loop-i.reel.disk c.loop-i.invariant.faults_old c.loop-i.invariant.faults c.loop-i.invariant.same_old c.loop-i.invariant.same_disk
-    (both_itself g.D.Disk.faults g.D.Disk.loans g.E.Disk.faults g.E.Disk.loans _ (λ is. cc) c.loop-i.old c.loop-i.reel.disk)
+pub returns-then-is_empty-clause-disks : goal.returns-then-is_empty-clause-disks
+returns-then-is_empty-clause-disks g c = both_itself g.D.Disk.faults g.D.Disk.loans g.E.Disk.faults g.E.Disk.loans _ (λ is. cc) c.args.old.now c.args.reel.now.disk

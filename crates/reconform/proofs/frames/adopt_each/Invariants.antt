@@ -1,10 +1,11 @@
-use Rattle.std.proofs.Common.{◌≡◌, ◌≤◌, length, true, false}
-use Rattle.frame_render.specs.Frame.{frame_size}
+use Rattle.std.proofs.Common.{◌≡◌, ◌<◌, ◌≤◌, length, true, false}
+use Rattle.std.specs.Prelude.{All}
 use Rattle.reel_disk.specs.Disk.{view_of, IsStill}
 use Rattle.reel_writer.specs.Reel.{frames_of}
 use Rattle.reconform.specs.Adopt.{AreServed, IsSameReel}
+use Rattle.reconform.specs.Ahead.{CanFinish}
 use Rattle.reconform.specs.Parts.{IsPart}
-use Rattle.reconform.proofs.frames.adopt_frames.Given as goal
+use Rattle.reconform.proofs.frames.adopt_each.Given as goal
 
 -- the frames below i are served, and nothing failed
 abbrev pub invariant-loop-i : goal.invariant-loop-i
@@ -14,8 +15,8 @@ invariant-loop-i g l = record {
   served : g.D.Disk.tells ≡ true → AreServed g.N.Work.job g.O.Work.job l.fn.view (view_of (g.D.Disk.history l.fn.old)) l.i l.fn.reel.ledger.gates l.reel.ledger.gates;
   stays : IsSameReel l.fn.reel l.reel;
   is_open : l.reel.ledger.closed ≡ false;
-  room : length l.room ≡ frame_size g.N.Work.job;
-  file : length l.file.items ≡ frame_size g.O.Work.job;
+  rooms : All (CanFinish g.N.Work.job g.O.Work.job g.N.Work.files g.D.Disk.tells l.fn.view (view_of (g.D.Disk.history l.fn.old))) l.rooms;
+  some : 0 < length l.rooms;
   part : IsPart g.N.Work.job g.N.Work.files g.E.Disk.tells g.E.Disk.history l.fn.reel.ledger.gates l.fn.reel.disk l.reel.disk;
   still : g.D.Disk.tells ≡ true → IsStill (g.D.Disk.history l.fn.old) (g.D.Disk.history l.old);
   faults_old : g.D.Disk.faults l.old ≡ g.D.Disk.faults l.fn.old;

@@ -1,0 +1,113 @@
+-- What is made of a donor's file that was read ahead.
+use Rattle.std.proofs.Common.{◌≡◌, inl, inr, ℕ, ◌+◌, ◌*◌, ◌<◌, Bool, true, List, get_or, set, length, drop, refl, sym, ap, ◌∙◌, subst, arith, Option}
+use Rattle.std.specs.Prelude.{All, Some, None, IfSome}
+use Rattle.std.specs.BTreeMap.{BTreeMap}
+use Rattle.std.proofs.lemmas.Bool.{cases_eq}
+use Rattle.std.proofs.lemmas.List.{get_or-set_same, get_or-set_other}
+use Rattle.std.proofs.lemmas.List.Elements.{All-set}
+use Rattle.sha2.specs.Sha256.{sha256}
+use Rattle.scan_source.specs.World.{World, file_at}
+use Rattle.frame_hash.specs.declared.Room.{Room}
+use Rattle.frame_hash.specs.Rooms.{IsFree, AreHashed}
+use Rattle.conform_job.specs.Job.{JobData, file_of}
+use Rattle.frame_render.specs.Frame.{IsFileOf, frame_file, frame_size}
+use Rattle.reel_disk.specs.Disk.{Files}
+use Rattle.resume_ledger.specs.Look.{ViewState, hash_at}
+use Rattle.reel_writer.specs.Reel.{frames_of}
+use Rattle.reconform.specs.Ahead.{IsKept, HoldsFrame, CanFinish}
+use Rattle.reconform.specs.Donor.{HasIntactDonor, IsLeast, IsOfHash, donor_in}
+use Rattle.reconform.specs.Parts.{HasDonors, WasLookedAt}
+use Rattle.reconform.specs.Plan.{AreAlike, plan_at}
+use Rattle.reconform.specs.declared.plan.FramePlan.{FramePlan}
+use Rattle.reconform.proofs.Serving.{has_donor, least_here, served_pixels}
+
+-- the donor that a map has of a frame
+module _ (new old : JobData) (view : ViewState) (by_plan : BTreeMap FramePlan ℕ) (i j : ℕ) (donors : HasDonors new old view.gates by_plan) (is : donor_in by_plan (plan_at new i) ≡ Some j) where
+  pub least_of : IsLeast old view.gates (frames_of old) (plan_at new i) (Some j)
+  least_of = least_here old view.gates (frames_of old) by_plan (plan_at new i) (plan_at new i) (Some j) donors.least refl (sym is)
+
+pub kept_as : (kept : Option (List ℕ)) (digest bytes : List ℕ) → IfSome kept (λ hash. hash ≡ digest) → digest ≡ sha256 bytes → IsOfHash kept bytes
+kept_as None digest bytes same made = tt
+kept_as (Some hash) digest bytes same made = same ∙ made
+
+module _ (new old : JobData) (told : Option World) (tells : Bool) (files : Files) (view : ViewState) (by_plan : BTreeMap FramePlan ℕ) (i : ℕ) (bytes digest : List ℕ)
+    (donors : HasDonors new old view.gates by_plan) (kept : IsKept new view by_plan i digest)
+    (read : tells ≡ true → IfSome (donor_in by_plan (plan_at new i)) (λ j. files (file_of old j) ≡ Some bytes)) where
+  pub read_of : tells ≡ true → files (file_of old kept.donor) ≡ Some bytes
+  read_of is = subst (λ found. IfSome found (λ j. files (file_of old j) ≡ Some bytes)) kept.is (read is)
+
+  -- a donor of which the digest is kept is intact
+  pub dressed_donor : digest ≡ sha256 bytes → length bytes ≡ frame_size old → tells ≡ true → HasIntactDonor new old view files i
+  dressed_donor made long is = record {
+    donor = kept.donor;
+    is = has_donor new old view files i (frames_of old) refl kept.donor donors.alike (least_of new old view by_plan i kept.donor donors kept.is);
+    intact = record { bytes = bytes; there = read_of is; long = long; hash = kept_as (hash_at view kept.donor) digest bytes kept.kept made };
+  }
+
+  -- its pixels are the frame's
+  pub dressed_pixels : WasLookedAt new old told tells files view → IfSome told (λ world. drop 2048 bytes ≡ drop 2048 (frame_file new (file_at world) i))
+  dressed_pixels looked =
+      let least = least_of new old view by_plan i kept.donor donors kept.is in
+      served_pixels new old told tells files view i kept.donor bytes looked.can_serve looked.viewed donors.alike donors.titles least.1 least.2 read_of
+
+-- frames of alike jobs have one size
+pub sizes_alike : (new old : JobData) → AreAlike new old → frame_size new ≡ frame_size old
+sizes_alike new old alike = ap (λ n. 2048 + 4 * n) (λ t. alike.width t * alike.height t)
+
+-- a free room can be finished, as there is nothing in it
+pub free_can_finish : (new old : JobData) (told : Option World) (tells : Bool) (view : ViewState) (files : Files) (room : Room) → IsFree (frame_size new) room → CanFinish new old told tells view files room
+free_can_finish new old told tells view files room free = record {
+  holds = record {
+    size = free.1;
+    within = subst (λ frame. IfSome frame (λ i. i < frames_of new)) (sym free.0) tt;
+    donor = subst (λ frame. IfSome frame (λ i. tells ≡ true → HasIntactDonor new old view files i)) (sym free.0) tt;
+    file = subst (λ frame. IfSome frame (λ i. IsFileOf new told i room.bytes.items)) (sym free.0) tt;
+  };
+  digest = subst (λ frame. IfSome frame (λ i. room.digest ≡ sha256 room.bytes.items)) (sym free.0) tt;
+}
+
+-- one room more has a property
+pub more_rooms : (P : Room → Type 0) (rooms : List Room) (n : ℕ) (room : Room) → n < length rooms → ((k : ℕ) (d : Room) → k < n → P (get_or rooms k d)) → P room
+    → (k : ℕ) (d : Room) → k < n + 1 → P (get_or (set rooms n room) k d)
+more_rooms P rooms n room lt before here k d within = elim (cases_eq k n) [
+  | inl same ↦ subst (λ m. P (get_or (set rooms n room) m d)) (sym same) (subst P (sym (get_or-set_same rooms n room d lt)) here)
+  | inr other ↦ subst P (sym (get_or-set_other rooms n k room d other)) (before k d (omega (arith, within, other)))
+]
+
+-- rooms as they were read, and hashed
+module _ (new old : JobData) (told : Option World) (tells : Bool) (view : ViewState) (files : Files) where
+  pub hashed_frames : (before after : List Room) → AreHashed before after → All (HoldsFrame new old told tells view files) before → All (CanFinish new old told tells view files) after
+  hashed_frames before after hashed frames k d within =
+      let lt : k < length before = let count = hashed.count in omega (arith, count, within) in
+      let is = hashed.each k d lt in
+      let was = frames k d lt in
+      record {
+        holds = record {
+          size = ap length is.bytes ∙ was.size;
+          within = subst (λ frame. IfSome frame (λ i. i < frames_of new)) (sym is.frame) was.within;
+          donor = subst (λ frame. IfSome frame (λ i. tells ≡ true → HasIntactDonor new old view files i)) (sym is.frame) was.donor;
+          file = subst (λ (room : Option ℕ × List ℕ). IfSome room.0 (λ i. IsFileOf new told i room.1)) (λ t. (sym is.frame t, sym is.bytes t)) was.file;
+        };
+        digest = subst (λ (room : Option ℕ × List ℕ). IfSome room.0 (λ i. (get_or after k d).digest ≡ sha256 room.1)) (λ t. (sym is.frame t, sym is.bytes t)) is.digest;
+      }
+
+  -- one room is free now
+  pub freed : (rooms : List Room) (n : ℕ) (room : Room) → IsFree (frame_size new) room → All (CanFinish new old told tells view files) rooms → All (CanFinish new old told tells view files) (set rooms n room)
+  freed rooms n room free all = All-set (CanFinish new old told tells view files) rooms n room (free_can_finish new old told tells view files room free) all
+
+-- a folder that stays as it is serves as it did
+module _ (new old : JobData) (told : Option World) (tells : Bool) (view : ViewState) (files then : Files) (same : tells ≡ true → files ≡ then) where
+  pub finish_along : (rooms : List Room) → All (CanFinish new old told tells view files) rooms → All (CanFinish new old told tells view then) rooms
+  finish_along rooms can k d within = let was = can k d within in record {
+    holds = record {
+      size = was.holds.size;
+      within = was.holds.within;
+      donor = along (get_or rooms k d).frame was.holds.donor;
+      file = was.holds.file;
+    };
+    digest = was.digest;
+  }
+    where
+      along : (frame : Option ℕ) → IfSome frame (λ i. tells ≡ true → HasIntactDonor new old view files i) → IfSome frame (λ i. tells ≡ true → HasIntactDonor new old view then i)
+      along None donor = tt
+      along (Some i) donor = λ is. subst (λ all. HasIntactDonor new old view all i) (same is) (donor is)
