@@ -1,5 +1,5 @@
 -- From the reply of a run to the headline, and from the causes of all answers to completeness.
-use Rattle.std.proofs.Common.{◌≡◌, ◌≢◌, ℕ, ◌<◌, true, List, Option, Some, None, IfSome, Ok, refl, sym, ap, subst, ◌∙◌, arith, inl, inr}
+use Rattle.std.proofs.Common.{◌≡◌, ◌≢◌, ℕ, true, List, Option, Some, None, IfSome, Ok, refl, sym, ap, subst, ◌∙◌, arith, inl, inr}
 use Rattle.std.specs.Prelude.{◌⊎◌}
 use Rattle.cf_base.specs.declared.file.FileId.{FileId}
 use Rattle.cf_base.specs.declared.file.FileId.TheVariants.{Seal, Seal2}

@@ -17,6 +17,7 @@ use crate::pull::pull;
 use cf_base::{Put, Sink};
 use command_words::{Command, command_of};
 use demo_run::demo;
+use frame_hash::Hasher;
 use outcome_line::{Outcome, made_line, plain_line};
 use project_adopt::adopt;
 use project_job::job_laws;
@@ -81,8 +82,8 @@ pub fn answer<S: Scans, D: Disk, K: Sink>(
     answer_found(alloc, &OneThread, found, scan, disk, old, probes, tone, out)
 }
 
-/// Does the command that was found in some words, on one thread but for the counts, and puts its output or its line.
-pub fn answer_found<S: Scans, D: Disk, K: Sink, C: Counter>(
+/// Does the command that was found in some words, on one thread but for counts and digests, and puts its output or its line.
+pub fn answer_found<S: Scans, D: Disk, K: Sink, C: Counter + Hasher>(
     alloc: Global,
     counter: &C,
     found: Option<Command>,
@@ -94,6 +95,7 @@ pub fn answer_found<S: Scans, D: Disk, K: Sink, C: Counter>(
     out: &mut K,
 ) -> Outcome
     requires ready { C.ready }
+    requires can_hash { C.can_hash }
     requires counts { IfSome found HasCounts }
     ensures answered { (words : List (List ℕ)) → IsFoundIn words found
         → OnSink K.written K.faults out.old out.new (OnFolders D.tells D.history D.faults disk.old old.old disk.new old.new
@@ -120,7 +122,7 @@ pub fn answer_found<S: Scans, D: Disk, K: Sink, C: Counter>(
 
 /// The output of a command, or the outcome that was reached in its place. A run is on one thread, however many workers the
 /// command has.
-fn carried_out<S: Scans, D: Disk, C: Counter>(
+fn carried_out<S: Scans, D: Disk, C: Counter + Hasher>(
     alloc: Global,
     counter: &C,
     command: &Command,
@@ -131,6 +133,7 @@ fn carried_out<S: Scans, D: Disk, C: Counter>(
     tone: &Tone,
 ) -> Result<Vec<u8>, Outcome>
     requires ready { C.ready }
+    requires can_hash { C.can_hash }
     requires counts { HasCounts command.now }
     ensures reply { Replies result (OnFolders D.tells D.history D.faults disk.old old.old disk.new old.new
         (OnScan S.world S.faults S.loads S.heads scan.old scan.new
@@ -154,14 +157,14 @@ fn carried_out<S: Scans, D: Disk, C: Counter>(
             ..
         } => run(alloc, project, *extent, *share, scan, disk),
         Command::Status(project) => status(alloc, project, scan, disk),
-        Command::Verify(project) => verify(alloc, project, scan, disk),
+        Command::Verify(project) => verify(alloc, project, scan, disk, counter),
         Command::Sums(project) => sums(alloc, project, scan, disk),
         Command::Qc(project) => qc(alloc, counter, project, scan, disk, probes),
         Command::Sheet(project) => sheet(alloc, project, scan, disk, tone),
         Command::Adopt {
             project,
             old: old_project,
-        } => adopt(alloc, project, old_project, scan, disk, old),
+        } => adopt(alloc, project, old_project, scan, disk, old, counter),
         Command::Pull { project, margin } => pull(alloc, project, *margin, scan),
         Command::Demo(count) => demo(alloc, *count),
     }

@@ -18,6 +18,7 @@ ghost use Rattle.scan_source.specs.World.{World};
 use cf_base::{PathText, Sink};
 use command_answers::{answer_found, parts_law, put_line, put_result};
 use command_words::{Command, command_of};
+use frame_hash::Hasher;
 use frame_range::Extent;
 use outcome_line::Outcome;
 use project_crew::{CrewEnded, run_crewed};
@@ -216,7 +217,7 @@ fn by_crew<S: Scans + Send, D: Disk + Send, K: Sink, R: Threads + Wait + Sync>(
 }
 
 /// A command with the first scan.
-fn by_one<S: Scans, D: Disk, K: Sink, C: Counter>(
+fn by_one<S: Scans, D: Disk, K: Sink, C: Counter + Hasher>(
     alloc: Global,
     counter: &C,
     found: Option<Command>,
@@ -228,6 +229,7 @@ fn by_one<S: Scans, D: Disk, K: Sink, C: Counter>(
     tone: &Tone,
 ) -> Ended<S, D>
     requires ready { C.ready }
+    requires can_hash { C.can_hash }
     requires some { 1 ≤ vec_len scans }
     requires counts { IfSome found HasCounts }
     ensures answered { (words : List (List ℕ)) → IsFoundIn words found

@@ -8,13 +8,9 @@ ghost use Rattle.std.specs.Prelude.{◌≤◌, All, IfOk};
 ghost use Rattle.frame_hash.specs.Rooms.{IsFree, IsHashed, AreHashed};
 
 use rayon::prelude::*;
-use rayon::current_num_threads;
 use sha2::{Digest, Sha256};
 use std::alloc::{AllocError, Global};
 use std::thread::Threads;
-
-/// How many rooms are of use at most: each takes as much memory as a file.
-const MOST: usize = 16;
 
 /// Room for the file of one frame, and for its SHA-256 (FIPS 180-4).
 #[derive(Drop)]
@@ -101,11 +97,4 @@ pub fn hash_forked<R: Threads + Sync>(rt: &R, rooms: &mut [Room])
             room.hash();
         },
     );
-}
-
-/// How many rooms threads can work on side by side: one for each processor, and at most 16.
-pub fn rooms_forked<R: Threads + Sync>(rt: &R) -> usize
-    ensures few { result ≤ 16 }
-{
-    current_num_threads(rt).min(MOST)
 }

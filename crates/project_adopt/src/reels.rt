@@ -12,6 +12,7 @@ ghost use Rattle.project_adopt.specs.Adopt.{Ends, IsAdoption, IsJobOver, IsOfAdo
 
 use crate::report::{outcome_of_fault, reply_of};
 use conform_job::{Job, Work};
+use frame_hash::Hasher;
 use outcome_line::Outcome;
 use reconform::Adopted;
 use reel_disk::Disk;
@@ -27,14 +28,16 @@ const SHARE: u32 = 8;
 ///
 /// The names of both jobs have the files that the scan tells, where the old folder is told and sound over them, and none
 /// elsewhere: so the promise on the source files has that as its premise.
-pub(crate) fn adopt_jobs<S: Scans, D: Disk>(
+pub(crate) fn adopt_jobs<S: Scans, D: Disk, H: Hasher>(
     alloc: Global,
     job: &Job,
     old_job: &Job,
     scan: &mut S,
     disk: &mut D,
     old: &mut D,
+    hasher: &H,
 ) -> Result<Vec<u8>, Outcome>
+    requires can_hash { H.can_hash }
     requires infos { AreInfosOf job.now.parts (S.world scan.old) job.now.infos }
     requires over { IsJobOver (S.world scan.old) job.now }
     requires old_over { IsJobOver (S.world scan.old) old_job.now }
@@ -50,18 +53,20 @@ pub(crate) fn adopt_jobs<S: Scans, D: Disk>(
 
     ensures disks { LeavesDisks D.faults D.loans (result ≡ Err Outcome.DiskFault) old.old old.new disk.old disk.new }
 {
-    adopt_and_run::<Brand, Brand, S, D>(alloc, job, old_job, scan, old, disk)
+    adopt_and_run::<Brand, Brand, S, D, H>(alloc, job, old_job, scan, old, disk, hasher)
 }
 
 /// The same under names of both jobs.
-fn adopt_and_run<N: Work, O: Work, S: Scans, D: Disk>(
+fn adopt_and_run<N: Work, O: Work, S: Scans, D: Disk, H: Hasher>(
     alloc: Global,
     job: &Job,
     old_job: &Job,
     scan: &mut S,
     old: &mut D,
     disk: &mut D,
+    hasher: &H,
 ) -> Result<Vec<u8>, Outcome>
+    requires can_hash { H.can_hash }
     requires job { job.now ≡ N.job }
     requires old_job { old_job.now ≡ O.job }
     requires one_world { O.files ≡ N.files }
@@ -78,7 +83,7 @@ fn adopt_and_run<N: Work, O: Work, S: Scans, D: Disk>(
 
     ensures disks { LeavesDisks D.faults D.loans (result ≡ Err Outcome.DiskFault) old.old old.new disk.old disk.new }
 {
-    match reconform::adopt::<N, O, D>(alloc, job, old_job, old, disk) {
+    match reconform::adopt::<N, O, D, H>(alloc, job, old_job, old, disk, hasher) {
         Ok(done) => run_rest(alloc, job, done, scan, disk),
         Err(fault) => Err(outcome_of_fault(fault)),
     }

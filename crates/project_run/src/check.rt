@@ -11,6 +11,7 @@ use crate::progress::outcome_of_fault;
 use crate::report::put_count;
 use cf_base::PathText;
 use conform_job::Job;
+use frame_hash::Hasher;
 use outcome_line::Outcome;
 use project_job::planned;
 use reel_disk::Disk;
@@ -26,12 +27,14 @@ use std::alloc::{AllocError, Global};
 /// `Damaged` comes exactly where the file of an acknowledged frame has another SHA-256 than its record, an absent file as no
 /// bytes: it is the first such frame. A folder of version 1 has no records. `OtherJob`, `BadLedger` and `DiskFault` come as
 /// they do for `status`.
-pub fn verify<S: Scans, D: Disk>(
+pub fn verify<S: Scans, D: Disk, H: Hasher>(
     alloc: Global,
     path: &PathText,
     scan: &mut S,
     disk: &mut D,
+    hasher: &H,
 ) -> Result<Vec<u8>, Outcome>
+    requires can_hash { H.can_hash }
     ensures folder { Replies result (OnDisk D.tells D.history D.faults disk.old disk.new
         (OverScan S.world S.loads scan.old scan.new (IsVerifyReply path.now))) }
     ensures kind { MatchResult result (λ text. Unit {0}) IsOfVerify }
@@ -43,14 +46,20 @@ pub fn verify<S: Scans, D: Disk>(
         Ok(job) => job,
         Err(outcome) => return Err(outcome),
     };
-    let reply = verified(alloc, &job, disk);
+    let reply = verified(alloc, &job, disk, hasher);
     // By a call, as in a run.
     drop(job);
     reply
 }
 
 /// What the ledger of a job's reel has, and whether the files are those of its records, or the outcome that was reached.
-fn verified<D: Disk>(alloc: Global, job: &Job, disk: &mut D) -> Result<Vec<u8>, Outcome>
+fn verified<D: Disk, H: Hasher>(
+    alloc: Global,
+    job: &Job,
+    disk: &mut D,
+    hasher: &H,
+) -> Result<Vec<u8>, Outcome>
+    requires can_hash { H.can_hash }
     ensures verified { Replies result (OnDisk D.tells D.history D.faults disk.old disk.new (IsVerified job.now)) }
     ensures kind { MatchResult result (λ text. Unit {0}) IsOfVerify }
     ensures never { result ≢ Err Outcome.SourceFault }
@@ -59,7 +68,7 @@ fn verified<D: Disk>(alloc: Global, job: &Job, disk: &mut D) -> Result<Vec<u8>, 
 {
     match Ledger::look(alloc, disk, job.digest(), job.timeline().count()) {
         Ok(view) => {
-            let reply = checked(alloc, job, &view, disk);
+            let reply = checked(alloc, job, &view, disk, hasher);
             drop(view);
             reply
         }
@@ -68,12 +77,14 @@ fn verified<D: Disk>(alloc: Global, job: &Job, disk: &mut D) -> Result<Vec<u8>, 
 }
 
 /// Whether the files of a job's reel are those of the records, or the outcome that was reached.
-fn checked<D: Disk>(
+fn checked<D: Disk, H: Hasher>(
     alloc: Global,
     job: &Job,
     view: &LedgerView,
     disk: &mut D,
+    hasher: &H,
 ) -> Result<Vec<u8>, Outcome>
+    requires can_hash { H.can_hash }
     requires size { length view.now.gates ≡ frames_of job.now }
     requires view { D.tells ≡ true → IsViewOf job.now.parts.digest (frames_of job.now) (view_of (D.history disk.old)) view.now }
     ensures checked { Replies result (OnDisk D.tells D.history D.faults disk.old disk.new
@@ -84,7 +95,7 @@ fn checked<D: Disk>(
 
     ensures disk { LeavesDisk D.faults D.loans (result ≡ Err Outcome.DiskFault) disk.old disk.new }
 {
-    match check(alloc, disk, job, view) {
+    match check(alloc, disk, job, view, hasher) {
         Ok(records) => {
             match verify_text(alloc, job.timeline().count(), view.acked(), records) {
                 Ok(text) => Ok(text),

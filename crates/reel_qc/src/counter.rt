@@ -33,7 +33,7 @@ impl Counter for OneThread {
 /// Counts in pieces, on several threads.
 #[derive(Drop)]
 pub struct Forked<'a, R: Threads + Sync> {
-    rt: &'a R,
+    pub(crate) rt: &'a R,
 }
 
 impl<'a, R: Threads + Sync> Forked<'a, R> {

@@ -11,6 +11,7 @@ mod counter;
 mod counts;
 mod curves;
 mod drawing;
+mod hashing;
 mod pieces;
 mod probe;
 mod sheet;

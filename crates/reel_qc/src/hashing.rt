@@ -1,0 +1,36 @@
+//! The digests of several files, by what counts.
+use crate::counter::{Forked, OneThread};
+use frame_hash::{Hasher, Room, hash_each, hash_forked};
+use rayon::current_num_threads;
+use std::thread::Threads;
+
+/// How many files are in memory at most, however many processors there are.
+const MOST_ROOMS: usize = 16;
+
+/// Files are hashed while they are read.
+impl Hasher for OneThread {
+    ghost can_hash = { Unit {0} };
+
+    fn rooms(&self) -> usize {
+        0
+    }
+
+    fn hash(&self, rooms: &mut [Room]) {
+        hash_each(rooms);
+    }
+}
+
+/// Several threads use the handle.
+impl<R: Threads + Sync> Hasher for Forked<'_, R> {
+    ghost use Rattle.std.specs.Thread.{IsSync};
+
+    ghost can_hash = { IsSync R.row };
+
+    fn rooms(&self) -> usize {
+        current_num_threads(self.rt).min(MOST_ROOMS)
+    }
+
+    fn hash(&self, rooms: &mut [Room]) {
+        hash_forked(self.rt, rooms);
+    }
+}
