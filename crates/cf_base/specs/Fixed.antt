@@ -49,7 +49,8 @@ exponent_size token = digits_value 10 (without_leading_sign (exponent token))
 
 -- The size is numerator / denominator units, exactly.
 abbrev pub numerator : (token : List ℕ) → ℕ
-numerator token = digits_value 10 (whole_part token ++ decimals token) * 10 ^ (9 + (if starts_with_minus (exponent token) then 0 else exponent_size token))
+numerator token = digits_value 10 (whole_part token ++ decimals token) * 10 ^
+    (9 + (if starts_with_minus (exponent token) then 0 else exponent_size token))
 
 abbrev pub denominator : (token : List ℕ) → ℕ
 denominator token = 10 ^ (length (decimals token) + (if starts_with_minus (exponent token) then exponent_size token else 0))

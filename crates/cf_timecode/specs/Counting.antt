@@ -64,15 +64,18 @@ number_of R30 NonDrop l = second_of l * 30 + l.f
 number_of R30 Drop l = minute_of l * 1798 + minute_of l / 10 * 2 + l.s * 30 + l.f
 
 abbrev pub NumbersCount : Type 0
-NumbersCount = (rate : Rate) (mode : Mode) (label : Label) → CanCount rate mode → IsValid rate mode label → label_after rate mode (number_of rate mode label) ≡ label
+NumbersCount = (rate : Rate) (mode : Mode) (label : Label) → CanCount rate mode → IsValid rate mode label
+    → label_after rate mode (number_of rate mode label) ≡ label
 
 -- a step from a label of the day leads to no label that is passed over
 abbrev pub NeverPassedOver : Type 0
-NeverPassedOver = (rate : Rate) (mode : Mode) (label : Label) → CanCount rate mode → IsValid rate mode label → is_passed_over mode (next rate mode label) ≡ false
+NeverPassedOver = (rate : Rate) (mode : Mode) (label : Label) → CanCount rate mode → IsValid rate mode label
+    → is_passed_over mode (next rate mode label) ≡ false
 
 -- the number of a label of the day is below the day's number of labels
 abbrev pub NumbersFit : Type 0
-NumbersFit = (rate : Rate) (mode : Mode) (label : Label) → CanCount rate mode → IsValid rate mode label → number_of rate mode label < frames_in_day rate mode
+NumbersFit = (rate : Rate) (mode : Mode) (label : Label) → CanCount rate mode → IsValid rate mode label
+    → number_of rate mode label < frames_in_day rate mode
 
 -- no two numbers have one label
 abbrev pub CountsOnce : Type 0
@@ -80,4 +83,5 @@ CountsOnce = (rate : Rate) (mode : Mode) (m n : ℕ) → CanCount rate mode → 
 
 -- with a day's number of frames counting comes to 24 hours
 abbrev pub FillsDay : Type 0
-FillsDay = (rate : Rate) (mode : Mode) → CanCount rate mode → label_after rate mode (frames_in_day rate mode) ≡ record { h = 24; m = 0; s = 0; f = 0 }
+FillsDay = (rate : Rate) (mode : Mode) → CanCount rate mode → label_after rate mode (frames_in_day rate mode)
+    ≡ record { h = 24; m = 0; s = 0; f = 0 }

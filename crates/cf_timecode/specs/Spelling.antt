@@ -75,4 +75,5 @@ bcd_of label = bcd_pair label.h * 2 ^ 24 + bcd_pair label.m * 2 ^ 16 + bcd_pair 
 
 -- what is spelled is parsed again
 abbrev pub SpellsBack : Type 0
-SpellsBack = (rate : Rate) (mode : Mode) (label : Label) → CanCount rate mode → IsValid rate mode label → parsed rate mode (spelled mode label) ≡ Ok label
+SpellsBack = (rate : Rate) (mode : Mode) (label : Label) → CanCount rate mode → IsValid rate mode label
+    → parsed rate mode (spelled mode label) ≡ Ok label

@@ -45,7 +45,8 @@ IsResultPut before after reached result =
     MatchResult reached (λ output. IsPut before after Done output.items result) (λ outcome. IsLinePut before after outcome result)
 
 -- This outcome was reached before anything was read, with its line.
-pub record IsUnread (outcome : Outcome) (scan scan_after : ScanState) (folders folders_after : Folders) (reached : Outcome) (output : List ℕ) : Type 0 where
+pub record IsUnread (outcome : Outcome) (scan scan_after : ScanState) (folders folders_after : Folders)
+    (reached : Outcome) (output : List ℕ) : Type 0 where
   pub reached_is : reached ≡ outcome
   pub line : output ≡ line_of outcome
   pub untouched_scan : scan_after ≡ scan
@@ -60,12 +61,15 @@ abbrev pub IsUncalled : (Command → Type 0) → List (List ℕ) → Type 0
 IsUncalled Calls words = (command : Command) → Spells words command → Calls command → ⊥
 
 -- Some outcome was reached, with its output, and was put.
-pub record Answered (house : House) (words : List (List ℕ)) (scan scan_after : ScanState) (folders folders_after : Folders) (sink sink_after : SinkState) (result : Outcome) : Type 0 where
+pub record Answered (house : House) (words : List (List ℕ)) (scan scan_after : ScanState)
+    (folders folders_after : Folders) (sink sink_after : SinkState) (result : Outcome) : Type 0 where
   pub reached : Outcome
   pub output : List ℕ
   pub put : IsPut sink sink_after reached output result
   -- words of no command: the usage line, or no memory was left to read them
   pub usage : reached ≡ Usage → IsNoCommand words
-  pub no_command : IsNoCommand words → IsUnread Usage scan scan_after folders folders_after reached output ⊎ IsUnread NoMemory scan scan_after folders folders_after reached output
+  pub no_command : IsNoCommand words → IsUnread Usage scan scan_after folders folders_after reached output
+      ⊎ IsUnread NoMemory scan scan_after folders folders_after reached output
   -- words of a command: its reply, or no memory was left to read them
-  pub reply : (command : Command) → Spells words command → IsReplyOverFolders house command scan scan_after folders folders_after reached output ⊎ IsUnread NoMemory scan scan_after folders folders_after reached output
+  pub reply : (command : Command) → Spells words command → IsReplyOverFolders house command scan scan_after
+      folders folders_after reached output ⊎ IsUnread NoMemory scan scan_after folders folders_after reached output

@@ -29,7 +29,8 @@ pub record HasSoundFolder (world : World) (path : List ℕ) (disk : DiskState) :
   pub sound : IsOldSound place.job world (view_of disk.history)
 
 -- It is right by the folder: how it uses that says so, and what was loaded.
-abbrev pub reel_meaning : List ℕ → Calls → (House → Option World → (loads loads_after : ℕ) → (disk disk_after : DiskState) → Outcome → List ℕ → Type 0) → (Outcome → Type 0) → Meaning
+abbrev pub reel_meaning : List ℕ → Calls → (House → Option World → (loads loads_after : ℕ)
+    → (disk disk_after : DiskState) → Outcome → List ℕ → Type 0) → (Outcome → Type 0) → Meaning
 reel_meaning path calls Uses IsComplete = record {
   IsRight = λ reached output before after. Unit {0};
   HasLoaded = λ before after reached. Unit {0};

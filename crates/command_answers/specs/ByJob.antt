@@ -57,7 +57,8 @@ HasJob world path = (job : JobData) × ComesTo (file_at world) path (Ok job.part
 -- It puts a text of the job's parts, and makes no call on a folder.
 abbrev pub printed_meaning : List ℕ → (JobParts → List ℕ → Type 0) → Meaning
 printed_meaning path IsForm = record {
-  IsRight = λ reached output before after. IfSome before.world (λ world. IsJobReply IsForm (file_at world) path reached output before after);
+  IsRight = λ reached output before after. IfSome before.world
+      (λ world. IsJobReply IsForm (file_at world) path reached output before after);
   HasLoaded = IsJobLoaded path;
   LooksAtHeads = AreJobHeads path;
   calls = no_calls;

@@ -8,7 +8,8 @@
 --     KeepsItsPromise job range world opening now Ended      that sentence, of a run over a range of frames from its opening until now
 --     KeepsHeadline, KeepsItAdopting      the same of the words, for each world and job that they run
 --     PartsMakeTheReel      folders that have the parts of a job have its reel
--- Of a run over a part the sentence's last words speak of the part's frames. A job's reel is the same whatever `job.infos` is: it looks at the job's parts alone.
+-- Of a run over a part the sentence's last words speak of the part's frames. A job's reel is the same whatever `job.infos` is:
+-- it looks at the job's parts alone.
 use Rattle.std.specs.Prelude.{◌≡◌, ◌⊎◌, ℕ, ◌<◌, ◌≤◌, Bool, true, List, [], Option, Some, None, Ok}
 use Rattle.cf_base.specs.declared.file.FileId.{FileId}
 use Rattle.scan_source.specs.World.{World, file_at}
@@ -30,7 +31,8 @@ use Rattle.outcome_line.specs.declared.outcome.Outcome.TheVariants.{Done, SinkFa
 
 -- An accepted job, with unchanged scans: the words run a project, all of it or a part, by any number of workers, the scans tell
 -- this world and the disk its folder, and the project comes to this job there.
-pub record RunsJob (words : List (List ℕ)) (told : Option World) (tells : Bool) (world : World) (job : JobData) (extent : Extent) : Type 0 where
+pub record RunsJob (words : List (List ℕ)) (told : Option World) (tells : Bool) (world : World) (job : JobData)
+    (extent : Extent) : Type 0 where
   pub path : List ℕ
   pub workers : ℕ
   pub share : ℕ
@@ -41,7 +43,8 @@ pub record RunsJob (words : List (List ℕ)) (told : Option World) (tells : Bool
 
 -- An accepted adoption, with unchanged scans: the project comes to this job, and each frame that the old folder acknowledges is
 -- the old project's, where that comes to a job.
-pub record AdoptsJob (words : List (List ℕ)) (told : Option World) (tells : Bool) (world : World) (old : Files) (job : JobData) : Type 0 where
+pub record AdoptsJob (words : List (List ℕ)) (told : Option World) (tells : Bool) (world : World) (old : Files)
+    (job : JobData) : Type 0 where
   pub path : List ℕ
   pub old_path : List ℕ
   pub spells : Spells words (commands.Adopt path old_path)

@@ -51,7 +51,8 @@ pub record IsReplyOverScan (command : Command) (before after : ScanState) (reach
   pub world : after.world ≡ before.world
 
 -- The reply of a command, with what it did to the folders, whose fault has its cause.
-pub record IsReplyOverFolders (house : House) (command : Command) (before after : ScanState) (folders folders_after : Folders) (reached : Outcome) (output : List ℕ) : Type 0 where
+pub record IsReplyOverFolders (house : House) (command : Command) (before after : ScanState)
+    (folders folders_after : Folders) (reached : Outcome) (output : List ℕ) : Type 0 where
   pub reply : IsReplyOverScan command before after reached output
   pub folder : (meaning_of command).UsesDisk house before after folders folders_after reached output
   pub old_folder : (CallsOld command → ⊥) → folders_after.old ≡ folders.old

@@ -19,8 +19,10 @@ abbrev pub scan_state : {S : Type 0} → (S → Option World) → (faults loads 
 scan_state world faults loads heads scan = record { world = world scan; faults = faults scan; loads = loads scan; heads = heads scan }
 
 -- what was made of a scan, by its meanings: this is so of the scan before and of the scan after
-abbrev pub OnScan : {S : Type 0} {A : Type 1} → (S → Option World) → (faults loads heads : S → ℕ) → (before after : S) → (ScanState → ScanState → A) → A
-OnScan world faults loads heads before after Made = Made (scan_state world faults loads heads before) (scan_state world faults loads heads after)
+abbrev pub OnScan : {S : Type 0} {A : Type 1} → (S → Option World) → (faults loads heads : S → ℕ)
+    → (before after : S) → (ScanState → ScanState → A) → A
+OnScan world faults loads heads before after Made = Made (scan_state world faults loads heads before)
+    (scan_state world faults loads heads after)
 
 -- the folder of the reel, and that of an old reel
 pub record Folders : Type 0 where
@@ -32,8 +34,10 @@ abbrev pub folders_of : {D : Type 0} → Bool → (D → History) → (D → ℕ
 folders_of tells history faults disk old = record { reel = disk_state tells history faults disk; old = disk_state tells history faults old }
 
 -- what was made of them
-abbrev pub OnFolders : {D : Type 0} {A : Type 1} → Bool → (D → History) → (D → ℕ) → (disk old disk_after old_after : D) → (Folders → Folders → A) → A
-OnFolders tells history faults disk old disk_after old_after Made = Made (folders_of tells history faults disk old) (folders_of tells history faults disk_after old_after)
+abbrev pub OnFolders : {D : Type 0} {A : Type 1} → Bool → (D → History) → (D → ℕ) → (disk old disk_after old_after : D)
+    → (Folders → Folders → A) → A
+OnFolders tells history faults disk old disk_after old_after Made = Made (folders_of tells history faults disk old)
+    (folders_of tells history faults disk_after old_after)
 
 -- the kinds of a house's probes, and the table of its tone
 pub record House : Type 0 where

@@ -88,7 +88,8 @@ abbrev pub Gives : LineText → Command → Type 0
 Gives line (commands.Frame path) = IsRow line (codes "frame") None × IsPath line.subject path
 Gives line (commands.List file rate) = IsRow line (codes "list") (Some (rate_word rate)) × IsPath line.subject file
 Gives line (commands.Plan project) = IsRow line (codes "plan") None × IsPath line.subject project
-Gives line (commands.Run project extent workers share) = IsRunOf line extent × IsPath line.subject project × (workers ≡ line.workers) × (share ≡ line.share)
+Gives line (commands.Run project extent workers share) = IsRunOf line extent × IsPath line.subject project
+    × (workers ≡ line.workers) × (share ≡ line.share)
 Gives line (commands.Status project) = IsRow line (codes "status") None × IsPath line.subject project
 Gives line (commands.Verify project) = IsRow line (codes "verify") None × IsPath line.subject project
 Gives line (commands.Sums project) = IsRow line (codes "sums") None × IsPath line.subject project

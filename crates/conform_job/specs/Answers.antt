@@ -54,7 +54,8 @@ AreInfosOf p told infos = (key : Key) (info : FrameInfo) → info_at infos key �
 
 -- the infos have come to have the keys of these asks, which all have one
 pub record Grows (p : JobParts) (told : Option World) (asks : List Ask) (before after : List (Key × FrameInfo)) : Type 0 where
-  pub keys : (q : Key) → is_some (info_at after q) ≡ (is_some (info_at before q) || list_any (is_key q) (keys_of_asks p.reels p.timeline.events asks))
+  pub keys : (q : Key) → is_some (info_at after q) ≡ (is_some (info_at before q)
+      || list_any (is_key q) (keys_of_asks p.reels p.timeline.events asks))
   pub each : AreInfosOf p told after
   pub once : HasEachOnce before → HasEachOnce after
   pub found : All (λ (ask : Ask). IsSome (key_of_ask p.reels p.timeline.events ask)) asks
@@ -79,7 +80,8 @@ unless a None = Ok a
 unless a (Some why) = Err why
 
 abbrev pub IsJudged : Named → ℕ → ℕ → Seen → Result FrameInfo JobFault → Type 0
-IsJudged n width height (seen.Info info) result = (result ≡ unless info (info_refusal n width height (Ok info))) × IsKept info width height result
+IsJudged n width height (seen.Info info) result = (result ≡ unless info (info_refusal n width height (Ok info)))
+    × IsKept info width height result
 IsJudged n width height (seen.Bad bad) result = result ≡ Err (fault.BadFrame n.line n.reel n.source bad)
 IsJudged n width height seen.Absent result = result ≡ Err (fault.MissingFrame n.line n.reel n.source)
 IsJudged n width height seen.Fault result = result ≡ Err fault.SourceFault

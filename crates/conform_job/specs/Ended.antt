@@ -26,7 +26,8 @@ head_count p ask = path_count (option_and_then (path_of_key p.reels) (key_of_ask
 
 -- The fault came at one of these asks, and names it. Those before it have their infos, with one head for each info, and then
 -- its own head was asked for, if it has a path.
-pub record EndAt (p : JobParts) (told : Option World) (asks : List Ask) (infos : List (Key × FrameInfo)) (before after : ℕ) (why : JobFault) : Type 0 where
+pub record EndAt (p : JobParts) (told : Option World) (asks : List Ask) (infos : List (Key × FrameInfo))
+    (before after : ℕ) (why : JobFault) : Type 0 where
   pub passed : List Ask
   pub ask : Ask
   pub others : List Ask

@@ -76,7 +76,8 @@ info_of_key infos key = option_map (λ (info : FrameInfo). (key, info)) (info_at
 
 abbrev pub need_of_side : JobParts → List (Key × FrameInfo) → Side → Option (Key × FrameInfo)
 need_of_side p infos Black = None
-need_of_side p infos (Frame event source) = option_and_then (info_of_key infos) (key_of_ask p.reels p.timeline.events (record { event = event; source = source }))
+need_of_side p infos (Frame event source) = option_and_then (info_of_key infos)
+    (key_of_ask p.reels p.timeline.events (record { event = event; source = source }))
 
 abbrev pub need_of_shot : JobParts → List (Key × FrameInfo) → Shot → Need
 need_of_shot p infos Gap = record { old = None; new = None }

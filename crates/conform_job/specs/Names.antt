@@ -12,7 +12,18 @@ abbrev pub no_job : JobData
 no_job = record {
   parts = record {
     digest = [];
-    project = record { title = []; rate = R24; width = 0; height = 0; black = record { r = 0; g = 0; b = 0; r_in_range = lit≤ tt; g_in_range = lit≤ tt; b_in_range = lit≤ tt }; bands = 0; edl = []; cube = None; reels = []; cuts = [] };
+    project = record {
+      title = [];
+      rate = R24;
+      width = 0;
+      height = 0;
+      black = record { r = 0; g = 0; b = 0; r_in_range = lit≤ tt; g_in_range = lit≤ tt; b_in_range = lit≤ tt };
+      bands = 0;
+      edl = [];
+      cube = None;
+      reels = [];
+      cuts = [];
+    };
     reels = [];
     timeline = record { rate = R24; mode = NonDrop; events = [] };
     look = None;

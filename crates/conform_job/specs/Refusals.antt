@@ -30,7 +30,8 @@ unknown_of entries events = option_map (λ (e : EventRec). UnknownReel e.line) (
 
 abbrev pub info_refusal : Named → ℕ → ℕ → Result FrameInfo DpxFault → Option JobFault
 info_refusal n width height (Err fault) = Some (BadFrame n.line n.reel n.source fault)
-info_refusal n width height (Ok info) = if info.width == width && info.height == height then None else Some (Geometry n.line n.reel n.source)
+info_refusal n width height (Ok info) = if info.width == width && info.height == height then None else Some
+    (Geometry n.line n.reel n.source)
 
 abbrev pub file_refusal : Named → ℕ → ℕ → Option (List ℕ) → Option JobFault
 file_refusal n width height None = Some (MissingFrame n.line n.reel n.source)
@@ -55,7 +56,8 @@ abbrev pub name_of_ask : List EventRec → Ask → Option Named
 name_of_ask events ask = option_map (λ (e : EventRec). named_by e ask.source) (slice_get events ask.event)
 
 abbrev pub ask_refusal : JobParts → Files → Ask → Option JobFault
-ask_refusal p files ask = option_and_then (λ (n : Named). key_refusal p files n (key_of_ask p.reels p.timeline.events ask)) (name_of_ask p.timeline.events ask)
+ask_refusal p files ask = option_and_then (λ (n : Named). key_refusal p files n (key_of_ask p.reels p.timeline.events ask))
+    (name_of_ask p.timeline.events ask)
 
 -- that of the first ask that has one
 abbrev pub asks_refusal : JobParts → Files → List Ask → Option JobFault

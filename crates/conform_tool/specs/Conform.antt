@@ -26,7 +26,8 @@ IsFirst scans scan = slice_get scans 0 ≡ Some scan
 
 module _ {S : Type 0} (world : S → Option World) (faults loads : S → ℕ) (same : S → S → Type 0) where
   -- The run came to this outcome with this output, and each fault has its cause.
-  pub record IsCausedByCrew (path : List ℕ) (extent : Extent) (workers : ℕ) (scans scans_after : List S) (disk disk_after : DiskState) (reached : Outcome) (output : List ℕ) : Type 0 where
+  pub record IsCausedByCrew (path : List ℕ) (extent : Extent) (workers : ℕ) (scans scans_after : List S)
+      (disk disk_after : DiskState) (reached : Outcome) (output : List ℕ) : Type 0 where
     pub reply : IsCrewReply world faults loads same path extent workers scans scans_after disk disk_after reached output
     pub line : reached ≢ Done → output ≡ line_of reached
     pub kind : (reached ≡ Done) ⊎ IsOfRun reached
@@ -41,13 +42,16 @@ module _ {S : Type 0} (world : S → Option World) (faults loads : S → ℕ) (s
     pub untouched_scans : scans_after ≡ scans
     pub untouched_disk : disk_after ≡ disk
 
-  pub record AnsweredByCrew (path : List ℕ) (extent : Extent) (workers : ℕ) (scans scans_after : List S) (disk disk_after : DiskState) (sink sink_after : SinkState) (result : Outcome) : Type 0 where
+  pub record AnsweredByCrew (path : List ℕ) (extent : Extent) (workers : ℕ) (scans scans_after : List S)
+      (disk disk_after : DiskState) (sink sink_after : SinkState) (result : Outcome) : Type 0 where
     pub reached : Outcome
     pub output : List ℕ
     pub put : IsPut sink sink_after reached output result
-    pub crewed : IsCausedByCrew path extent workers scans scans_after disk disk_after reached output ⊎ WereUnread scans scans_after disk disk_after reached output
+    pub crewed : IsCausedByCrew path extent workers scans scans_after disk disk_after reached output
+        ⊎ WereUnread scans scans_after disk disk_after reached output
 
 -- the run with several workers that a command is, or that it is none
 abbrev pub IsCrewOf : Option Command → Option CrewRun → Type 0
 IsCrewOf found (Some crew) = (found ≡ Some (commands.Run crew.project crew.extent crew.workers crew.share)) × (2 ≤ crew.workers)
-IsCrewOf found None = (path : List ℕ) (extent : Extent) (workers share : ℕ) → found ≡ Some (commands.Run path extent workers share) → workers ≤ 1
+IsCrewOf found None = (path : List ℕ) (extent : Extent) (workers share : ℕ) → found ≡ Some (commands.Run path extent workers share)
+    → workers ≤ 1

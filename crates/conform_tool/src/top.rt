@@ -40,7 +40,8 @@ pub struct Ended<S, D> {
 
 /// Does the command that the words spell. It takes 1 to 16 scans that all tell one world or tell none, a disk before its first
 /// call, and the disk of an old reel, which is only read; a run with more than one worker is a crew's, with all scans, and all
-/// else goes to the first scan alone. It hands all scans back in their order, and the disk. A run keeps the headline's promise, as far as it goes,
+/// else goes to the first scan alone. It hands all scans back in their order, and the disk. A run keeps the headline's promise,
+/// as far as it goes,
 /// by any number of workers, wherever it is stopped and whatever it answers, and so does an adoption of frames that are the old
 /// project's.
 pub fn conform<S: Scans + Send, D: Disk + Send, K: Sink, R: Threads + Wait + Sync>(
@@ -62,7 +63,8 @@ pub fn conform<S: Scans + Send, D: Disk + Send, K: Sink, R: Threads + Wait + Syn
     requires first_moment { D.tells ≡ true → (D.history disk).now ≡ 0 }
 
     // A run with several workers.
-    ensures crew { (path : List ℕ) (extent : Extent) (workers share : ℕ) → Spells (texts_of words.now) (commands.Run path extent workers share)
+    ensures crew { (path : List ℕ) (extent : Extent) (workers share : ℕ)
+        → Spells (texts_of words.now) (commands.Run path extent workers share)
         → 2 ≤ workers
         → OnSink K.written K.faults out.old out.new (OnDisk D.tells D.history D.faults disk result.disk
         (AnsweredByCrew S.world S.faults S.loads S.same path extent workers scans.items result.scans.items)) result.outcome }
@@ -78,7 +80,8 @@ pub fn conform<S: Scans + Send, D: Disk + Send, K: Sink, R: Threads + Wait + Syn
 
     ensures handed_back { vec_len result.scans ≡ vec_len scans }
     ensures later { K.faults out.old ≤ K.faults out.new }
-    ensures old_folder { (path : List ℕ) (extent : Extent) (workers share : ℕ) → Spells (texts_of words.now) (commands.Run path extent workers share)
+    ensures old_folder { (path : List ℕ) (extent : Extent) (workers share : ℕ)
+        → Spells (texts_of words.now) (commands.Run path extent workers share)
         → 2 ≤ workers → old.new ≡ old.old }
 
     // What is left alone is the very disk.
@@ -188,7 +191,8 @@ fn by_crew<S: Scans + Send, D: Disk + Send, K: Sink, R: Threads + Wait + Sync>(
     requires no_fault { D.faults disk ≡ 0 }
     requires first_moment { D.tells ≡ true → (D.history disk).now ≡ 0 }
     ensures crew { OnSink K.written K.faults out.old out.new (OnDisk D.tells D.history D.faults disk result.disk
-        (AnsweredByCrew S.world S.faults S.loads S.same crew.now.project crew.now.extent crew.now.workers scans.items result.scans.items)) result.outcome }
+        (AnsweredByCrew S.world S.faults S.loads S.same crew.now.project crew.now.extent crew.now.workers scans.items result.scans.items))
+        result.outcome }
     ensures handed_back { vec_len result.scans ≡ vec_len scans }
     ensures later { K.faults out.old ≤ K.faults out.new }
     ensures untouched { IsLeftAlone disk result.disk result.outcome }

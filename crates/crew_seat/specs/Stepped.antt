@@ -17,7 +17,8 @@ use Rattle.crew_seat.specs.declared.seat.Seat.{Seat}
 module _ {S N C A B D E F : Type 0} where
   -- So many loads at most were made, each counted at the seat and as a miss of its units. One of them may have failed, and each
   -- stop for a source file has its cause in them. The scan is the same loan.
-  pub record HasStepped (told : Option World) (world : S → Option World) (faults loads : S → ℕ) (same : S → S → Type 0) (most : ℕ) (old new : Seat S N C A B D E F) : Type 0 where
+  pub record HasStepped (told : Option World) (world : S → Option World) (faults loads : S → ℕ) (same : S
+      → S → Type 0) (most : ℕ) (old new : Seat S N C A B D E F) : Type 0 where
     pub more : ℕ
     pub failed : Bool
     pub few : more ≤ most
@@ -44,7 +45,8 @@ module _ {S N C A B D E F : Type 0} where
 
   -- What a worker did from its start on: so many loads at most, each counted as a miss, and the cause of each stop for a source
   -- file among them. The scan is the same loan.
-  pub record HasWorked (told : Option World) (world : S → Option World) (faults loads : S → ℕ) (same : S → S → Type 0) (most : ℕ) (old new : Seat S N C A B D E F) : Type 0 where
+  pub record HasWorked (told : Option World) (world : S → Option World) (faults loads : S → ℕ) (same : S
+      → S → Type 0) (most : ℕ) (old new : Seat S N C A B D E F) : Type 0 where
     pub few : new.loads ≤ most
     pub units : HasCounted old.units new.loads new.units
     pub scanned : IsScanned world faults loads new.loads (new.has_failed ≡ true) old.scan new.scan

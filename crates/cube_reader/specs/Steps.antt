@@ -44,7 +44,8 @@ bounds count words = judged (values count words)
 
 abbrev pub small_number : (greatest : ℕ) → List ℕ → Option ℕ
 small_number greatest token =
-    if nat_le 1 (length token) && nat_le (length token) 6 && list_all is_ascii_digit token && nat_le 2 (digits_value 10 token) && nat_le (digits_value 10 token) greatest
+    if nat_le 1 (length token) && nat_le (length token) 6 && list_all is_ascii_digit token
+    && nat_le 2 (digits_value 10 token) && nat_le (digits_value 10 token) greatest
     then Some (digits_value 10 token) else None
 
 abbrev pub size_in : (greatest : ℕ) → List (List ℕ) → Option ℕ
@@ -92,7 +93,15 @@ noted s k = record {
 -- what no line says: no size, and inputs from 0 to 1
 abbrev pub new_state : State
 new_state = record {
-  seen = record { title = false; line_size = false; cube_size = false; domain_min = false; domain_max = false; line_range = false; cube_range = false };
+  seen = record {
+    title = false;
+    line_size = false;
+    cube_size = false;
+    domain_min = false;
+    domain_max = false;
+    line_range = false;
+    cube_range = false;
+  };
   size = 0;
   low = on_all (record { 0 = pos 0 } ∷ []) 0;
   high = on_all (record { 0 = pos 1000000000 } ∷ []) 0;
@@ -181,7 +190,8 @@ After lines n (Err NoMemory) r = Unit {0}
 
 -- a line is read behind those before it, in each text where it is the next
 abbrev pub ReadsLine : Line → Reading → Result (Unit {0}) (Fail CubeKind) → Reading → Type 0
-ReadsLine line before answer after = (lines : List Line) → slice_get lines before.lines ≡ Some line → IsReading lines before.lines before → After lines before.lines answer after
+ReadsLine line before answer after = (lines : List Line) → slice_get lines before.lines ≡ Some line
+    → IsReading lines before.lines before → After lines before.lines answer after
 
 abbrev pub ReadsAll : List Line → Result Reading (Fail CubeFault) → Type 0
 ReadsAll lines (Ok r) = IsReading lines (length lines) r

@@ -36,4 +36,5 @@ pub record IsTable (t : Table) : Type 0 where
   pub low : (channel : ℕ) → channel < 3 → IsBound (units t.low channel)
   pub high : (channel : ℕ) → channel < 3 → IsBound (units t.high channel)
   pub order : (channel : ℕ) → channel < 3 → units t.low channel <ℤ units t.high channel
-  pub values : (n channel : ℕ) → n < length t.entries → channel < 3 → (pos 0 ≤ℤ units (slice_index_or t.entries n []) channel) × (units (slice_index_or t.entries n []) channel ≤ℤ pos 1000000000)
+  pub values : (n channel : ℕ) → n < length t.entries → channel < 3 → (pos 0 ≤ℤ units (slice_index_or t.entries n []) channel)
+      × (units (slice_index_or t.entries n []) channel ≤ℤ pos 1000000000)

@@ -143,8 +143,10 @@ abbrev pub keyword_fault : (before : List Line) (line : Line) → Option CubeKin
 keyword_fault before line =
     if list_any is_data before || not (is_known line) || list_any (λ m. bytes_eq (word m) (word line)) before then Some Keyword
     else if says "TITLE" line then None
-    else if says "LUT_1D_SIZE" line then (if list_any (says "LUT_3D_SIZE") before then Some Both else if is_size 65536 (arguments line) then None else Some Size)
-    else if says "LUT_3D_SIZE" line then (if list_any (says "LUT_1D_SIZE") before then Some Both else if is_size 129 (arguments line) then None else Some Size)
+    else if says "LUT_1D_SIZE" line then (if list_any (says "LUT_3D_SIZE") before then Some Both else if is_size 65536
+    (arguments line) then None else Some Size)
+    else if says "LUT_3D_SIZE" line then (if list_any (says "LUT_1D_SIZE") before then Some Both else if is_size 129
+    (arguments line) then None else Some Size)
     else if is_range_line line then bounds_fault 2 line
     else bounds_fault 3 line
 

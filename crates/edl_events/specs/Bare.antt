@@ -13,7 +13,9 @@ use Rattle.edl_events.specs.Pictures.{picture_with, last_out}
 
 abbrev pub bare_by : Rate → List Line → ℕ → Line → Result LineKind LineFault → Option EventRec
 bare_by rate lines i line (Ok (Event number reel transition spans)) =
-    result_ok (picture_with rate (mode_after (take i lines)) (record_mode lines) (last_out rate (record_mode lines) (take i lines)) (count_by is_picture (take i lines)) (i + 1) None line.bytes number reel transition spans)
+    result_ok (picture_with rate (mode_after (take i lines)) (record_mode lines)
+    (last_out rate (record_mode lines) (take i lines)) (count_by is_picture (take i lines))
+    (i + 1) None line.bytes number reel transition spans)
 bare_by rate lines i line (Ok _) = None
 bare_by rate lines i line (Err _) = None
 

@@ -28,7 +28,8 @@ abbrev pub fault_by : Rate → List Line → ℕ → Line → Result LineKind Li
 fault_by rate lines i line (Err by_itself) = Some (fault.Line by_itself)
 fault_by rate lines i line (Ok (Fcm mode)) = result_err (unless (can_count rate mode) (fault.Line BadFcm))
 fault_by rate lines i line (Ok (Motion reel speed trigger)) =
-    result_err (label_number rate (mode_after (take i lines)) line.bytes trigger >>= (λ _. unless (is_some (owner_after (take i lines) reel)) fault.StrayMotion))
+    result_err (label_number rate (mode_after (take i lines)) line.bytes trigger
+    >>= (λ _. unless (is_some (owner_after (take i lines) reel)) fault.StrayMotion))
 fault_by rate lines i line (Ok (Event number reel transition times)) = result_err (picture_at rate lines i line number reel transition)
 fault_by rate lines i line (Ok _) = None
 

@@ -22,7 +22,9 @@ AcceptsWellMade = (rate : Rate) (text : List ℕ) (list : EventList) → list_of
 -- times as numbers of their days
 abbrev pub AreTimes : Rate → Mode → Mode → Times → Type 0
 AreTimes rate mode record_ times =
-    (times.src_in < frames_in_day rate mode) × (times.src_out < frames_in_day rate mode) × (times.rec_in < frames_in_day rate record_) × (times.rec_out < frames_in_day rate record_)
+    (times.src_in < frames_in_day rate mode) × (times.src_out < frames_in_day rate mode)
+    × (times.rec_in < frames_in_day rate record_) × (times.rec_out < frames_in_day rate record_)
 
 abbrev pub IsInDay : Rate → Mode → Mode → EventRec → Type 0
-IsInDay rate mode record_ e = (e.src_in < frames_in_day rate mode) × (e.src_out < frames_in_day rate mode) × (e.rec_out < frames_in_day rate record_)
+IsInDay rate mode record_ e = (e.src_in < frames_in_day rate mode) × (e.src_out < frames_in_day rate mode)
+    × (e.rec_out < frames_in_day rate record_)

@@ -67,7 +67,8 @@ out_of (Err kind) = None
 -- the record out of the last picture line of these
 abbrev pub last_out : Rate → Mode → List Line → Option ℕ
 last_out rate record_ before =
-    option_and_then (λ p. option_and_then (λ (line : Line). out_of (times_after rate record_ (take p before) line)) (slice_get before p)) (last_or None (places is_picture before))
+    option_and_then (λ p. option_and_then (λ (line : Line). out_of (times_after rate record_ (take p before) line)) (slice_get before p))
+    (last_or None (places is_picture before))
 
 abbrev pub is_at : Option ℕ → ℕ → Bool
 is_at place n = unwrap_or (option_map (nat_eq n) place) false
@@ -87,7 +88,8 @@ transition_fits before times (Wipe code d) = do
 
 -- The lines before a picture line say the mode in force, the record mode, the record out of the last picture line, and how many
 -- picture lines there are.
-abbrev pub picture_with : Rate → Mode → Mode → Option ℕ → ℕ → ℕ → Option ℤ → List ℕ → ℕ → List ℕ → Transition → List Span → Result EventRec ListKind
+abbrev pub picture_with : Rate → Mode → Mode → Option ℕ → ℕ → ℕ → Option ℤ → List ℕ → ℕ → List ℕ → Transition
+    → List Span → Result EventRec ListKind
 picture_with rate mode record_ last count line speed bytes number reel transition spans = do
   times ← times_of rate mode record_ bytes spans
   _ ← unless (nat_le times.rec_in times.rec_out) fault.Backwards
@@ -108,5 +110,6 @@ picture_with rate mode record_ last count line speed bytes number reel transitio
 
 abbrev pub picture_at : Rate → List Line → ℕ → Line → ℕ → List ℕ → Transition → Result EventRec ListKind
 picture_at rate lines i line number reel transition =
-    picture_with rate (mode_after (take i lines)) (record_mode lines) (last_out rate (record_mode lines) (take i lines)) (count_by is_picture (take i lines)) (i + 1) (speed_at lines i)
+    picture_with rate (mode_after (take i lines)) (record_mode lines) (last_out rate (record_mode lines) (take i lines))
+    (count_by is_picture (take i lines)) (i + 1) (speed_at lines i)
     line.bytes number reel transition (spans_of_kind line.kind)

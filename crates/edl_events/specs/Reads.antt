@@ -1,6 +1,7 @@
 -- What is known after some of a text's lines: words of private clauses.
 --     Knows rate lines n state      what the state says of the first n lines
---     Reads rate lines n state events      the first n lines have no fault of the first round, and these are their events but for their speeds
+--     Reads rate lines n state events      the first n lines have no fault of the first round, and these are their events but
+--         for their speeds
 use Rattle.std.specs.Prelude.{◌≡◌, ℕ, ℤ, nat_abs, ◌+◌, ◌-◌, ◌<◌, ◌≤◌, ◌==◌, if◌then◌else◌, IfSome, false, List, length, take, slice_get, Option, Some, None, Result, Ok, Err, unwrap_or}
 use Rattle.std.specs.Option.{option_map}
 use Rattle.std.specs.List.{count_by, last_or, All, AllPairs}
@@ -85,21 +86,34 @@ After rate lines n (Err NoMemory) r = Unit {0}
 -- a line is read behind those before it, in each text where it is the next
 abbrev pub ReadsLine : Rate → Line → Reading → Result (Unit {0}) (Fail ListKind) → Reading → Type 0
 ReadsLine rate line before answer after =
-    (lines : List Line) → slice_get lines before.state.lines ≡ Some line → IsReading rate lines before.state.lines before → After rate lines before.state.lines answer after
+    (lines : List Line) → slice_get lines before.state.lines ≡ Some line → IsReading rate lines before.state.lines before
+    → After rate lines before.state.lines answer after
 
 -- a table with one more event line, or none
 abbrev pub IsAdded : Option Head → ℕ → Table → Table → Type 0
 IsAdded None place old new =
     (new.number ≡ old.number) × HasCounts new (count_of old.counts) × HasPlaces new (place_of old.places)
 IsAdded (Some head) place old new =
-    (new.number ≡ Some head.number) × HasCounts new (line_counts old head.number head.reel) × HasPlaces new (line_places old head.number place head.reel)
+    (new.number ≡ Some head.number) × HasCounts new (line_counts old head.number head.reel)
+    × HasPlaces new (line_places old head.number place head.reel)
 
 -- the speed of an event line behind a motion line for the line at a place
 abbrev pub noted : Option ℤ → ℕ → ℤ → ℕ → Option ℤ
 noted old place speed event = if place == event then Some (unwrap_or old speed) else old
 
 abbrev pub set_speed : Option ℤ → EventRec → EventRec
-set_speed speed e = record { line = e.line; number = e.number; reel = e.reel; src_mode = e.src_mode; src_in = e.src_in; src_out = e.src_out; rec_in = e.rec_in; rec_out = e.rec_out; speed = speed; transition = e.transition }
+set_speed speed e = record {
+  line = e.line;
+  number = e.number;
+  reel = e.reel;
+  src_mode = e.src_mode;
+  src_in = e.src_in;
+  src_out = e.src_out;
+  rec_in = e.rec_in;
+  rec_out = e.rec_out;
+  speed = speed;
+  transition = e.transition;
+}
 
 -- an event with the speed of its line's place
 abbrev pub with_speed_of : (ℕ → Option ℤ) → EventRec → EventRec

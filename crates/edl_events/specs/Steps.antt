@@ -43,19 +43,54 @@ abbrev pub IsInDayOf : Rate → State → EventRec → Type 0
 IsInDayOf rate s e = IsInDay rate s.mode (unwrap_or s.record_mode s.mode) e
 
 abbrev pub plain_step : State → Step
-plain_step s = record { state = record { lines = s.lines + 1; mode = s.mode; record_mode = s.record_mode; last_out = s.last_out; pictures = s.pictures }; event = None }
+plain_step s = record {
+  state = record {
+    lines = s.lines + 1;
+    mode = s.mode;
+    record_mode = s.record_mode;
+    last_out = s.last_out;
+    pictures = s.pictures;
+  };
+  event = None;
+}
 
 abbrev pub event_step : State → EventRec → Step
 event_step s e = record {
-  state = record { lines = s.lines + 1; mode = s.mode; record_mode = Some (unwrap_or s.record_mode s.mode); last_out = Some e.rec_out; pictures = s.pictures + 1 };
+  state = record {
+    lines = s.lines + 1;
+    mode = s.mode;
+    record_mode = Some (unwrap_or s.record_mode s.mode);
+    last_out = Some e.rec_out;
+    pictures = s.pictures + 1;
+  };
   event = Some e;
 }
 
 abbrev pub step_of : Rate → State → List ℕ → LineKind → Result Step ListKind
 step_of rate s bytes (Fcm mode) =
-    if can_count rate mode then Ok (record { state = record { lines = s.lines + 1; mode = mode; record_mode = s.record_mode; last_out = s.last_out; pictures = s.pictures }; event = None })
+    if can_count rate mode then Ok
+    (record {
+      state = record {
+        lines = s.lines + 1;
+        mode = mode;
+        record_mode = s.record_mode;
+        last_out = s.last_out;
+        pictures = s.pictures;
+      };
+      event = None;
+    })
     else Err (fault.Line BadFcm)
-step_of rate s bytes (Event number reel transition spans) = picture_from rate s bytes number reel transition spans >>= (λ e. Ok (event_step s e))
+step_of rate s bytes (Event number reel transition spans) = picture_from rate s bytes number reel transition spans
+    >>= (λ e. Ok (event_step s e))
 step_of rate s bytes (Skipped number reel) =
-    Ok (record { state = record { lines = s.lines + 1; mode = s.mode; record_mode = Some (unwrap_or s.record_mode s.mode); last_out = s.last_out; pictures = s.pictures }; event = None })
+    Ok (record {
+      state = record {
+        lines = s.lines + 1;
+        mode = s.mode;
+        record_mode = Some (unwrap_or s.record_mode s.mode);
+        last_out = s.last_out;
+        pictures = s.pictures;
+      };
+      event = None;
+    })
 step_of rate s bytes _ = Ok (plain_step s)

@@ -88,7 +88,8 @@ more_places table place reel = with_place (count_of table.counts) (place_of tabl
 
 -- with one motion line of a reel more
 abbrev pub with_motion : (List ℕ → Count) → List ℕ → List ℕ → Count
-with_motion counts reel q = if bytes_eq reel q then record { lines = (counts reel).lines; moved = one_more (counts reel).moved } else counts q
+with_motion counts reel q = if bytes_eq reel q then record { lines = (counts reel).lines; moved = one_more (counts reel).moved }
+    else counts q
 
 -- each number is below n
 abbrev pub AllBelow : ℕ → List ℕ → Type 0

@@ -11,8 +11,10 @@ use Rattle.frame_share.specs.Units.{IsPlaced, Tally, missed}
 
 -- The ask found the frame of the key, which is there; or the key isn't there, and the ticket has it; or nothing was done.
 abbrev pub IsAsked : {N : Type 0} → ShareView → Key → Answer N → ShareView → Type 0
-IsAsked before key (answers.Hit frame) after = (has_key before.capacity before.steps key ≡ true) × (frame.value.key ≡ key) × (after ≡ with_step before (Ask key true))
-IsAsked before key (answers.Miss ticket) after = (has_key before.capacity before.steps key ≡ false) × (ticket ≡ key) × (after ≡ with_step before (Ask key false))
+IsAsked before key (answers.Hit frame) after = (has_key before.capacity before.steps key ≡ true)
+    × (frame.value.key ≡ key) × (after ≡ with_step before (Ask key true))
+IsAsked before key (answers.Miss ticket) after = (has_key before.capacity before.steps key ≡ false)
+    × (ticket ≡ key) × (after ≡ with_step before (Ask key false))
 IsAsked before key answers.NoMemory after = after ≡ before
 
 abbrev pub IsAskedBy : {N : Type 0} → Tally → Answer N → Tally → Type 0

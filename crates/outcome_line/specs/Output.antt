@@ -132,7 +132,8 @@ reels_line fault = ended (codes "refused " ++ reels_number fault.kind ++ codes "
 
 -- a key of the project; reel 0 is the top
 abbrev pub project_line : ProjectFault → List ℕ
-project_line fault = ended (codes "refused " ++ project_number fault.kind ++ codes " key " ++ decimal fault.key ++ codes " reel " ++ decimal fault.reel)
+project_line fault = ended (codes "refused " ++ project_number fault.kind ++ codes " key " ++ decimal fault.key
+    ++ codes " reel " ++ decimal fault.reel)
 
 -- a source frame, as the event at a line of the list names it, and the number of its header's fault if it has one
 abbrev pub fault_text : Option (List ℕ) → List ℕ
@@ -141,7 +142,8 @@ fault_text (Some number) = codes " fault " ++ number
 
 abbrev pub source_line : List ℕ → ℕ → List ℕ → ℤ → Option (List ℕ) → List ℕ
 source_line number at reel source fault =
-    ended (codes "refused " ++ number ++ codes " line " ++ decimal at ++ codes " reel " ++ reel ++ codes " frame " ++ signed_decimal source ++ fault_text fault)
+    ended (codes "refused " ++ number ++ codes " line " ++ decimal at ++ codes " reel " ++ reel ++ codes " frame "
+    ++ signed_decimal source ++ fault_text fault)
 
 -- a cut of the project, counted from 1
 abbrev pub cut_line : ℕ → List ℕ
@@ -204,7 +206,8 @@ old_line line = codes "old " ++ line
 
 -- a frame, the digest that is kept of it and the one that was found
 abbrev pub damaged_line : ℕ → (kept found : List ℕ) → List ℕ
-damaged_line frame kept found = ended (codes "damaged frame " ++ decimal frame ++ codes " " ++ encode_lower kept ++ codes " " ++ encode_lower found)
+damaged_line frame kept found = ended (codes "damaged frame " ++ decimal frame ++ codes " " ++ encode_lower kept
+    ++ codes " " ++ encode_lower found)
 
 abbrev pub changed_line : List ℕ → ℕ → List ℕ
 changed_line reel source = ended (codes "changed reel " ++ reel ++ codes " frame " ++ decimal source)

@@ -61,4 +61,5 @@ unfoldable pub plan_line : JobParts → ℕ → List ℕ
 plan_line p i = reel_line p i ++ frame_line p.timeline i
 
 unfoldable pub plan_of : JobParts → List ℕ
-plan_of p = flat_map (plan_line p) (range_with_len 0 (frame_count p.timeline.events)) ++ ended (codes "frames " ++ decimal (frame_count p.timeline.events))
+plan_of p = flat_map (plan_line p) (range_with_len 0 (frame_count p.timeline.events))
+    ++ ended (codes "frames " ++ decimal (frame_count p.timeline.events))

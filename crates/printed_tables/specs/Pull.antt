@@ -29,7 +29,8 @@ size_of range = range.end - range.start
 
 -- the reel's name, the labels of the first and of the last frame (SMPTE ST 12-1), and how many frames there are
 unfoldable pub range_line : Rate → PullRange → ReelEntry → List ℕ
-range_line rate range e = spaced_line (e.name ∷ label_word rate (mode_of e) range.start ∷ label_word rate (mode_of e) (range.end - 1) ∷ decimal (size_of range) ∷ [])
+range_line rate range e = spaced_line (e.name ∷ label_word rate (mode_of e) range.start
+    ∷ label_word rate (mode_of e) (range.end - 1) ∷ decimal (size_of range) ∷ [])
 
 -- no line where the table has no such reel
 abbrev pub line_at : Rate → List ReelEntry → PullRange → List ℕ

@@ -63,7 +63,8 @@ abbrev pub IsOldSoundIn : Option World → JobData → Files → Type 0
 IsOldSoundIn told old files = IfSome told (λ world. IsOldSound old world files)
 
 -- What a run that ended so comes to behind an adoption: the outcome of its end, or want of memory for the report.
-pub record ReportsAdoption (job : JobData) (done : Adopted) (how : RunEnd) (report : Report) (reached : Outcome) (output : List ℕ) : Type 0 where
+pub record ReportsAdoption (job : JobData) (done : Adopted) (how : RunEnd) (report : Report) (reached : Outcome)
+    (output : List ℕ) : Type 0 where
   pub reached_is : (reached ≡ outcome_of_end job.parts.reels how) ⊎ (reached ≡ outcome.NoMemory)
   pub form : reached ≡ outcome.Done → output ≡ adopt_text done report
 
@@ -72,7 +73,8 @@ abbrev pub share_count : ℕ
 share_count = 8
 
 -- The rest was run in the folder as `run` does, and its report put with the number of frames that were taken over.
-pub record IsRest (job : JobData) (done : Adopted) (told : Option World) (loads loads_after : ℕ) (disk disk_after : DiskState) (reached : Outcome) (output : List ℕ) : Type 0 where
+pub record IsRest (job : JobData) (done : Adopted) (told : Option World) (loads loads_after : ℕ)
+    (disk disk_after : DiskState) (reached : Outcome) (output : List ℕ) : Type 0 where
   -- what `run` would have put
   pub run_output : List ℕ
   pub run : IsJobRun job Whole (range_of Whole (frames_of job)) share_count told loads loads_after disk disk_after reached run_output
@@ -101,7 +103,8 @@ pub record IsPromised (job : JobData) (told : Option World) (disk disk_after : D
   pub whole : reached ≡ outcome.Done → HasWhole job 0 (frames_of job) told disk.history disk_after.history
 
 -- Frames of the old folder were taken over into the new one, as far as they have an intact donor, and the rest was run.
-pub record IsAdoption (job old_job : JobData) (told : Option World) (loads loads_after : ℕ) (old old_after disk disk_after : DiskState) (reached : Outcome) (output : List ℕ) : Type 0 where
+pub record IsAdoption (job old_job : JobData) (told : Option World) (loads loads_after : ℕ)
+    (old old_after disk disk_after : DiskState) (reached : Outcome) (output : List ℕ) : Type 0 where
   -- what the adoption came to, and the new folder behind it
   pub adopted : Result Adopted AdoptFault
   pub between : DiskState
@@ -129,7 +132,8 @@ pub record CameTo (told : Option World) (path : List ℕ) (job : JobData) (loads
   pub texts : loads_after ≡ count_after (2 + cube_count job.parts.project.cube) loads
 
 -- The old project came to this job, frames were taken over, and the rest was run.
-pub record HasAdopted (job : JobData) (told : Option World) (old_path : List ℕ) (old old_after disk disk_after : DiskState) (loads loads_after : ℕ) (reached : Outcome) (output : List ℕ) : Type 0 where
+pub record HasAdopted (job : JobData) (told : Option World) (old_path : List ℕ) (old old_after disk disk_after : DiskState)
+    (loads loads_after : ℕ) (reached : Outcome) (output : List ℕ) : Type 0 where
   pub old_job : JobData
   -- the loads when it was planned
   pub planned : ℕ
@@ -140,7 +144,8 @@ pub record HasAdopted (job : JobData) (told : Option World) (old_path : List ℕ
   pub sound : disk.tells ≡ true → IsOldSoundIn told old_job (view_of old.history) → IsPromised job told disk disk_after reached
 
 -- The old project came to no job, and both folders are as they were.
-pub record HasNoOldJob (told : Option World) (old_path : List ℕ) (old old_after disk disk_after : DiskState) (loads loads_after : ℕ) (reached : Outcome) : Type 0 where
+pub record HasNoOldJob (told : Option World) (old_path : List ℕ) (old old_after disk disk_after : DiskState)
+    (loads loads_after : ℕ) (reached : Outcome) : Type 0 where
   -- what it came to
   pub found : Outcome
   pub reached_is : reached ≡ of_old_project found
@@ -148,13 +153,15 @@ pub record HasNoOldJob (told : Option World) (old_path : List ℕ) (old old_afte
   pub untouched : old_after ≡ old
 
 -- what the command comes to once its project came to this job
-abbrev pub GoesOn : JobData → (old_path : List ℕ) → Option World → (loads loads_after : ℕ) → (old old_after disk disk_after : DiskState) → Outcome → List ℕ → Type 0
+abbrev pub GoesOn : JobData → (old_path : List ℕ) → Option World → (loads loads_after : ℕ)
+    → (old old_after disk disk_after : DiskState) → Outcome → List ℕ → Type 0
 GoesOn job old_path told loads loads_after old old_after disk disk_after reached output =
     HasAdopted job told old_path old old_after disk disk_after loads loads_after reached output
     ⊎ HasNoOldJob told old_path old old_after disk disk_after loads loads_after reached
 
 -- The project came to a job, and then the old one was looked at.
-pub record HasJob (told : Option World) (path old_path : List ℕ) (old old_after disk disk_after : DiskState) (loads loads_after : ℕ) (reached : Outcome) (output : List ℕ) : Type 0 where
+pub record HasJob (told : Option World) (path old_path : List ℕ) (old old_after disk disk_after : DiskState)
+    (loads loads_after : ℕ) (reached : Outcome) (output : List ℕ) : Type 0 where
   pub job : JobData
   -- the loads when it was planned
   pub planned : ℕ
@@ -162,11 +169,13 @@ pub record HasJob (told : Option World) (path old_path : List ℕ) (old old_afte
   pub went : GoesOn job old_path told planned loads_after old old_after disk disk_after reached output
 
 -- The project came to no job. Both folders are as they were, and the old project was not looked at.
-pub record HasNoJob (told : Option World) (path : List ℕ) (old old_after disk disk_after : DiskState) (loads loads_after : ℕ) (reached : Outcome) : Type 0 where
+pub record HasNoJob (told : Option World) (path : List ℕ) (old old_after disk disk_after : DiskState)
+    (loads loads_after : ℕ) (reached : Outcome) : Type 0 where
   pub unplanned : IsUnplanned told path disk disk_after loads loads_after reached
   pub untouched : old_after ≡ old
 
-abbrev pub IsAdoptReply : (path old_path : List ℕ) → Option World → (loads loads_after : ℕ) → (old old_after disk disk_after : DiskState) → Outcome → List ℕ → Type 0
+abbrev pub IsAdoptReply : (path old_path : List ℕ) → Option World → (loads loads_after : ℕ)
+    → (old old_after disk disk_after : DiskState) → Outcome → List ℕ → Type 0
 IsAdoptReply path old_path told loads loads_after old old_after disk disk_after reached output =
     HasJob told path old_path old old_after disk disk_after loads loads_after reached output
     ⊎ HasNoJob told path old old_after disk disk_after loads loads_after reached

@@ -33,7 +33,8 @@ told_by world (scan ∷ scans) = world scan
 
 -- the count of one of the scans rose
 abbrev pub HasFailed : {S : Type 0} → (S → ℕ) → List S → List S → Type 0
-HasFailed faults old new = (k : ℕ) × (k < length old) × ((scan : _) → HasRisen (faults (slice_index_or old k scan)) (faults (slice_index_or new k scan)))
+HasFailed faults old new = (k : ℕ) × (k < length old) × ((scan : _)
+    → HasRisen (faults (slice_index_or old k scan)) (faults (slice_index_or new k scan)))
 
 module _ {S : Type 0} (world : S → Option World) (faults loads : S → ℕ) (same : S → S → Type 0) where
   -- so many loads were made of the first scan, and none of them failed; the others are untouched
@@ -46,7 +47,8 @@ module _ {S : Type 0} (world : S → Option World) (faults loads : S → ℕ) (s
     pub others : drop 1 new ≡ drop 1 old
 
   -- The job was run in the folder by a crew, over a range of its frames.
-  pub record IsJobRunByCrew (job : JobData) (extent : Extent) (range : FrameRange) (told : Option World) (workers : ℕ) (old new : List S) (disk disk_after : DiskState) (reached : Outcome) (output : List ℕ) : Type 0 where
+  pub record IsJobRunByCrew (job : JobData) (extent : Extent) (range : FrameRange) (told : Option World)
+      (workers : ℕ) (old new : List S) (disk disk_after : DiskState) (reached : Outcome) (output : List ℕ) : Type 0 where
     pub how : RunEnd
     pub report : Report
     pub reply : ReportsEnd job how (report_text extent range report) reached output
@@ -56,20 +58,23 @@ module _ {S : Type 0} (world : S → Option World) (faults loads : S → ℕ) (s
     pub log : List ShareStep
     -- there are as many workers as were asked for, at most one a scan
     pub ran : MatchOption steps (TookNoSteps job disk.tells disk.history disk_after.history how report log)
-        (λ all. TookSteps job range.low range.high told (min workers (length old)) disk.tells disk.history disk_after.history all how report log)
+        (λ all. TookSteps job range.low range.high told (min workers (length old)) disk.tells disk.history
+        disk_after.history all how report log)
     pub keeps : IsSafeRun job range told how disk disk_after
     -- what was done with the scans: as many loads as were reported
     pub scans : AreWorked world faults loads same (min workers (length old)) report.loads (how ≡ ends.SourceFault) old new
     pub changed : IsChange how → 1 ≤ report.loads
 
   -- The project came to this job, which a crew ran in the folder, as far as it was asked for.
-  pub record RanItsJobByCrew (path : List ℕ) (extent : Extent) (workers : ℕ) (old new : List S) (disk disk_after : DiskState) (reached : Outcome) (output : List ℕ) : Type 0 where
+  pub record RanItsJobByCrew (path : List ℕ) (extent : Extent) (workers : ℕ) (old new : List S)
+      (disk disk_after : DiskState) (reached : Outcome) (output : List ℕ) : Type 0 where
     pub job : JobData
     pub comes : IfSome (told_by world old) (λ files. ComesTo (file_at files) path (Ok job.parts))
     -- the scans when it was planned, with the first of them
     pub planned : List S
     pub texts : HasFirstLoaded (2 + cube_count job.parts.project.cube) old planned
-    pub ran : IsJobRunByCrew job extent (range_of extent (frames_of job)) (told_by world old) workers planned new disk disk_after reached output
+    pub ran : IsJobRunByCrew job extent (range_of extent (frames_of job)) (told_by world old) workers
+        planned new disk disk_after reached output
 
   -- The project came to no job, the folder is as it was, and so are all scans but the first, which is handed back as it was lent.
   pub record IsUnplannedByCrew (path : List ℕ) (old new : List S) (disk disk_after : DiskState) (reached : Outcome) : Type 0 where
@@ -79,7 +84,8 @@ module _ {S : Type 0} (world : S → Option World) (faults loads : S → ℕ) (s
     pub size : length new ≡ length old
     pub texts : (scan : S) → AreLoaded 1 3 (loads (slice_index_or old 0 scan)) (loads (slice_index_or new 0 scan))
     -- of a refused one the files up to the one that has the fault
-    pub refused : (scan : S) → HasLoadedFor (told_by world old) path (loads (slice_index_or old 0 scan)) (loads (slice_index_or new 0 scan)) reached
+    pub refused : (scan : S) → HasLoadedFor (told_by world old) path (loads (slice_index_or old 0 scan))
+        (loads (slice_index_or new 0 scan)) reached
     pub steady : reached ≢ outcome.SourceFault → (scan : S) → faults (slice_index_or new 0 scan) ≡ faults (slice_index_or old 0 scan)
     pub later : (scan : S) → faults (slice_index_or old 0 scan) ≤ faults (slice_index_or new 0 scan)
     pub told : (scan : S) → world (slice_index_or new 0 scan) ≡ world (slice_index_or old 0 scan)

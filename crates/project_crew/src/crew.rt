@@ -103,7 +103,8 @@ fn run_job<S: Scans + Send, D: Disk + Send, R: Threads + Wait + Sync>(
     requires no_fault { D.faults disk ≡ 0 }
     requires first_moment { D.tells ≡ true → (D.history disk).now ≡ 0 }
     ensures ran { Replies result.result (OnDisk D.tells D.history D.faults disk result.disk
-        (IsJobRunByCrew S.world S.faults S.loads S.same job.now extent range (told_by S.world scans.items) workers scans.items result.scans.items)) }
+        (IsJobRunByCrew S.world S.faults S.loads S.same job.now extent range (told_by S.world scans.items)
+        workers scans.items result.scans.items)) }
     ensures kind { MatchResult result.result (λ text. Unit {0}) IsOfRun }
     ensures handed_back { vec_len result.scans ≡ vec_len scans }
 

@@ -13,4 +13,5 @@ OneAnswer = (files : Files) (path : List ℕ) (a b : Result JobParts Refused) �
 -- So the job that it comes to is the only one, and a project with a job has no refusal.
 pub record OneJob : Type 0 where
   pub one : (files : Files) (path : List ℕ) (a b : JobParts) → ComesTo files path (Ok a) → ComesTo files path (Ok b) → a ≡ b
-  pub apart : (files : Files) (path : List ℕ) (parts : JobParts) (refusal : Refused) → ComesTo files path (Ok parts) → ComesTo files path (Err refusal) → ⊥
+  pub apart : (files : Files) (path : List ℕ) (parts : JobParts) (refusal : Refused) → ComesTo files path (Ok parts)
+      → ComesTo files path (Err refusal) → ⊥

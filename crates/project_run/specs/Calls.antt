@@ -49,10 +49,12 @@ abbrev pub IsLeftAlone : {A : Type 0} → A → A → Outcome → Type 0
 IsLeftAlone before after reached = IsRefusal reached → after ≡ before
 
 -- Of a refused project no more heads were asked for than its refusal determines.
-pub record LeavesScanFor {S : Type 0} (world : S → Option World) (faults heads : S → ℕ) (same : S → S → Type 0) (path : List ℕ) (result : Result (Vec ℕ Global) Outcome) (before after : S) : Type 0 where
+pub record LeavesScanFor {S : Type 0} (world : S → Option World) (faults heads : S → ℕ) (same : S → S
+    → Type 0) (path : List ℕ) (result : Result (Vec ℕ Global) Outcome) (before after : S) : Type 0 where
   pub lent : LeavesScan world faults same (result ≡ Err outcome.SourceFault) before after
   pub refused_heads : IfErr result (HasInspectedFor (world before) path (heads before) (heads after))
 
-pub record LeavesDiskFor {D : Type 0} (faults : D → ℕ) (loans : D → List Loan) (result : Result (Vec ℕ Global) Outcome) (before after : D) : Type 0 where
+pub record LeavesDiskFor {D : Type 0} (faults : D → ℕ) (loans : D → List Loan) (result : Result (Vec ℕ Global) Outcome)
+    (before after : D) : Type 0 where
   pub lent : LeavesDisk faults loans (result ≡ Err outcome.DiskFault) before after
   pub untouched : IfErr result (IsLeftAlone before after)

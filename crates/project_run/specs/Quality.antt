@@ -14,7 +14,8 @@ use Rattle.project_run.specs.Look.{HasSeen, IsBehindLook, IsLookReply}
 use Rattle.project_run.specs.Calls.{DiskState}
 
 -- The frames of what the ledger has were counted, each kind in its column: it came to their table, over the files of the folder.
-pub record IsCounted (kinds : List ProbeKind) (job : JobData) (view : ViewState) (disk : DiskState) (reached : Outcome) (output : List ℕ) : Type 0 where
+pub record IsCounted (kinds : List ProbeKind) (job : JobData) (view : ViewState) (disk : DiskState)
+    (reached : Outcome) (output : List ℕ) : Type 0 where
   pub kind : IsBehindLook reached
   pub form : reached ≡ outcome.Done → disk.tells ≡ true → output ≡ quality_table kinds job view (view_of disk.history)
   -- of a folder that is sound it is the table over the definition's files
@@ -25,8 +26,10 @@ pub record IsCounted (kinds : List ProbeKind) (job : JobData) (view : ViewState)
 
 -- The ledger was looked at and the frames were counted, and at no moment was the folder changed.
 abbrev pub IsTabled : List ProbeKind → JobData → DiskState → DiskState → Outcome → List ℕ → Type 0
-IsTabled kinds job disk disk_after reached output = HasSeen job disk disk_after reached (λ view. IsCounted kinds job view disk reached output)
+IsTabled kinds job disk disk_after reached output = HasSeen job disk disk_after reached
+    (λ view. IsCounted kinds job view disk reached output)
 
-abbrev pub IsQcReply : List ProbeKind → List ℕ → Option World → (loads loads_after : ℕ) → (disk disk_after : DiskState) → Outcome → List ℕ → Type 0
+abbrev pub IsQcReply : List ProbeKind → List ℕ → Option World → (loads loads_after : ℕ) → (disk disk_after : DiskState)
+    → Outcome → List ℕ → Type 0
 IsQcReply kinds path told loads loads_after disk disk_after reached output =
     IsLookReply told path disk disk_after loads loads_after reached (λ job. IsTabled kinds job disk disk_after reached output)

@@ -94,7 +94,8 @@ pub record IsSafeRun (job : JobData) (range : FrameRange) (told : Option World) 
   pub writes : disk.tells ≡ true → WritesOnly disk.history disk_after.history (MayWriteOf job range.low range.high (view_of disk.history))
 
 -- The job was run in the folder, over a range of its frames.
-pub record IsJobRun (job : JobData) (extent : Extent) (range : FrameRange) (share : ℕ) (told : Option World) (loads loads_after : ℕ) (disk disk_after : DiskState) (reached : Outcome) (output : List ℕ) : Type 0 where
+pub record IsJobRun (job : JobData) (extent : Extent) (range : FrameRange) (share : ℕ) (told : Option World)
+    (loads loads_after : ℕ) (disk disk_after : DiskState) (reached : Outcome) (output : List ℕ) : Type 0 where
   pub how : RunEnd
   pub report : Report
   pub reply : ReportsEnd job how (report_text extent range report) reached output
@@ -109,7 +110,8 @@ pub record IsJobRun (job : JobData) (extent : Extent) (range : FrameRange) (shar
   pub changed : IsChange how → HasRisen loads loads_after
 
 -- The project came to this job, which was run in the folder, as far as it was asked for.
-pub record RanItsJob (told : Option World) (path : List ℕ) (extent : Extent) (share : ℕ) (disk disk_after : DiskState) (loads loads_after : ℕ) (reached : Outcome) (output : List ℕ) : Type 0 where
+pub record RanItsJob (told : Option World) (path : List ℕ) (extent : Extent) (share : ℕ) (disk disk_after : DiskState)
+    (loads loads_after : ℕ) (reached : Outcome) (output : List ℕ) : Type 0 where
   pub job : JobData
   pub comes : IfSome told (λ world. ComesTo (file_at world) path (Ok job.parts))
   -- the loads when it was planned
@@ -118,7 +120,8 @@ pub record RanItsJob (told : Option World) (path : List ℕ) (extent : Extent) (
   pub ran : IsJobRun job extent (range_of extent (frames_of job)) share told planned loads_after disk disk_after reached output
 
 -- The project came to no job, and the folder is as it was.
-pub record IsUnplanned (told : Option World) (path : List ℕ) (disk disk_after : DiskState) (loads loads_after : ℕ) (reached : Outcome) : Type 0 where
+pub record IsUnplanned (told : Option World) (path : List ℕ) (disk disk_after : DiskState) (loads loads_after : ℕ)
+    (reached : Outcome) : Type 0 where
   pub why : IfSome told (λ world. HasPlanned (file_at world) path (Err reached))
   pub kind : IsOfJob reached
   pub untouched : disk_after ≡ disk
@@ -126,9 +129,11 @@ pub record IsUnplanned (told : Option World) (path : List ℕ) (disk disk_after 
   -- of a refused one the files up to the one that has the fault
   pub refused : HasLoadedFor told path loads loads_after reached
 
-abbrev pub IsRunReply : List ℕ → Extent → (share : ℕ) → Option World → (loads loads_after : ℕ) → (disk disk_after : DiskState) → Outcome → List ℕ → Type 0
+abbrev pub IsRunReply : List ℕ → Extent → (share : ℕ) → Option World → (loads loads_after : ℕ)
+    → (disk disk_after : DiskState) → Outcome → List ℕ → Type 0
 IsRunReply path extent share told loads loads_after disk disk_after reached output =
-    RanItsJob told path extent share disk disk_after loads loads_after reached output ⊎ IsUnplanned told path disk disk_after loads loads_after reached
+    RanItsJob told path extent share disk disk_after loads loads_after reached output
+    ⊎ IsUnplanned told path disk disk_after loads loads_after reached
 
 -- the outcomes that a run of a job may come to in place of Done
 abbrev pub IsOfRun : Outcome → Type 0

@@ -24,7 +24,8 @@ sheet_text cells peak =
     ++ spaced_line (codes "peak" ∷ decimal peak ∷ [])
 
 -- A sheet was made of this view under the tone, over the files of the folder, and its two numbers were put.
-pub record IsSheeted (tone : List ℕ) (job : JobData) (view : ViewState) (disk disk_after : DiskState) (reached : Outcome) (output : List ℕ) : Type 0 where
+pub record IsSheeted (tone : List ℕ) (job : JobData) (view : ViewState) (disk disk_after : DiskState)
+    (reached : Outcome) (output : List ℕ) : Type 0 where
   pub kind : IsBehindLook reached
   -- the sheet is there, whole, and a crash keeps it so
   pub sheet : reached ≡ outcome.Done → disk.tells ≡ true
@@ -45,6 +46,7 @@ pub record HasSheet (tone : List ℕ) (job : JobData) (disk disk_after : DiskSta
       → LeavesOnly disk.history disk_after.history (HasAcked job i)
   pub refused : disk.tells ≡ true → IsErr seen.ledger → IsStill disk.history disk_after.history
 
-abbrev pub IsSheetReply : List ℕ → List ℕ → Option World → (loads loads_after : ℕ) → (disk disk_after : DiskState) → Outcome → List ℕ → Type 0
+abbrev pub IsSheetReply : List ℕ → List ℕ → Option World → (loads loads_after : ℕ) → (disk disk_after : DiskState)
+    → Outcome → List ℕ → Type 0
 IsSheetReply tone path told loads loads_after disk disk_after reached output =
     IsLookReply told path disk disk_after loads loads_after reached (λ job. HasSheet tone job disk disk_after reached output)

@@ -19,7 +19,11 @@ abbrev pub HasKey : List ReelEntry → Key → Type 0
 HasKey entries key = HasFrame entries key.reel key.source
 
 abbrev pub span_in : ℕ → Key → ReelEntry → PullRange
-span_in margin key e = record { reel = key.reel; start = max e.start (key.source - margin); end = min (e.start + e.frames) (key.source + margin + 1) }
+span_in margin key e = record {
+  reel = key.reel;
+  start = max e.start (key.source - margin);
+  end = min (e.start + e.frames) (key.source + margin + 1);
+}
 
 -- no frame where the table has no such reel
 abbrev pub span_of : ℕ → Key → Option ReelEntry → PullRange
@@ -49,7 +53,8 @@ IsFrom place from reel x = (place < reel) ⊎ ((place ≡ reel) × (from ≤ x))
 -- Each span holds a frame, and none starts before the one ahead of it.
 abbrev pub AreSorted : ℕ → ℕ → List PullRange → Type 0
 AreSorted place from [] = Unit {0}
-AreSorted place from (span ∷ spans) = IsFrom place from span.reel span.start × (span.start < span.end) × AreSorted span.reel span.start spans
+AreSorted place from (span ∷ spans) = IsFrom place from span.reel span.start × (span.start < span.end)
+    × AreSorted span.reel span.start spans
 
 -- where a span starts, on one line for all reels
 abbrev pub place_of : PullRange → ℕ

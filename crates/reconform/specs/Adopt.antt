@@ -90,7 +90,8 @@ pub record IsCaused (old_before old_after before after : ℕ) (Failed : Type 0) 
 
 -- What a call leaves of two disks, the old one first. Both are lent as they were. A failure has its cause in the count of one of
 -- them, and else both counts stay.
-pub record LeavesBoth {D E : Type 0} (old_faults : D → ℕ) (old_loans : D → List Loan) (faults : E → ℕ) (loans : E → List Loan) (Failed : Type 0) (old old_after : D) (disk disk_after : E) : Type 0 where
+pub record LeavesBoth {D E : Type 0} (old_faults : D → ℕ) (old_loans : D → List Loan) (faults : E → ℕ)
+    (loans : E → List Loan) (Failed : Type 0) (old old_after : D) (disk disk_after : E) : Type 0 where
   pub cause : IsCaused (old_faults old) (old_faults old_after) (faults disk) (faults disk_after) Failed
   pub steady : (Failed → ⊥) → faults disk_after ≡ faults disk
   pub old_steady : (Failed → ⊥) → old_faults old_after ≡ old_faults old

@@ -29,12 +29,14 @@ pub record IsKept (new : JobData) (view : ViewState) (by_plan : BTreeMap FramePl
   pub is : donor_in by_plan (plan_at new i) ≡ Some donor
   pub kept : IfSome (hash_at view donor) (λ hash. hash ≡ digest)
 
-pub record HoldsFrame (new old : JobData) (told : Option World) (tells : Bool) (view : ViewState) (files : Files) (room : Room) : Type 0 where
+pub record HoldsFrame (new old : JobData) (told : Option World) (tells : Bool) (view : ViewState)
+    (files : Files) (room : Room) : Type 0 where
   pub size : length room.bytes.items ≡ frame_size new
   pub within : IfSome room.frame (λ i. i < frames_of new)
   pub donor : IfSome room.frame (λ i. tells ≡ true → HasIntactDonor new old view files i)
   pub file : IfSome room.frame (λ i. IsFileOf new told i room.bytes.items)
 
-pub record CanFinish (new old : JobData) (told : Option World) (tells : Bool) (view : ViewState) (files : Files) (room : Room) : Type 0 where
+pub record CanFinish (new old : JobData) (told : Option World) (tells : Bool) (view : ViewState) (files : Files)
+    (room : Room) : Type 0 where
   pub holds : HoldsFrame new old told tells view files room
   pub digest : IfSome room.frame (λ i. room.digest ≡ sha256 room.bytes.items)

@@ -37,14 +37,16 @@ pub record HasDonors (new old : JobData) (acked : List Bool) (by_plan : BTreeMap
 -- What a part does to the new folder, from where these frames were acknowledged: a crash at any moment leaves only frames
 -- acknowledged that are the reel's, no acknowledgement is lost, and no file is changed but the ledger's and those of the other
 -- frames.
-pub record IsPart {E : Type 0} (job : JobData) (told : Option World) (tells : Bool) (history : E → History) (gates : List Bool) (before after : E) : Type 0 where
+pub record IsPart {E : Type 0} (job : JobData) (told : Option World) (tells : Bool) (history : E → History)
+    (gates : List Bool) (before after : E) : Type 0 where
   pub run : tells ≡ true → IsReelRun job told (history before) (history after)
   pub none_lost : tells ≡ true → KeepsReel job (history before) (history after)
   pub spares : tells ≡ true → Spares (history before) (history after) (IsRunFile job gates)
 
 -- Each frame that isn't acknowledged and has an intact donor is taken over, and nothing else of the reel is changed; the old
 -- folder is only read. It ends before where memory or a disk fails.
-pub record HasAdopted {D E : Type 0} (new old : JobData) (told : Option World) (tells : Bool) (history : D → History) (reel_tells : Bool) (reel_history : E → History)
+pub record HasAdopted {D E : Type 0} (new old : JobData) (told : Option World) (tells : Bool) (history : D
+    → History) (reel_tells : Bool) (reel_history : E → History)
     (view : ViewState) (result : Result (Unit {0}) AdoptFault) (disk disk_after : D) (reel reel_after : ReelView E) : Type 0 where
   pub served : OnOk result (tells ≡ true → IsReelServed new old view (view_of (history disk)) reel reel_after)
   pub stays : IsSameReel reel reel_after
@@ -57,7 +59,8 @@ pub record HasAdopted {D E : Type 0} (new old : JobData) (told : Option World) (
 -- acknowledgement is lost where each frame that version 1 acknowledged had a file of a frame's length, as sound files have. No
 -- file is changed but the ledger's and those of frames that the opening didn't keep, and of the ledger's those of version 2
 -- alone are written.
-pub record IsSafeAdoption {E : Type 0} (job : JobData) (told : Option World) (tells : Bool) (history : E → History) (before after : E) : Type 0 where
+pub record IsSafeAdoption {E : Type 0} (job : JobData) (told : Option World) (tells : Bool) (history : E
+    → History) (before after : E) : Type 0 where
   pub run : tells ≡ true → IsReelRun job told (history before) (history after)
   pub sound_has : (world : World) (files : Files) → IsSoundReel job world files → HasFrameFiles job files
   pub spares : tells ≡ true → Spares (history before) (history after) (IsOwnFile job (view_of (history before)))

@@ -57,7 +57,8 @@ unless_overlap (Some fault) other = Err fault
 abbrev pub timeline_of : Rate → EventList → Result RecordReel TimelineFault
 timeline_of rate list =
     unless_overlap (first_overlap list.events)
-    (if nat_lt 262144 (frame_count list.events) then Err TooLongReel else Ok (record { rate = rate; mode = list.mode; events = list.events }))
+    (if nat_lt 262144 (frame_count list.events) then Err TooLongReel else Ok
+    (record { rate = rate; mode = list.mode; events = list.events }))
 
 -- what holds of every timeline
 pub record IsAccepted (rate : Rate) (mode : Mode) (events : List EventRec) : Type 0 where

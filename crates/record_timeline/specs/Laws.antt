@@ -20,7 +20,8 @@ SharingIsMeeting = (e f : EventRec) → (share e f ≡ true) ↔ Meet e f
 
 -- none of the lines before place i meets an earlier one
 abbrev pub NoneMeetBefore : List EventRec → ℕ → Type 0
-NoneMeetBefore events i = (k j : ℕ) (e f : EventRec) → k < i → j < k → slice_get events k ≡ Some e → slice_get events j ≡ Some f → Meet e f → ⊥
+NoneMeetBefore events i = (k j : ℕ) (e f : EventRec) → k < i → j < k → slice_get events k ≡ Some e
+    → slice_get events j ≡ Some f → Meet e f → ⊥
 
 -- no two lines of the list meet
 abbrev pub NoneMeet : List EventRec → Type 0
@@ -42,7 +43,8 @@ pub record IsFirstMeeting (events : List EventRec) (late early : ℕ) (e f : Eve
 -- what is refused is that first line, with that earliest one
 abbrev pub NamesFirstMeeting : Type 0
 NamesFirstMeeting = (events : List EventRec) (line earlier : ℕ) → first_overlap events ≡ Some (Overlap line earlier)
-    → (late : ℕ) × (early : ℕ) × (e : EventRec) × (f : EventRec) × IsFirstMeeting events late early e f × (line ≡ e.line) × (earlier ≡ f.line)
+    → (late : ℕ) × (early : ℕ) × (e : EventRec) × (f : EventRec) × IsFirstMeeting events late early e f
+    × (line ≡ e.line) × (earlier ≡ f.line)
 
 -- a covering line covers the frame, and none is given only where no line of the list does
 abbrev pub FindsCover : Type 0

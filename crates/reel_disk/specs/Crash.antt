@@ -26,11 +26,13 @@ WasFirm h id k byte = (m : ℕ) × IsLastFirm h id k m × (byte ≡ byte_of ((h.
 
 -- the byte as it is, turned over where it is loose
 abbrev pub IsTurned : History → FileId → ℕ → ℕ → Type 0
-IsTurned h id k byte = (IsLooseAt (loose_of h) id k → byte ≡ 255 - byte_at (view_of h id) k) × ((IsLooseAt (loose_of h) id k → ⊥) → byte ≡ byte_at (view_of h id) k)
+IsTurned h id k byte = (IsLooseAt (loose_of h) id k → byte ≡ 255 - byte_at (view_of h id) k)
+    × ((IsLooseAt (loose_of h) id k → ⊥) → byte ≡ byte_at (view_of h id) k)
 
 -- as many bytes, each by its own rule
 abbrev pub IsEach : (ℕ → ℕ → Type 0) → List ℕ → Option (List ℕ) → Type 0
-IsEach Rule bytes left = (new : List ℕ) × (left ≡ Some new) × (length new ≡ length bytes) × ((k : ℕ) → k < length bytes → Rule k (slice_index new k))
+IsEach Rule bytes left = (new : List ℕ) × (left ≡ Some new) × (length new ≡ length bytes)
+    × ((k : ℕ) → k < length bytes → Rule k (slice_index new k))
 
 -- What a pick leaves of one file, from what a read answers there: 0 leaves just that; 1 goes back to before the loose
 -- places were loose, and the file is absent where it is loose as a whole; any other cuts a loose whole file to half its
@@ -39,8 +41,10 @@ IsEach Rule bytes left = (new : List ℕ) × (left ≡ Some new) × (length new 
 abbrev pub IsPicked : ℕ → History → FileId → Option (List ℕ) → Option (List ℕ) → Type 0
 IsPicked pick h id None left = left ≡ None
 IsPicked zero h id (Some bytes) left = left ≡ Some bytes
-IsPicked (suc zero) h id (Some bytes) left = (IsLoose (loose_of h) (Whole id) → left ≡ None) × ((IsLoose (loose_of h) (Whole id) → ⊥) → IsEach (IsEarlier h id) bytes left)
-IsPicked (suc (suc n)) h id (Some bytes) left = (IsLoose (loose_of h) (Whole id) → left ≡ Some (take (length bytes / 2) bytes)) × ((IsLoose (loose_of h) (Whole id) → ⊥) → IsEach (IsTurned h id) bytes left)
+IsPicked (suc zero) h id (Some bytes) left = (IsLoose (loose_of h) (Whole id) → left ≡ None)
+    × ((IsLoose (loose_of h) (Whole id) → ⊥) → IsEach (IsEarlier h id) bytes left)
+IsPicked (suc (suc n)) h id (Some bytes) left = (IsLoose (loose_of h) (Whole id) → left ≡ Some (take (length bytes / 2) bytes))
+    × ((IsLoose (loose_of h) (Whole id) → ⊥) → IsEach (IsTurned h id) bytes left)
 
 -- the files that a crash leaves by this pick
 abbrev pub IsCrash : ℕ → History → Files → Type 0

@@ -123,7 +123,8 @@ HasWrittenWhole old new id bytes d.TheVariants.Done = IsWritten old new (Whole i
 HasWrittenWhole old new id bytes d.TheVariants.Failed = HasFailedAt old new (Whole id)
 
 abbrev pub HasWrittenAt : History → History → FileId → ℕ → List ℕ → d.Did → Type 0
-HasWrittenAt old new id start bytes d.TheVariants.Done = IsWritten old new (Range id start (length bytes)) (with_range (view_of old id) start bytes)
+HasWrittenAt old new id start bytes d.TheVariants.Done = IsWritten old new (Range id start (length bytes))
+    (with_range (view_of old id) start bytes)
 HasWrittenAt old new id start bytes d.TheVariants.Failed = HasFailedAt old new (Range id start (length bytes))
 
 -- the places but those of one file
@@ -155,7 +156,8 @@ HasLength content l.TheVariants.Absent = content ≡ None
 HasLength content l.TheVariants.Failed = Unit {0}
 
 abbrev pub HasRead : Option (List ℕ) → ℕ → List ℕ → g.Got → Type 0
-HasRead content start into (g.TheVariants.Bytes n) = (bytes : List ℕ) × (content ≡ Some bytes) × (n ≡ min (length into) (length bytes - start)) × (take n into ≡ take n (drop start bytes))
+HasRead content start into (g.TheVariants.Bytes n) = (bytes : List ℕ) × (content ≡ Some bytes)
+    × (n ≡ min (length into) (length bytes - start)) × (take n into ≡ take n (drop start bytes))
 HasRead content start into g.TheVariants.Absent = content ≡ None
 HasRead content start into g.TheVariants.Failed = Unit {0}
 

@@ -47,4 +47,5 @@ pub record Loosens (old new : History) (place : Place) : Type 0 where
 -- At each moment since the old one every file that is not `Mine` is as it was, and no place of it became loose.
 pub record Spares (old new : History) (Mine : FileId → Type 0) : Type 0 where
   pub files : (m : ℕ) → old.now ≤ m → m ≤ new.now → (q : FileId) → (Mine q → ⊥) → (new.past m).view q ≡ view_of old q
-  pub loose : (m : ℕ) → old.now ≤ m → m ≤ new.now → (p : Place) → (Mine (file_of p) → ⊥) → IsLoose (new.past m).loose p → IsLoose (loose_of old) p
+  pub loose : (m : ℕ) → old.now ≤ m → m ≤ new.now → (p : Place) → (Mine (file_of p) → ⊥) → IsLoose (new.past m).loose p
+      → IsLoose (loose_of old) p

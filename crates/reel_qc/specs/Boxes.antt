@@ -107,7 +107,8 @@ pictured_row job pictures row = flat_map (pictured_line job pictures) (range_wit
 
 -- The colour is that of a row of cells at a pixel, whatever pictures they have.
 abbrev pub IsPictured : JobData → List (Option Boxes) → (x y : ℕ) → List ℕ → Type 0
-IsPictured job cells x y colour = (pictures : List (Option (List ℕ))) → AreCells job pictures cells → colour ≡ pictured_colour job pictures x y
+IsPictured job cells x y colour = (pictures : List (Option (List ℕ))) → AreCells job pictures cells
+    → colour ≡ pictured_colour job pictures x y
 
 -- These colours, with codes to 1023, were drawn behind the bytes; and the greatest code before and after.
 pub record IsDrawn (tone : List ℕ) (colours : List (List ℕ)) (old new : List ℕ) (before after : ℕ) : Type 0 where
@@ -133,4 +134,5 @@ DrawsRow tone job view tells history row old new =
 
 abbrev pub DrawsSheet : List ℕ → JobData → ViewState → Bool → History → Drawing → Type 0
 DrawsSheet tone job view tells history drawing =
-    HasDrawn tone (tells ≡ true) (sheet_colours job view (view_of history)) (header_of (sheet_head job)) drawing.bytes.items 0 drawing.greatest
+    HasDrawn tone (tells ≡ true) (sheet_colours job view (view_of history)) (header_of (sheet_head job))
+    drawing.bytes.items 0 drawing.greatest

@@ -94,7 +94,8 @@ FinishesStored digest count i hash old new = (file : FileId) (bytes : List ℕ) 
 
 -- Frame i is acknowledged, at this moment and after each crash, and its gate is the only one that changed. Where that failed, the
 -- ledger in memory says what it said.
-pub record Acknowledges (tells : Bool) (i : ℕ) (result : Result (Unit {0}) DiskFault) (moment : Moment) (old new : LedgerState) : Type 0 where
+pub record Acknowledges (tells : Bool) (i : ℕ) (result : Result (Unit {0}) DiskFault) (moment : Moment)
+    (old new : LedgerState) : Type 0 where
   pub acked : OnOk result (tells ≡ true → Surely moment (Acks old.digest (length old.gates) i))
   pub agrees : OnOk result (tells ≡ true → Agrees moment new)
   pub marked : OnOk result (new ≡ record old { gates = set old.gates i true })

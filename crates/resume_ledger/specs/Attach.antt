@@ -33,7 +33,8 @@ IsKept digest count name size view i = Acks digest count i view × (IsInForce On
 -- The folder was unsealed or this job's. It is sealed by version 2, the ledger has the frames that are kept, and a crash keeps it
 -- so. An unsealed one has the closed body now, one of version 1 the SHA-256 of each kept frame's file as it was read, and
 -- one of version 2 is as it was.
-pub record IsOpened (digest : List ℕ) (count : ℕ) (name : ℕ → FileId) (size : ℕ) (before : Files) (new : History) (ledger : LedgerState) : Type 0 where
+pub record IsOpened (digest : List ℕ) (count : ℕ) (name : ℕ → FileId) (size : ℕ) (before : Files)
+    (new : History) (ledger : LedgerState) : Type 0 where
   pub fit : IsFit digest count before
   pub is : IsOpenFor digest count ledger
   pub gates : (i : ℕ) → (slice_index_or ledger.gates i false ≡ true) ↔ IsKept digest count name size before i

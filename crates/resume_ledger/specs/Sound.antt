@@ -60,7 +60,8 @@ Possibly moment P = (files : Files) × IsImage moment files × P files
 
 -- No acknowledgement is made: a frame that a crash leaves acknowledged, a crash at the start may have left so, too.
 abbrev pub AddsNone : List ℕ → ℕ → History → History → Type 0
-AddsNone digest count old new = (k : ℕ) → LeavesOnly old new (λ files. Acks digest count k files → Possibly (moment_of old) (Acks digest count k))
+AddsNone digest count old new = (k : ℕ) → LeavesOnly old new (λ files. Acks digest count k files
+    → Possibly (moment_of old) (Acks digest count k))
 
 -- A crash at any moment leaves just those frames acknowledged that the view had so at the start.
 abbrev pub AddsNothing : List ℕ → ℕ → History → History → Type 0
@@ -68,7 +69,8 @@ AddsNothing digest count old new = (k : ℕ) → LeavesOnly old new (λ files. A
 
 -- Of all other frames a crash at any moment leaves acknowledged just those that the view had so at the start.
 abbrev pub AddsAtMost : ℕ → List ℕ → ℕ → History → History → Type 0
-AddsAtMost i digest count old new = (k : ℕ) → k ≢ i → LeavesOnly old new (λ files. Acks digest count k files ↔ Acks digest count k (view_of old))
+AddsAtMost i digest count old new = (k : ℕ) → k ≢ i → LeavesOnly old new (λ files. Acks digest count k files
+    ↔ Acks digest count k (view_of old))
 
 -- The same of a ledger's job: it is a run, whatever the reel is, or of each reel that has frame i stored; no acknowledgement is
 -- lost; none is made; none but that of frame i is made; and a crash now leaves frame i acknowledged.
@@ -131,5 +133,7 @@ OnlyReadsSecond old new = IsInForce Two (view_of old) → Narrows old new
 -- No file was written but those that are `Mine`: any other of which nothing was loose is as it was, and no place of another
 -- became loose.
 pub record WritesOnly (old new : History) (Mine : FileId → Type 0) : Type 0 where
-  pub files : (m : ℕ) → old.now ≤ m → m ≤ new.now → (q : FileId) → (Mine q → ⊥) → IsFirm (loose_of old) q → (new.past m).view q ≡ view_of old q
-  pub loose : (m : ℕ) → old.now ≤ m → m ≤ new.now → (p : Place) → (Mine (file_of p) → ⊥) → IsLoose (new.past m).loose p → IsLoose (loose_of old) p
+  pub files : (m : ℕ) → old.now ≤ m → m ≤ new.now → (q : FileId) → (Mine q → ⊥) → IsFirm (loose_of old) q
+      → (new.past m).view q ≡ view_of old q
+  pub loose : (m : ℕ) → old.now ≤ m → m ≤ new.now → (p : Place) → (Mine (file_of p) → ⊥) → IsLoose (new.past m).loose p
+      → IsLoose (loose_of old) p

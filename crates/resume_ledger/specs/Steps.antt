@@ -176,7 +176,8 @@ pub record IsOpeningPart (digest : List ℕ) (count : ℕ) (name : ℕ → FileI
 -- Where a folder before version 2 counts is ready for this body, its writing is a part of the opening, whatever the job is.
 abbrev pub TakesOver : List ℕ → History → History → Type 0
 TakesOver body old new = (digest : List ℕ) (count : ℕ) (name : ℕ → FileId) (size : ℕ) → ((i : ℕ) → i < count → IsFrameFile (name i))
-    → IsOlder digest count (moment_of old) → IsFirstBody digest count name size (view_of old) body → IsOpeningPart digest count name size old new
+    → IsOlder digest count (moment_of old) → IsFirstBody digest count name size (view_of old) body
+    → IsOpeningPart digest count name size old new
 
 -- the same, of the files of the frames in their order
 abbrev pub IsOpeningPartOf : List ℕ → List FileId → ℕ → History → History → Type 0

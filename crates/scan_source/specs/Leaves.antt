@@ -4,7 +4,8 @@ use Rattle.cf_base.specs.Count.{CountsFaults}
 use Rattle.scan_source.specs.World.{World}
 
 -- The scan is the same, and tells the same files.
-pub record LeavesScan {S : Type 0} (world : S → Option World) (faults : S → ℕ) (same : S → S → Type 0) (Failed : Type 0) (before after : S) : Type 0 where
+pub record LeavesScan {S : Type 0} (world : S → Option World) (faults : S → ℕ) (same : S → S → Type 0)
+    (Failed : Type 0) (before after : S) : Type 0 where
   pub counts : CountsFaults Failed (faults before) (faults after)
   pub told : world after ≡ world before
   pub lent : same before after

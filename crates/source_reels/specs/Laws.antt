@@ -29,12 +29,15 @@ abbrev pub AllGoodBefore : List ReelEntry → ℕ → Type 0
 AllGoodBefore entries front = (k : ℕ) (e : ReelEntry) → k < front → slice_get entries k ≡ Some e → IsGood entries k e
 
 abbrev pub FindsFaults : Type 0
-FindsFaults = (entries : List ReelEntry) → (reels_fault entries ≡ None) ↔ ((i : ℕ) (e : ReelEntry) → slice_get entries i ≡ Some e → IsGood entries i e)
+FindsFaults = (entries : List ReelEntry) → (reels_fault entries ≡ None) ↔ ((i : ℕ) (e : ReelEntry)
+    → slice_get entries i ≡ Some e → IsGood entries i e)
 
 abbrev pub NamesFirstFault : Type 0
-NamesFirstFault = (entries : List ReelEntry) (i : ℕ) (e : ReelEntry) (kind : ReelKind) → slice_get entries i ≡ Some e → AllGoodBefore entries i
+NamesFirstFault = (entries : List ReelEntry) (i : ℕ) (e : ReelEntry) (kind : ReelKind) → slice_get entries i ≡ Some e
+    → AllGoodBefore entries i
     → IsFaulty entries i e kind → reels_fault entries ≡ Some (record { reel = i + 1; kind = kind })
 
 -- and each exists exactly where the reel has the frame
 abbrev pub PathsAgree : Type 0
-PathsAgree = (entries : List ReelEntry) (reel : ℕ) (source : ℤ) → path_at entries reel source ≡ option_and_then (path_of_key entries) (key_in entries source reel)
+PathsAgree = (entries : List ReelEntry) (reel : ℕ) (source : ℤ) → path_at entries reel source
+    ≡ option_and_then (path_of_key entries) (key_in entries source reel)

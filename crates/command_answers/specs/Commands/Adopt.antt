@@ -19,7 +19,8 @@ adopt_meaning path old_path = record {
   LooksAtHeads = AreJobHeads path;
   calls = record reel_calls { on_old = true; loads_frames = true };
   UsesDisk = λ house before after folders folders_after reached output.
-      IsAdoptReply path old_path before.world before.loads after.loads folders.old folders_after.old folders.reel folders_after.reel reached output;
+      IsAdoptReply path old_path before.world before.loads after.loads folders.old folders_after.old
+      folders.reel folders_after.reel reached output;
   HasFailedDisk = HasEitherFailed;
   IsAccepted = λ world folders. HasFitFolder world path folders.reel × HasSoundFolder world old_path folders.old;
   IsComplete = IsThrough;

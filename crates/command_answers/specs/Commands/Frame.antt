@@ -23,7 +23,16 @@ info_in bytes = info_of (first_bytes 2048 bytes) (length bytes)
 
 -- the new header: the size, reel 0, frame 0, position 0, length 1, no timecode and an empty title
 abbrev pub frame_head : FrameInfo → OutHead
-frame_head info = record { width = info.width; height = info.height; reel = 0; frame = 0; position = 0; length = 1; timecode = None; title = [] }
+frame_head info = record {
+  width = info.width;
+  height = info.height;
+  reel = 0;
+  frame = 0;
+  position = 0;
+  length = 1;
+  timecode = None;
+  title = [];
+}
 
 -- the new header, then the file's pixels in big-endian words
 unfoldable pub frame_form : FrameInfo → List ℕ → List ℕ

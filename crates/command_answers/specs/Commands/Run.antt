@@ -6,4 +6,5 @@ use Rattle.command_answers.specs.ByFolder.{reel_meaning}
 use Rattle.command_answers.specs.Meaning.{IsThrough, Meaning, reel_calls}
 
 abbrev pub run_meaning : List ℕ → Extent → (share : ℕ) → Meaning
-run_meaning path extent share = reel_meaning path (record reel_calls { loads_frames = true }) (λ house. IsRunReply path extent share) IsThrough
+run_meaning path extent share = reel_meaning path (record reel_calls { loads_frames = true })
+    (λ house. IsRunReply path extent share) IsThrough

@@ -29,11 +29,13 @@ returns-then-is_kept g c =
     let made = subst (λ (frame : Option ℕ). IfSome frame (λ i. room.digest ≡ sha256 room.bytes.items)) c.in-Some.is c.requires.digest in
     let long : length room.bytes.items ≡ room.bytes.len = search rules in
     let same = refilled room.bytes.len c.rehead.new.file room.bytes.items long (c.rehead.ensures.size ∙ sym c.requires.read.size ∙ long) in
-    record { frame = record {
-      size = ap length same ∙ c.rehead.ensures.size;
-      within = c.requires.read.within;
-      donor = subst (λ (frame : Option ℕ). IfSome frame (λ i. g.D.Disk.tells ≡ true → HasIntactDonor g.N.Work.job g.O.Work.job c.args.view.now files i)) (sym c.in-Some.is)
-          (dressed_donor g.N.Work.job g.O.Work.job g.N.Work.files g.D.Disk.tells files c.args.view.now c.args.donors.now.by_plan c.in-Some.i room.bytes.items room.digest
-          c.requires.donors (c.is_kept.ensures.kept c.if-is_kept.true) read made (c.requires.read.size ∙ sizes_alike g.N.Work.job g.O.Work.job c.requires.donors.alike));
-      file = subst (λ (made : Option ℕ × List ℕ). IfSome made.0 (λ i. IsFileOf g.N.Work.job g.N.Work.files i made.1)) (λ t. (sym c.in-Some.is t, sym same t)) c.rehead.ensures.file;
-    } }
+    record {
+      frame = record {
+        size = ap length same ∙ c.rehead.ensures.size;
+        within = c.requires.read.within;
+        donor = subst (λ (frame : Option ℕ). IfSome frame (λ i. g.D.Disk.tells ≡ true → HasIntactDonor g.N.Work.job g.O.Work.job c.args.view.now files i)) (sym c.in-Some.is)
+            (dressed_donor g.N.Work.job g.O.Work.job g.N.Work.files g.D.Disk.tells files c.args.view.now c.args.donors.now.by_plan c.in-Some.i room.bytes.items room.digest
+            c.requires.donors (c.is_kept.ensures.kept c.if-is_kept.true) read made (c.requires.read.size ∙ sizes_alike g.N.Work.job g.O.Work.job c.requires.donors.alike));
+        file = subst (λ (made : Option ℕ × List ℕ). IfSome made.0 (λ i. IsFileOf g.N.Work.job g.N.Work.files i made.1)) (λ t. (sym c.in-Some.is t, sym same t)) c.rehead.ensures.file;
+      };
+    }
