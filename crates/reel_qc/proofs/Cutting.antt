@@ -1,5 +1,5 @@
 -- A count of the whole is the sum of its pieces' counts.
-use Rattle.std.proofs.Common.{◌≡◌, ℕ, ◌+◌, ◌/◌, ◌%◌, ◌^◌, ◌<◌, ◌≤◌, List, [], ◌∷◌, length, map, cond, refl, sym, ap, ◌∙◌, arith, w32, Fits, get_or}
+use Rattle.std.proofs.Common.{◌≡◌, ℕ, ◌+◌, ◌/◌, ◌%◌, ◌^◌, ◌<◌, ◌≤◌, List, [], ◌∷◌, ◌++◌, length, map, cond, refl, sym, ap, ◌∙◌, arith, w32, Fits, get_or}
 use Rattle.std.specs.List.{All, fold, flat_map, sum_by}
 use Rattle.std.proofs.lemmas.List.Sums.{sum_by-append, sum_by-cons, sum_by-le, count_by-le-length}
 use Rattle.std.proofs.lemmas.List.{get_or_default}
@@ -38,10 +38,10 @@ whole_of_pieces kind size words pos =
     ∙ ap (sum_by (weight kind)) (chunks_of-concat size words pos) ∙ sym (count_is kind words)
 
 -- no count of a picture is past a word of 64 bits
-pub count_fits : (kind : ProbeKind) (words : List ℕ) → ((i : ℕ) → Fits w32 (get_or words i 0)) → length words ≤ 16777216 → count_of kind words < 2 ^ 64
-count_fits High words fit short = omega (arith, count_by-le-length reaches_high words)
-count_fits Low words fit short = omega (arith, count_by-le-length reaches_low words)
-count_fits Sum words fit short = omega (arith, sum_by-le code_sum 3069 words small)
+pub count_small : (kind : ProbeKind) (words : List ℕ) → ((i : ℕ) → get_or words i 0 < 2 ^ 32) → length words ≤ 16777216 → count_of kind words < 2 ^ 64
+count_small High words fit short = omega (arith, count_by-le-length reaches_high words)
+count_small Low words fit short = omega (arith, count_by-le-length reaches_low words)
+count_small Sum words fit short = omega (arith, sum_by-le code_sum 3069 words small)
   where
     codes : (word : ℕ) → word < 2 ^ 32 → code_sum word ≤ 3069
     codes word lt =
@@ -54,4 +54,12 @@ count_fits Sum words fit short = omega (arith, sum_by-le code_sum 3069 words sma
         mod_below n = omega arith
 
     small : All (λ word. code_sum word ≤ 3069) words
-    small k d lt = rw (get_or_default words k d 0 lt) (codes (get_or words k 0) (Fits-lt-pow {w = w32} (fit k)))
+    small k d lt = rw (get_or_default words k d 0 lt) (codes (get_or words k 0) (fit k))
+
+pub count_fits : (kind : ProbeKind) (words : List ℕ) → ((i : ℕ) → Fits w32 (get_or words i 0)) → length words ≤ 16777216 → count_of kind words < 2 ^ 64
+count_fits kind words fit short = count_small kind words (λ i. Fits-lt-pow {w = w32} (fit i)) short
+
+-- the count of two parts is the sum of theirs
+pub count_along : (kind : ProbeKind) (first second : List ℕ) → count_of kind (first ++ second) ≡ count_of kind first + count_of kind second
+count_along kind first second =
+    count_is kind (first ++ second) ∙ sum_by-append (weight kind) first second ∙ (λ i. sym (count_is kind first) i + sym (count_is kind second) i)

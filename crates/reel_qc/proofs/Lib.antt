@@ -1,4 +1,5 @@
 mod Adding
+mod Adds
 mod Begins
 mod Cutting
 mod Drawn

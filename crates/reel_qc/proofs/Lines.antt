@@ -13,7 +13,7 @@ use Rattle.reel_writer.specs.Reel.{frames_of, IsSoundReel}
 use Rattle.resume_ledger.specs.Look.{ViewState, IsViewOf}
 use Rattle.reel_qc.specs.Words.{frame_words}
 use Rattle.printed_text.specs.Text.{spaced_line}
-use Rattle.reel_qc.specs.Counts.{count_of}
+use Rattle.reel_qc.specs.Counts.{count_of, counts_of}
 use Rattle.reel_qc.specs.Table.{HasRows, acked_frames, acked_of, defined_row, defined_table, kind_word, quality_table, row_line, row_of, table_of}
 use Rattle.reel_qc.specs.declared.probe.ProbeKind.{ProbeKind}
 
@@ -21,35 +21,42 @@ joined : (word : List ℕ) (words : List (List ℕ)) → join_with_byte 32 (word
 joined word [] = sym (append-nil word)
 joined word (next ∷ words) = ap (λ l. word ++ (32 ∷ l)) (joined next words)
 
-module _ {X : Type 0} (kind_of : X → ProbeKind) where
-  each_word : (f : ProbeKind → List ℕ) (xs : List X) → flat_map (λ x. 32 ∷ f (kind_of x)) xs ≡ flat_map (λ w. 32 ∷ w) (map f (map kind_of xs))
-  each_word f [] = refl
-  each_word f (x ∷ xs) = ap (λ l. 32 ∷ f (kind_of x) ++ l) (each_word f xs)
+map_twice : {X Y Z : Type 0} (f : Y → Z) (g : X → Y) (xs : List X) → map f (map g xs) ≡ map (λ x. f (g x)) xs
+map_twice f g [] = refl
+map_twice f g (x ∷ xs) = ap (λ l. f (g x) ∷ l) (map_twice f g xs)
+
+module _ {X : Type 0} (word_of : X → List ℕ) where
+  each_word : (xs : List X) → flat_map (λ x. 32 ∷ word_of x) xs ≡ flat_map (λ w. 32 ∷ w) (map word_of xs)
+  each_word [] = refl
+  each_word (x ∷ xs) = ap (λ l. 32 ∷ word_of x ++ l) (each_word xs)
 
   -- a word and what each item adds make up a line
-  line_made : (f : ProbeKind → List ℕ) (old word : List ℕ) (xs : List X) → old ++ word ++ flat_map (λ x. 32 ∷ f (kind_of x)) xs ++ 10 ∷ [] ≡ old ++ spaced_line (word ∷ map f (map kind_of xs))
-  line_made f old word xs =
-      ap (λ l. old ++ word ++ l ++ 10 ∷ []) (each_word f xs)
+  line_made : (old word : List ℕ) (xs : List X) → old ++ word ++ flat_map (λ x. 32 ∷ word_of x) xs ++ 10 ∷ [] ≡ old ++ spaced_line (word ∷ map word_of xs)
+  line_made old word xs =
+      ap (λ l. old ++ word ++ l ++ 10 ∷ []) (each_word xs)
       ∙ ap (λ l. l ++ 10 ∷ []) (append_assoc old word _)
       ∙ append_assoc old _ (10 ∷ [])
-      ∙ ap (λ l. old ++ (l ++ 10 ∷ [])) (sym (joined word (map f (map kind_of xs))))
+      ∙ ap (λ l. old ++ (l ++ 10 ∷ [])) (sym (joined word (map word_of xs)))
 
   -- the loop has gone over all items
-  made : (f : ProbeKind → List ℕ) (old word text new : List ℕ) (i : ℕ) (xs : List X) → text ≡ old ++ word ++ flat_map (λ x. 32 ∷ f (kind_of x)) (take i xs)
-      → length xs ≤ i → new ≡ text ++ 10 ∷ [] → new ≡ old ++ spaced_line (word ∷ map f (map kind_of xs))
-  made f old word text new i xs is all end =
-      end ∙ ap (λ l. l ++ 10 ∷ []) (is ∙ ap (λ ys. old ++ word ++ flat_map (λ x. 32 ∷ f (kind_of x)) ys) (take_all i xs all))
-      ∙ line_made f old word xs
+  pub made : (old word text new : List ℕ) (i : ℕ) (xs : List X) → text ≡ old ++ word ++ flat_map (λ x. 32 ∷ word_of x) (take i xs)
+      → length xs ≤ i → new ≡ text ++ 10 ∷ [] → new ≡ old ++ spaced_line (word ∷ map word_of xs)
+  made old word text new i xs is all end =
+      end ∙ ap (λ l. l ++ 10 ∷ []) (is ∙ ap (λ ys. old ++ word ++ flat_map (λ x. 32 ∷ word_of x) ys) (take_all i xs all))
+      ∙ line_made old word xs
 
-  pub kinds_made : (old text new : List ℕ) (i : ℕ) (xs : List X) → text ≡ old ++ codes "qc" ++ flat_map (λ x. 32 ∷ kind_word (kind_of x)) (take i xs)
-      → length xs ≤ i → new ≡ text ++ 10 ∷ [] → new ≡ old ++ spaced_line (codes "qc" ∷ map kind_word (map kind_of xs))
-  kinds_made old text new i xs = made kind_word old (codes "qc") text new i xs
+pub kinds_made : {X : Type 0} (kind_of : X → ProbeKind) (old text new : List ℕ) (i : ℕ) (xs : List X) → text ≡ old ++ codes "qc" ++ flat_map (λ x. 32 ∷ kind_word (kind_of x)) (take i xs)
+    → length xs ≤ i → new ≡ text ++ 10 ∷ [] → new ≡ old ++ spaced_line (codes "qc" ∷ map kind_word (map kind_of xs))
+kinds_made kind_of old text new i xs is all end =
+    made (λ x. kind_word (kind_of x)) old (codes "qc") text new i xs is all end ∙ ap (λ l. old ++ spaced_line (codes "qc" ∷ l)) (sym (map_twice kind_word kind_of xs))
 
-  pub row_made : (old text new : List ℕ) (frame : ℕ) (words : List ℕ) (i : ℕ) (xs : List X)
-      → text ≡ old ++ decimal frame ++ flat_map (λ x. 32 ∷ decimal (count_of (kind_of x) words)) (take i xs)
-      → length xs ≤ i → new ≡ text ++ 10 ∷ [] → new ≡ old ++ row_line (map kind_of xs) (record { frame = frame; words = words })
-  unfolding row_line
-  row_made old text new frame words i xs = made (λ kind. decimal (count_of kind words)) old (decimal frame) text new i xs
+-- a line of counts is that of the words that they count
+pub row_counted : (kinds : List ProbeKind) (frame : ℕ) (words counts old new : List ℕ) → counts ≡ counts_of kinds words
+    → new ≡ old ++ spaced_line (decimal frame ∷ map decimal counts) → new ≡ old ++ row_line kinds (record { frame = frame; words = words })
+unfolding row_line
+row_counted kinds frame words counts old new counted is =
+    is ∙ ap (λ l. old ++ spaced_line (decimal frame ∷ map decimal l)) counted
+    ∙ ap (λ l. old ++ spaced_line (decimal frame ∷ l)) (map_twice decimal (λ kind. count_of kind words) kinds)
 
 module _ (kinds : List ProbeKind) (job : JobData) (Told : Type 0) (files : Files) where
   one_row : (i : ℕ) (words old new : List ℕ) → (Told → words ≡ (row_of job files i).words) → new ≡ old ++ row_line kinds (record { frame = i; words = words }) → HasRows kinds job Told files (i ∷ []) old new 1

@@ -2,7 +2,7 @@
 --     quality_table kinds job view files      the table of what a view acknowledges, over these files
 --     defined_table kinds job world view      the same over the definition's files
 --     IsTable kinds view text      a table of some words for each of these frames: what is known over a disk that doesn't tell
-use Rattle.std.specs.Prelude.{◌≡◌, ℕ, Bool, true, false, Vec, List, [], ◌∷◌, ◌++◌, length, map, filter, slice_index_or, codes, decimal, Some}
+use Rattle.std.specs.Prelude.{◌≡◌, ℕ, ◌^◌, ◌<◌, ◌≤◌, Bool, true, false, Vec, List, [], ◌∷◌, ◌++◌, length, map, filter, slice_index, slice_index_or, codes, decimal, Some}
 use Rattle.std.specs.List.{flat_map, range_with_len}
 use Rattle.conform_job.specs.Job.{JobData, file_of}
 use Rattle.printed_text.specs.Text.{spaced_line}
@@ -12,7 +12,7 @@ use Rattle.scan_source.specs.World.{World, file_at}
 use Rattle.frame_render.specs.Frame.{frame_file}
 use Rattle.resume_ledger.specs.Look.{ViewState, IsViewOf}
 use Rattle.reel_writer.specs.Reel.{frames_of, IsSoundReel}
-use Rattle.reel_qc.specs.Counts.{count_of}
+use Rattle.reel_qc.specs.Counts.{HasAdded, count_of, counts_of}
 use Rattle.reel_qc.specs.Words.{frame_words}
 use Rattle.reel_qc.specs.declared.probe.ProbeKind.{ProbeKind}
 use Rattle.reel_qc.specs.declared.probe.ProbeKind.TheVariants.{High, Low, Sum}
@@ -69,6 +69,20 @@ pub record IsTable (kinds : List ProbeKind) (view : ViewState) (text : List ℕ)
   pub form : text ≡ table_of kinds rows
 
 -- The rest is said of a part of the table.
+
+-- The counts of some words, at most so many, are added to these. Where the files are told, they are the words of the files.
+pub record AddsCounts (kinds : List ProbeKind) (Told : Type 0) (exact : List ℕ) (most : ℕ) (old new : List ℕ) : Type 0 where
+  pub words : List ℕ
+  pub told : Told → words ≡ exact
+  pub few : length words ≤ most
+  pub small : (k : ℕ) → slice_index words k < 2 ^ 32
+  pub added : HasAdded (counts_of kinds words) old new
+
+-- The counts are those of some words. Where the files are told, they are these words.
+pub record HasCounted (kinds : List ProbeKind) (Told : Type 0) (exact counts : List ℕ) : Type 0 where
+  pub words : List ℕ
+  pub told : Told → words ≡ exact
+  pub counts_are : counts ≡ counts_of kinds words
 
 -- The lines of those frames, some number of them, stand behind the text. Where the files are told, they are those of the files.
 pub record HasRows (kinds : List ProbeKind) (job : JobData) (Told : Type 0) (files : Files) (frames : List ℕ)

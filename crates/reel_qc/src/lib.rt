@@ -5,9 +5,11 @@
 //! alone. The counts of a frame can be made in pieces by several threads, and are the same then.
 #![tactic(auto)]
 
+mod blocks;
 mod boxes;
 mod cells;
 mod counter;
+mod counting;
 mod counts;
 mod curves;
 mod drawing;

@@ -14,7 +14,7 @@ use crate::boxes::boxes_of;
 use crate::cells::{cell_frames, load_row};
 use crate::drawing::{Drawing, draw_cells};
 use crate::tone::Tone;
-use crate::words::Buffers;
+use crate::words::{Buffers, pixels_of};
 use cf_base::FileId;
 use conform_job::Job;
 use dpx_header::{OutHead, write_header};
@@ -158,7 +158,7 @@ fn draw_sheet<D: Disk>(
     let Ok(mut drawing) = begin(alloc, job, rows) else {
         return Err(SheetFault::NoMemory);
     };
-    let Ok(mut buffers) = Buffers::new(alloc, job) else {
+    let Ok(mut buffers) = Buffers::new(alloc, pixels_of(job)) else {
         return Err(SheetFault::NoMemory);
     };
     for row in 0..rows {

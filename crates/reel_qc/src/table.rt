@@ -4,11 +4,12 @@ ghost use Rattle.cf_base.specs.Count.{HasCause};
 ghost use Rattle.printed_text.specs.Text.{spaced_line};
 ghost use Rattle.reel_disk.specs.Disk.{view_of, IsStill};
 ghost use Rattle.reel_writer.specs.Reel.{frames_of};
-ghost use Rattle.reel_qc.specs.Table.{AddsRow, AddsRows, IsTable, kind_word, quality_table, row_line, IsDefinedWhereSound};
+ghost use Rattle.reel_qc.specs.Table.{AddsRow, AddsRows, IsTable, kind_word, quality_table, IsDefinedWhereSound};
 
 use crate::counter::Counter;
+use crate::counting::count_frame;
 use crate::probe::{Probe, ProbeKind};
-use crate::words::{Buffers, read_frame};
+use crate::words::{Buffers, pixels_of};
 use conform_job::Job;
 use printed_text::{put_bytes, put_number};
 use reel_disk::Disk;
@@ -26,7 +27,7 @@ pub enum QcFault {
 
 /// The quality table of a reel: the line `qc` and the kinds of the probes; a line for each frame that the view acknowledges,
 /// in order, with its number and the count of each probe over the words of its file, of which an absent one has none; last
-/// `frames` and how many lines these are. It only reads, and holds one file at a time.
+/// `frames` and how many lines these are. It only reads, and holds as many words at once as the counter takes, at most a file.
 ///
 /// `DiskFault` comes only where the disk's count of faults rose.
 pub fn quality_table<D: Disk, C: Counter>(
@@ -56,14 +57,24 @@ pub fn quality_table<D: Disk, C: Counter>(
         (IsErrOf result QcFault.DiskFault) }
     ensures steady { result ≢ Err QcFault.DiskFault → D.faults disk.new ≡ D.faults disk.old }
 {
-    let Ok(mut buffers) = Buffers::new(alloc, job) else {
+    let room = counter.most_words().min(pixels_of(job));
+    let Ok(mut buffers) = Buffers::new(alloc, room) else {
         return Err(QcFault::NoMemory);
     };
     let mut text = Vec::new(alloc);
     let Ok(()) = put_kinds(&mut text, probes) else {
         return Err(QcFault::NoMemory);
     };
-    let frames = match put_rows(counter, probes, disk, job, view, &mut buffers, &mut text) {
+    let frames = match put_rows(
+        alloc,
+        counter,
+        probes,
+        disk,
+        job,
+        view,
+        &mut buffers,
+        &mut text,
+    ) {
         Ok(frames) => frames,
         Err(fault) => return Err(fault),
     };
@@ -125,6 +136,7 @@ fn put_frames(text: &mut Vec<u8>, frames: u32) -> Result<(), AllocError>
 
 /// The lines of all frames that are acknowledged, and how many these are.
 fn put_rows<D: Disk, C: Counter>(
+    alloc: Global,
     counter: &C,
     probes: &[Probe],
     disk: &mut D,
@@ -136,6 +148,8 @@ fn put_rows<D: Disk, C: Counter>(
     requires ready { C.ready }
     requires size { length view.now.gates ≡ frames_of job.now }
     requires piece { length buffers.old.piece.items ≡ 65536 }
+    requires room { 0 < length buffers.old.words.items }
+    requires few { length buffers.old.words.items ≤ 16777216 }
     ensures rows { IfOk result (AddsRows (map (λ p. p.kind) probes.now) job.now view.now D.tells (D.history disk.old) text.old text.new) }
     ensures still { D.tells ≡ true → IsStill (D.history disk.old) (D.history disk.new) }
     ensures same { D.loans disk.new ≡ D.loans disk.old }
@@ -145,7 +159,7 @@ fn put_rows<D: Disk, C: Counter>(
 {
     let mut frames = 0;
     for i in 0..job.count() {
-        match put_frame(counter, probes, disk, job, view, i, buffers, text) {
+        match put_frame(alloc, counter, probes, disk, job, view, i, buffers, text) {
             Ok(more) => frames += more,
             Err(fault) => return Err(fault),
         }
@@ -155,6 +169,7 @@ fn put_rows<D: Disk, C: Counter>(
 
 /// The line of a frame, where it is acknowledged: whether it has one, 1 or 0.
 fn put_frame<D: Disk, C: Counter>(
+    alloc: Global,
     counter: &C,
     probes: &[Probe],
     disk: &mut D,
@@ -168,9 +183,12 @@ fn put_frame<D: Disk, C: Counter>(
     requires size { length view.now.gates ≡ frames_of job.now }
     requires within { i < frames_of job.now }
     requires piece { length buffers.old.piece.items ≡ 65536 }
+    requires room { 0 < length buffers.old.words.items }
+    requires few { length buffers.old.words.items ≤ 16777216 }
     ensures rows { IfOk result (AddsRow (map (λ p. p.kind) probes.now) job.now view.now i D.tells (D.history disk.old) text.old text.new) }
     ensures few { IfOk result (λ more. more ≤ 1) }
     ensures piece { length buffers.new.piece.items ≡ 65536 }
+    ensures room { length buffers.new.words.items ≡ length buffers.old.words.items }
     ensures still { D.tells ≡ true → IsStill (D.history disk.old) (D.history disk.new) }
     ensures same { D.loans disk.new ≡ D.loans disk.old }
     ensures cause { HasCause (D.faults disk.old) (D.faults disk.new)
@@ -180,32 +198,23 @@ fn put_frame<D: Disk, C: Counter>(
     if !view.is_acked(i) {
         return Ok(0);
     }
-    match read_frame(disk, job, i, buffers) {
-        Ok(()) => {}
+    let counts = match count_frame(alloc, counter, probes, disk, job, i, buffers) {
+        Ok(counts) => counts,
         Err(fault) => return Err(fault),
-    }
-    match put_row(counter, probes, i, &buffers.words, text) {
+    };
+    match put_row(i, &counts, text) {
         Ok(()) => Ok(1),
         Err(_) => Err(QcFault::NoMemory),
     }
 }
 
-/// The line of a frame with these words.
-fn put_row<C: Counter>(
-    counter: &C,
-    probes: &[Probe],
-    frame: u32,
-    words: &[u32],
-    text: &mut Vec<u8>,
-) -> Result<(), AllocError>
-    requires ready { C.ready }
-    requires words { length words.now ≤ 16777216 }
-    ensures { OnOk result (text.new.items
-        ≡ text.old.items ++ row_line (map (λ p. p.kind) probes.now) (record { frame = frame; words = words.now })) }
+/// The line of a frame with these counts.
+fn put_row(frame: u32, counts: &[u64], text: &mut Vec<u8>) -> Result<(), AllocError>
+    ensures { OnOk result (text.new.items ≡ text.old.items ++ spaced_line (decimal frame ∷ map decimal counts.now)) }
 {
     put_number(text, frame)?;
-    for probe in probes {
-        put_count(text, counter.count(probe, words))?;
+    for count in counts {
+        put_count(text, *count)?;
     }
     put_bytes(text, b"\n")?;
     Ok(())

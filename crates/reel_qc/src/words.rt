@@ -1,12 +1,11 @@
 //! The words of a frame's file.
-ghost use Rattle.std.specs.Prelude.{◌≡◌, ◌≢◌, ◌+◌, ◌*◌, ◌++◌, ◌<◌, ◌≤◌, true, length, drop, Some, OnOk, IfOk, IsErrOf, Err};
-ghost use Rattle.byteorder.specs.Endian.{big_number};
+ghost use Rattle.std.specs.Prelude.{◌≡◌, ◌≢◌, ◌*◌, ◌<◌, ◌≤◌, ◌^◌, ℕ, true, length, drop, slice_index, take, Some, OnOk, IfOk, IsErrOf, Err};
 ghost use Rattle.cf_base.specs.Count.{HasCause};
 ghost use Rattle.conform_job.specs.Job.{file_of};
 ghost use Rattle.reel_disk.specs.Disk.{view_of, IsStill};
 ghost use Rattle.reel_writer.specs.Reel.{frames_of};
 ghost use Rattle.frame_render.specs.Frame.{pixel_count};
-ghost use Rattle.reel_qc.specs.Words.{frame_words, whole_words, words_in, words_from};
+ghost use Rattle.reel_qc.specs.Words.{frame_words, words_in, words_from};
 
 use crate::table::QcFault;
 use byteorder::{BigEndian, ByteOrder};
@@ -19,51 +18,45 @@ use std::alloc::{AllocError, Global};
 const WORDS: usize = 16384;
 
 /// The words of a frame's file (SMPTE 268M, image data from byte 2048 on): big-endian, as many as are whole, and at most as
-/// many as the frame has pixels. `out` is emptied before; there is memory enough where it has room for them.
+/// many as the frame has pixels. `out` is emptied before; there is memory enough where it has room for the words of a whole frame.
 pub fn frame_words(job: &Job, file: &[u8], out: &mut Vec<u32>) -> Result<(), Fail<Never>>
     ensures { OnOk result (out.new.items ≡ frame_words job.now (Some file.now)) }
 {
-    let most = pixels_of(job);
     out.clear();
-    match push_words(file, 2048, most, out) {
-        Ok(()) => Ok(()),
-        Err(_) => Err(Fail::NoMemory),
-    }
+    let Ok(()) = out.resize(pixels_of(job), 0) else {
+        return Err(Fail::NoMemory);
+    };
+    let found = take_words(image_of(file), out);
+    out.truncate(found);
+    Ok(())
+}
+
+/// The bytes of a file behind its header.
+fn image_of(file: &[u8]) -> &[u8]
+    ensures { result.now ≡ drop 2048 file.now }
+{
+    &file[file.len().min(2048)..]
 }
 
 /// How many pixels a frame of a job has.
 pub(crate) fn pixels_of(job: &Job) -> usize
     ensures count { result ≡ pixel_count job.now }
+    ensures some { 0 < result }
     ensures most { result ≤ 16777216 }
 {
     job.recall();
     job.width() as usize * job.height() as usize
 }
 
-/// How many words are whole in a file of this length from a byte on, at most so many.
-fn whole_words(len: usize, start: usize, most: usize) -> usize
-    ensures { result ≡ whole_words start most len }
+/// Takes the whole words of some bytes, as many as there is room for: how many.
+fn take_words(bytes: &[u8], words: &mut [u32]) -> usize
+    ensures taken { take result words.new ≡ words_from 0 (length words.old) bytes.now }
+    ensures few { result ≤ length words.old }
+    ensures size { length words.new ≡ length words.old }
 {
-    most.min(len.saturating_sub(start) / 4)
-}
-
-/// Appends the whole words from a byte on, at most so many.
-fn push_words(bytes: &[u8], start: usize, most: usize, out: &mut Vec<u32>) -> Result<(), AllocError>
-    requires { start ≤ 2048 }
-    ensures { OnOk result (out.new.items ≡ out.old.items ++ words_from start most bytes.now) }
-{
-    for k in 0..whole_words(bytes.len(), start, most) {
-        out.push(word_at(bytes, start + 4 * k))?;
-    }
-    Ok(())
-}
-
-/// The word at a place.
-fn word_at(bytes: &[u8], at: usize) -> u32
-    requires { at + 4 ≤ length bytes.now }
-    ensures { result ≡ big_number 4 (drop at bytes.now) }
-{
-    BigEndian::read_u32(&bytes[at..])
+    let count = words.len().min(bytes.len() / 4);
+    BigEndian::read_u32_into(&bytes[..4 * count], &mut words[..count]);
+    count
 }
 
 /// What the frames of a table or a sheet are read into, made once.
@@ -71,22 +64,23 @@ fn word_at(bytes: &[u8], at: usize) -> u32
 pub(crate) struct Buffers {
     /// 65,536 bytes of a file.
     pub(crate) piece: Vec<u8>,
-    /// The words of a file.
+    /// Words of a file.
     pub(crate) words: Vec<u32>,
 }
 
 impl Buffers {
-    /// With room for the words of a frame.
-    pub(crate) fn new(alloc: Global, job: &Job) -> Result<Buffers, AllocError>
-        ensures { IfOk result (λ buffers. length buffers.piece.items ≡ 65536) }
+    /// With room for so many words.
+    pub(crate) fn new(alloc: Global, room: usize) -> Result<Buffers, AllocError>
+        ensures piece { IfOk result (λ buffers. length buffers.piece.items ≡ 65536) }
+        ensures words { IfOk result (λ buffers. length buffers.words.items ≡ room) }
     {
-        let piece = vec![in alloc; 0u8; 65536]?;
-        let words = Vec::with_capacity(alloc, pixels_of(job))?;
+        let piece = vec![in alloc; 0u8; 4 * WORDS]?;
+        let words = vec![in alloc; 0u32; room]?;
         Ok(Buffers { piece, words })
     }
 }
 
-/// Reads the words of a frame's file, an absent one as no words.
+/// Reads all words of a frame's file, an absent one as no words.
 pub(crate) fn read_frame<D: Disk>(
     disk: &mut D,
     job: &Job,
@@ -106,30 +100,41 @@ pub(crate) fn read_frame<D: Disk>(
         (IsErrOf result QcFault.DiskFault) }
     ensures steady { result ≢ Err QcFault.DiskFault → D.faults disk.new ≡ D.faults disk.old }
 {
-    let most = pixels_of(job);
-    buffers.words.clear();
-    read_words(
+    // The frame before may have been short.
+    let Ok(()) = buffers.words.resize(pixels_of(job), 0) else {
+        return Err(QcFault::NoMemory);
+    };
+    match read_words(
         disk,
         job.file_of(i),
-        most,
+        0,
         &mut buffers.piece,
         &mut buffers.words,
-    )
+    ) {
+        Ok(count) => {
+            buffers.words.truncate(count);
+            Ok(())
+        }
+        Err(fault) => Err(fault),
+    }
 }
 
-/// Appends the words of a file, at most so many.
-fn read_words<D: Disk>(
+/// Reads the words of a file from the `first`-th on, as many as there is room for: how many are there.
+pub(crate) fn read_words<D: Disk>(
     disk: &mut D,
     id: FileId,
-    most: usize,
+    first: usize,
     piece: &mut [u8],
-    out: &mut Vec<u32>,
-) -> Result<(), QcFault>
-    requires most { most ≤ 16777216 }
+    words: &mut [u32],
+) -> Result<usize, QcFault>
+    requires first { first ≤ 16777216 }
+    requires room { length words.old ≤ 16777216 }
     requires piece { length piece.old ≡ 65536 }
-    ensures words { OnOk result (D.tells ≡ true
-        → out.new.items ≡ out.old.items ++ words_in 0 most (view_of (D.history disk.old) id)) }
-    ensures size { OnOk result (length out.new.items ≤ length out.old.items + most) }
+    ensures words { IfOk result (λ count. D.tells ≡ true
+        → take count words.new ≡ words_in first (length words.old) (view_of (D.history disk.old) id)) }
+    ensures few { IfOk result (λ count. count ≤ length words.old) }
+    ensures small { (k : ℕ) → slice_index words.new k < 2 ^ 32 }
+    ensures size { length words.new ≡ length words.old }
     ensures piece { length piece.new ≡ 65536 }
     ensures still { D.tells ≡ true → IsStill (D.history disk.old) (D.history disk.new) }
     ensures same { D.loans disk.new ≡ D.loans disk.old }
@@ -137,47 +142,46 @@ fn read_words<D: Disk>(
         (IsErrOf result QcFault.DiskFault) }
     ensures steady { result ≢ Err QcFault.DiskFault → D.faults disk.new ≡ D.faults disk.old }
 {
+    let most = words.len();
     let mut done = 0;
+    let mut found = 0;
     while done < most {
         let count = WORDS.min(most - done);
-        match read_piece(disk, id, done, count, piece, out) {
-            Ok(()) => {}
+        let bytes = &mut piece[..4 * count];
+        let room = &mut words[found..found + count];
+        match read_piece(disk, id, first + done, bytes, room) {
+            Ok(more) => found += more,
             Err(fault) => return Err(fault),
         }
         done += count;
     }
-    Ok(())
+    Ok(found)
 }
 
-/// Appends the words of a file from the `first`-th on, at most so many, by one read.
+/// Reads the words of a file from the `first`-th on by one read, as many as there is room for: how many are there.
 fn read_piece<D: Disk>(
     disk: &mut D,
     id: FileId,
     first: usize,
-    count: usize,
-    piece: &mut [u8],
-    out: &mut Vec<u32>,
-) -> Result<(), QcFault>
-    requires first { first ≤ 16777216 }
-    requires count { count ≤ 16384 }
-    requires piece { length piece.old ≡ 65536 }
-    ensures words { OnOk result (D.tells ≡ true
-        → out.new.items ≡ out.old.items ++ words_in first count (view_of (D.history disk.old) id)) }
-    ensures size { OnOk result (length out.new.items ≤ length out.old.items + count) }
-    ensures piece { length piece.new ≡ 65536 }
+    bytes: &mut [u8],
+    words: &mut [u32],
+) -> Result<usize, QcFault>
+    requires first { first ≤ 33554432 }
+    requires bytes { length bytes.old ≡ 4 * length words.old }
+    ensures words { IfOk result (λ count. D.tells ≡ true
+        → take count words.new ≡ words_in first (length words.old) (view_of (D.history disk.old) id)) }
+    ensures few { IfOk result (λ count. count ≤ length words.old) }
+    ensures size { length words.new ≡ length words.old }
+    ensures bytes { length bytes.new ≡ length bytes.old }
     ensures still { D.tells ≡ true → IsStill (D.history disk.old) (D.history disk.new) }
     ensures same { D.loans disk.new ≡ D.loans disk.old }
     ensures cause { HasCause (D.faults disk.old) (D.faults disk.new)
         (IsErrOf result QcFault.DiskFault) }
     ensures steady { result ≢ Err QcFault.DiskFault → D.faults disk.new ≡ D.faults disk.old }
 {
-    let start = 2048 + 4 * first as u64;
-    match disk.read(id, start, piece) {
-        Got::Bytes(n) => match push_words(&piece[..n], 0, count, out) {
-            Ok(()) => Ok(()),
-            Err(_) => Err(QcFault::NoMemory),
-        },
-        Got::Absent => Ok(()),
+    match disk.read(id, 2048 + 4 * first as u64, bytes) {
+        Got::Bytes(n) => Ok(take_words(&bytes[..n], words)),
+        Got::Absent => Ok(0),
         Got::Failed => Err(QcFault::DiskFault),
     }
 }

@@ -6,7 +6,7 @@ use Rattle.reel_disk.specs.Disk.{Files}
 use Rattle.resume_ledger.specs.Look.{ViewState}
 use Rattle.reel_qc.specs.Table.{HasRows, acked_of}
 use Rattle.reel_qc.specs.declared.probe.ProbeKind.{ProbeKind}
-use Rattle.reel_qc.proofs.Lines.{row_put}
+use Rattle.reel_qc.proofs.Lines.{row_counted, row_put}
 use Rattle.reel_qc.proofs.table.put_frame.Goals as goal
 
 row_none : (kinds : List ProbeKind) (job : JobData) (Told : Type 0) (files : Files) (view : ViewState) (i : ℕ) (text : List ℕ) → slice_index_or view.gates i false ≡ false
@@ -24,5 +24,6 @@ returns-then-not-is_acked-clause-rows g c = row_none _ c.args.job.now _ _ c.args
 
 pub returns-in-Ok-put_row-clause-rows : goal.returns-in-Ok-put_row-clause-rows
 returns-in-Ok-put_row-clause-rows g c =
-    row_put _ c.args.job.now _ _ c.args.view.now c.args.i c.deref.result.now _ _ (sym c.is_acked.ensures ∙ c.if-not-is_acked.false)
-    (λ told. c.deref.ensures.value ∙ c.in-Ok.ensures.words told) c.in-Ok-put_row.ensures
+    let has = c.in-Ok.ensures.counted in
+    row_put _ c.args.job.now _ _ c.args.view.now c.args.i has.words _ _ (sym c.is_acked.ensures ∙ c.if-not-is_acked.false) has.told
+    (row_counted _ c.args.i has.words _ _ _ (c.deref.ensures.value ∙ has.counts_are) c.in-Ok-put_row.ensures)

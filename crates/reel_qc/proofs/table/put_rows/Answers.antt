@@ -17,6 +17,7 @@ loop-i-preserved g c =
           (sym (acked_more c.args.view.now c.loop-i.i)) (rows_along _ c.args.job.now (g.D.Disk.tells ≡ true) files _ _ _ _ _ _ _ before.rows here);
       few = omega (arith, before.few, c.in-Ok.ensures.few);
       piece = search rules;
+      room = c.in-Ok.ensures.room ∙ before.room;
       same = c.in-Ok.ensures.same ∙ before.same;
       faults = search rules;
     }

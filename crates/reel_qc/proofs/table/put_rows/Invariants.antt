@@ -11,6 +11,7 @@ invariant-loop-i g l = record {
   rows : HasRows (map (λ p. p.kind) l.probes) l.job (g.D.Disk.tells ≡ true) (view_of (g.D.Disk.history l.fn.disk)) (acked_of l.view (range_with_len 0 l.i)) l.fn.text.items l.text.items l.frames;
   few : l.frames ≤ l.i;
   piece : length l.buffers.piece.items ≡ 65536;
+  room : length l.buffers.words.items ≡ length l.fn.buffers.words.items;
   same : g.D.Disk.loans l.disk ≡ g.D.Disk.loans l.fn.disk;
   faults : g.D.Disk.faults l.disk ≡ g.D.Disk.faults l.fn.disk;
 }

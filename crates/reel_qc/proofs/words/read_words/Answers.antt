@@ -1,17 +1,19 @@
 -- One piece after another is read.
-use Rattle.std.proofs.Common.{rules, ap, arith}
+use Rattle.std.proofs.Common.{rules, ◌≡◌, ◌∙◌, ◌+◌, ◌-◌, ◌≤◌, ap, arith, length, take, drop, w32}
+use Rattle.std.proofs.Math.Facts.{Fits-lt-pow}
 use Rattle.reel_disk.specs.Disk.{view_of}
 use Rattle.resume_ledger.proofs.Reading.{still_along, still_view}
-use Rattle.reel_qc.proofs.Reading.{none_read, words_behind}
+use Rattle.reel_qc.specs.Words.{words_in}
+use Rattle.reel_qc.proofs.Reading.{found_more, none_read, part_size}
 use Rattle.reel_qc.proofs.words.read_words.Goals as goal
 
 pub loop-done-init : goal.loop-done-init
 loop-done-init g c = record {
   still = search rules;
-  words = λ told. none_read (view_of (g.D.Disk.history c.args.disk.now) c.args.id) c.args.out.now.items;
+  words = λ told. none_read c.args.first (view_of (g.D.Disk.history c.args.disk.now) c.args.id);
   few = omega arith;
+  small = λ k. Fits-lt-pow {w = w32} (c.type_inv.words k);
   within = omega arith;
-  piece = c.requires.piece;
   same = search rules;
   faults = search rules;
 }
@@ -19,14 +21,24 @@ loop-done-init g c = record {
 pub loop-done-preserved : goal.loop-done-preserved
 loop-done-preserved g c =
     let inv = c.loop-done.invariant in
+    let room = c.min-count.ensures in
+    let inside : c.loop-done.found + c.min-count.result ≤ length c.loop-done.words = omega (arith, room, inv.few, c.loop-done.auto.words, c.loop-done-test.true) in
+    let size : length (take (c.loop-done.found + c.min-count.result - c.loop-done.found) (drop c.loop-done.found c.loop-done.words)) ≡ c.min-count.result =
+    part_size c.loop-done.found c.min-count.result c.loop-done.words inside in
     record {
       still = λ told. still_along _ _ _ (inv.still told) (c.in-Ok.ensures.still told);
       words = λ told.
-          words_behind c.loop-done.done c.min-count.result _ _ c.args.out.now.items c.loop-done.out.items c.read_piece.new.out.items
-          (ap (λ view. view c.args.id) (still_view _ _ (inv.still told))) (inv.words told) (c.in-Ok.ensures.words told);
-      few = omega (arith, c.in-Ok.ensures.size, inv.few);
-      within = omega (arith, c.min-count.ensures, inv.within, c.loop-done-test.true);
-      piece = search rules;
-      same = search rules;
+          found_more c.args.first c.loop-done.done c.min-count.result c.loop-done.found c.in-Ok.more (view_of (g.D.Disk.history c.args.disk.now) c.args.id)
+          (view_of (g.D.Disk.history c.loop-done.disk) c.args.id) c.loop-done.words c.read_piece.new.words
+          inside (c.in-Ok.ensures.size ∙ size) (omega (arith, c.in-Ok.ensures.few, size))
+          (ap (λ view. view c.args.id) (still_view _ _ (inv.still told))) (inv.words told)
+          (c.in-Ok.ensures.words told ∙ ap (λ n. words_in (c.args.first + c.loop-done.done) n (view_of (g.D.Disk.history c.loop-done.disk) c.args.id)) size);
+      few = omega (arith, inv.few, c.in-Ok.ensures.few, size);
+      small = λ k. Fits-lt-pow {w = w32} (c.type_inv.words k);
+      within = omega (arith, room, inv.within, c.loop-done-test.true);
+      same = c.in-Ok.ensures.same ∙ inv.same;
       faults = search rules;
     }
+
+pub returns-in-Err-clause-small : goal.returns-in-Err-clause-small
+returns-in-Err-clause-small g c = λ k. Fits-lt-pow {w = w32} (c.type_inv.words k)

@@ -1,0 +1,18 @@
+use Rattle.std.proofs.Common.{◌≡◌, ◌-◌, ◌≤◌, map, true}
+use Rattle.reel_disk.specs.Disk.{view_of, IsStill}
+use Rattle.reel_qc.specs.Table.{AddsCounts}
+use Rattle.reel_qc.specs.Words.{words_in}
+use Rattle.reel_qc.proofs.counting.count_file.Given as goal
+
+-- the words up to there are counted
+abbrev pub invariant-loop-done : goal.invariant-loop-done
+invariant-loop-done g l = record {
+  still : g.D.Disk.tells ≡ true → IsStill (g.D.Disk.history l.fn.disk) (g.D.Disk.history l.disk);
+  counted : AddsCounts (map (λ p. p.kind) l.probes) (g.D.Disk.tells ≡ true) (words_in 0 l.done (view_of (g.D.Disk.history l.fn.disk) l.id)) l.done l.fn.counts l.counts;
+  within : l.done ≤ l.most;
+  same : g.D.Disk.loans l.disk ≡ g.D.Disk.loans l.fn.disk;
+  faults : g.D.Disk.faults l.disk ≡ g.D.Disk.faults l.fn.disk;
+}
+
+abbrev pub decreases-loop-done : goal.decreases-loop-done
+decreases-loop-done g l = l.most - l.done
