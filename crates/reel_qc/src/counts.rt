@@ -8,7 +8,13 @@ pub fn high(words: &[u32]) -> u64
     requires { length words.now ≤ 16777216 }
     ensures { result ≡ count_of High words.now }
 {
-    words.iter().filter(|word| is_high(**word)).count() as u64
+    let mut count = 0u64;
+    for word in words {
+        if is_high(*word) {
+            count += 1;
+        }
+    }
+    count
 }
 
 /// How many words have a code of 3 or less.
@@ -16,7 +22,13 @@ pub fn low(words: &[u32]) -> u64
     requires { length words.now ≤ 16777216 }
     ensures { result ≡ count_of Low words.now }
 {
-    words.iter().filter(|word| is_low(**word)).count() as u64
+    let mut count = 0u64;
+    for word in words {
+        if is_low(*word) {
+            count += 1;
+        }
+    }
+    count
 }
 
 /// All three codes of all words, added up.
