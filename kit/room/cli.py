@@ -3,6 +3,7 @@
 from __future__ import annotations
 
 import argparse
+import gc
 import os
 import sys
 from importlib import import_module
@@ -29,6 +30,9 @@ COMMANDS = (
     "movie",
 )
 
+# So many values are made before the first are collected.
+SELDOM = 200_000
+
 DESCRIPTION = """\
 The room's kit: what an assistant does with lists, projects, scans and reels around the station.
 It proposes and the station decides. It writes over nothing; `watch` alone replaces its own page."""
@@ -36,7 +40,7 @@ It proposes and the station decides. It writes over nothing; `watch` alone repla
 STATUSES = """\
 statuses: 0 nothing to do, or done; 1 something was found that a person has to decide; 2 an input can't be read
 
-`./room COMMAND --help` says more of each; docs/room.md has examples."""
+`./room COMMAND --help` says more of each; docs/manual.md has examples, and docs/room.md the rules."""
 
 
 class Parser(argparse.ArgumentParser):
@@ -47,11 +51,11 @@ class Parser(argparse.ArgumentParser):
         sys.exit(UNREADABLE)
 
 
-def parser() -> argparse.ArgumentParser:
-    """The parser of all commands."""
+def parser(names: Sequence[str] = COMMANDS) -> argparse.ArgumentParser:
+    """The parser of these commands."""
     top = Parser(prog="room", description=DESCRIPTION, epilog=STATUSES, formatter_class=argparse.RawDescriptionHelpFormatter)
     commands = top.add_subparsers(title="commands", metavar="COMMAND", dest="command", required=True)
-    for name in COMMANDS:
+    for name in names:
         module = import_module(f"room.{name}")
         command = commands.add_parser(
             module.NAME, help=module.HELP, description=module.HELP, epilog=getattr(module, "MORE", None),
@@ -67,7 +71,11 @@ def main(words: Optional[Sequence[str]] = None) -> int:
     try:
         for stream in (sys.stdout, sys.stderr):
             stream.reconfigure(encoding="utf-8", errors="backslashreplace")  # type: ignore[union-attr]
-        arguments = parser().parse_args(words)
+        # A command's own module alone is loaded, and its many small values are collected seldom: it lives for a second.
+        gc.set_threshold(SELDOM)
+        words = sys.argv[1:] if words is None else words
+        named = words[0].replace("-", "_") if words else ""
+        arguments = parser([named] if named in COMMANDS and "_" not in words[0] else COMMANDS).parse_args(words)
         status = run_quietly(arguments.run, arguments)
         sys.stdout.flush()
         return status

@@ -12,7 +12,7 @@ from room.findings import Finding
 from room.list_text import has_lone_returns, other_kind, utf16_of, UTF8_MARK
 from room.taken import read_list
 from room.timecode import RATES, Counting
-from room.view import FILE_REELS, View, contradicting_reels, is_ascending_reverse, name_of_clip, same_time
+from room.view import FILE_REELS, Entry, View, contradicting_reels, digits_of, is_ascending_reverse, name_of_clip, same_time
 
 Span = Tuple[int, int]
 REWRITE = "`./room rewrite` does it."
@@ -187,14 +187,16 @@ def other_rate(view: View) -> Iterator[Finding]:
 def motion_sides(view: View) -> Iterator[Finding]:
     """A motion line whose trigger is another event's source in: in a transition within one reel it goes to the outgoing side."""
     by_line = {entry.line.number: entry for entry in view.entries}
+    by_source: Dict[Tuple[str, str, str], Entry] = {}
+    for entry in view.entries:
+        by_source.setdefault(_key(entry, entry.event.labels[0]), entry)
     triggers = {line.number: motion for edit in view.edits for line, motion in edit.motions}
     for taken in view.reading.events:
         motion = triggers.get(taken.motion_line)
         entry = by_line.get(taken.line)
         if motion is None or entry is None or same_time(motion.trigger, entry.event.labels[0]):
             continue
-        meant = next((other for other in view.entries if other.event.reel == entry.event.reel and same_time(motion.trigger, other.event.labels[0])
-                      and other.event.number == entry.event.number), None)
+        meant = by_source.get(_key(entry, motion.trigger))
         if meant is not None:
             text = f"this motion line goes to line {taken.line}, and its trigger is the source in of line {meant.line.number}"
             advice = f"Write one at play speed for line {taken.line} before it. " + REWRITE
@@ -202,6 +204,11 @@ def motion_sides(view: View) -> Iterator[Finding]:
         else:
             text = f"the trigger {motion.trigger} isn't the source in of line {taken.line}, to which this motion line goes"
             yield at(view, taken.motion_line, "note", text, motion.trigger_span)
+
+
+def _key(entry: Entry, label: str) -> Tuple[str, str, str]:
+    """An event's number, its reel, and a time of it."""
+    return entry.event.number, entry.event.reel, digits_of(label)
 
 
 def file_reels(view: View) -> Iterator[Finding]:

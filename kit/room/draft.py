@@ -24,11 +24,15 @@ class Options:
 
 @dataclass(eq=False)
 class Row:
-    """A line of the new list. `number` is the line that it was in the file that was given; of an added one, the line it stands at."""
+    """A line of the new list. `number` is the line that it was in the file that was given; of an added one, the line it stands at.
+
+    `place` is that among the rows, from 1, in the present view.
+    """
 
     number: int
     text: str
     end: str
+    place: int = 0
 
 
 @dataclass
@@ -39,6 +43,7 @@ class Draft:
     options: Options
     findings: List[Finding] = field(default_factory=list)
     _view: Optional[View] = None
+    _touched: Dict[Row, None] = field(default_factory=dict)
 
     @property
     def rate(self) -> int:
@@ -47,9 +52,15 @@ class Draft:
     @property
     def view(self) -> View:
         """What the rows are now. Its lines are numbered by their places among the rows."""
-        if self._view is None:
-            self._view = view_of([Line(place + 1, row.text, row.end) for place, row in enumerate(self.rows)], self.rate)
-        return self._view
+        view = self._view
+        if view is not None and not all(view.change(row.place, row.text) for row in self._touched):
+            view = None
+        if view is None:
+            for place, row in enumerate(self.rows, 1):
+                row.place = place
+            view = self._view = view_of([Line(row.place, row.text, row.end) for row in self.rows], self.rate)
+        self._touched.clear()
+        return view
 
     @property
     def line_end(self) -> str:
@@ -76,13 +87,13 @@ class Draft:
         old = row.text[slice(*span)]
         self.say(row, f"{what} {old or '(none)'} to {new or '(none)'}: {why}")
         row.text = replaced(row.text, span, new)
-        self._view = None
+        self._touched[row] = None
 
     def rewrite_row(self, row: Row, text: str, said: str) -> None:
         """Gives a row another text."""
         self.say(row, said)
         row.text = text
-        self._view = None
+        self._touched[row] = None
 
     def leave_out(self, row: Row, why: str) -> None:
         """Turns a line into a note, so that the station passes it over and a person still sees it."""
@@ -98,14 +109,21 @@ class Draft:
         self.findings.append(Finding(near.number, "changed", f"added `{text}`: {why}"))
         self._view = None
 
-    def move_behind(self, row: Row, anchor: Row, why: str) -> None:
-        """Moves a row directly behind another."""
-        self.rows.remove(row)
-        place = self.rows.index(anchor) + 1
-        anchor.end = anchor.end or self.line_end
-        row.end = row.end or self.line_end
-        self.rows.insert(place, row)
-        self.say(row, f"moved behind line {anchor.number}: {why}")
+    def move_behind(self, moves: List[Tuple[Row, Row]], why: str) -> None:
+        """Moves each first row directly behind the second, which isn't moved itself; those behind one row keep their order."""
+        if not moves:
+            return
+        moved = {row for row, _ in moves}
+        first_left = next(row for row in self.rows if row not in moved)
+        behind: Dict[Row, List[Row]] = {}
+        for row, anchor in reversed(moves):
+            end = (first_left if row is self.rows[0] else self.rows[0]).end or "\n"
+            anchor.end = anchor.end or end
+            row.end = row.end or end
+            behind.setdefault(anchor, []).append(row)
+            self.say(row, f"moved behind line {anchor.number}: {why}")
+        left = [row for row in self.rows if row not in moved]
+        self.rows = [each for row in left for each in (row, *reversed(behind.get(row, ())))]
         self._view = None
 
     def bytes(self) -> bytes:

@@ -19,17 +19,26 @@ LABEL = r"[0-9]{2}[:;.,][0-9]{2}[:;.,][0-9]{2}[:;.,][0-9]{2}"
 FOUR_LABELS = re.compile(rf"(?<![^ \t])({LABEL})[ \t]+({LABEL})[ \t]+({LABEL})[ \t]+({LABEL})(?![^ \t\r])")
 ONE_LABEL = re.compile(LABEL)
 TRANSITION = re.compile(r"[CcDd]|[Ww][0-9]*|[Kk][BbOo]?")
+# An event line of the usual form: a token for each field, and several for a reel with blanks. Its number and its channels are
+# looked at behind that.
+USUAL = re.compile(
+    rf"[ \t]*([^ \t]+)[ \t]+([^ \t]+(?:[ \t]+[^ \t]+)*?)[ \t]+([^ \t]+)[ \t]+({TRANSITION.pattern})(?:[ \t]+([0-9]+))?"
+    rf"[ \t]+({LABEL})[ \t]+({LABEL})[ \t]+({LABEL})[ \t]+({LABEL})(?![^ \t\r])"
+)
 CHANNELS = re.compile(r"[Bb]|NONE|[AaVv0-9/,&+]+|[^ \t]*[Vv][^ \t]*")
 SPEED = re.compile(r"[+-]?(?:[0-9]+\.?[0-9]*|\.[0-9]+)")
+DIGIT = re.compile("[0-9]")
+TRACK = re.compile("V([0-9]+)")
+NOT_A_LETTER = re.compile("[^A-Z]+")
 # No event line of any system is longer before its labels.
 LONGEST_HEAD = 4096
 
 Span = Tuple[int, int]
 
 
-@dataclass(frozen=True)
+@dataclass(eq=False)
 class EventLine:
-    """An event line: its fields as they stand there, and where (`spans`, by field name)."""
+    """An event line: its fields as they stand there, where (`.._span`), and whether its channels have picture. Nobody changes it."""
 
     number: str
     reel: str
@@ -43,11 +52,7 @@ class EventLine:
     transition_span: Span
     duration_span: Span
     label_spans: Tuple[Span, Span, Span, Span]
-
-    @property
-    def is_picture(self) -> bool:
-        """Whether the channels have picture."""
-        return "V" in self.channels.upper() or self.channels.upper() == "B"
+    is_picture: bool
 
     @property
     def is_black(self) -> bool:
@@ -65,11 +70,11 @@ class EventLine:
     @property
     def track(self) -> int:
         """The number of its video track: `V` is the first."""
-        match = re.search(r"V([0-9]+)", self.channels.upper())
+        match = TRACK.search(self.channels.upper()) if len(self.channels) > 1 else None
         return int(match.group(1)) if match else 1
 
 
-@dataclass(frozen=True)
+@dataclass(eq=False)
 class MotionLine:
     """A line that begins with M2, and where its fields stand. Speed or trigger is empty where none is found."""
 
@@ -92,11 +97,36 @@ class Note:
 @lru_cache(maxsize=1 << 16)
 def read_event(text: str) -> Optional[EventLine]:
     """The event of a line, if a person would see one in it."""
+    match = USUAL.match(text)
+    if match is None or match.start(6) > LONGEST_HEAD:
+        return _read_unusual(text)
+    number, reel, channels, transition, duration, *_ = match.groups()
+    if ONE_LABEL.search(reel) or ONE_LABEL.search(number):
+        return _read_unusual(text)
+    if DIGIT.search(number) is None or number[0] == "*" or CHANNELS.fullmatch(channels) is None:
+        return None
+    span = match.span
+    end = match.end(4)
+    duration_span = (end, end) if duration is None else span(5)
+    label_spans = (span(6), span(7), span(8), span(9))
+    return EventLine(
+        number, reel, channels, transition, duration or "", match.group(6, 7, 8, 9),  # type: ignore[arg-type]
+        span(1), span(2), span(3), span(4), duration_span, label_spans, has_picture(channels),
+    )
+
+
+def has_picture(channels: str) -> bool:
+    """Whether channels have picture."""
+    return "V" in channels or "v" in channels or channels in ("B", "b")
+
+
+def _read_unusual(text: str) -> Optional[EventLine]:
+    """The event of a line whose reel is missing, or in which something else isn't usual."""
     match = FOUR_LABELS.search(text)
     if match is None or match.start() > LONGEST_HEAD:
         return None
     tokens = [(m.start(), m.end()) for m in TOKEN.finditer(text, 0, match.start())]
-    if not tokens or not re.search("[0-9]", text[slice(*tokens[0])]) or text[tokens[0][0]] == "*":
+    if not tokens or not DIGIT.search(text[slice(*tokens[0])]) or text[tokens[0][0]] == "*":
         return None
     place = _place_of_transition(text, tokens)
     if place is None or place < 2 or CHANNELS.fullmatch(text[slice(*tokens[place - 1])]) is None:
@@ -121,6 +151,7 @@ def read_event(text: str) -> Optional[EventLine]:
         transition_span=transition,
         duration_span=last if has_duration else (transition[1], transition[1]),
         label_spans=spans,
+        is_picture=has_picture(text[slice(*channels)]),
     )
 
 
@@ -190,7 +221,7 @@ def fcm_words(text: str) -> Optional[str]:
 
 def says_drop(words: str) -> Optional[bool]:
     """Whether the words behind `FCM:` mean drop-frame, in whatever spelling; nothing where they don't say."""
-    plain = re.sub(r"[^A-Z]+", "", words.upper())
+    plain = NOT_A_LETTER.sub("", words.upper())
     if plain.startswith(("NONDROP", "NDF")):
         return False
     if plain.startswith(("DROP", "DF")):

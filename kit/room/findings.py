@@ -35,8 +35,8 @@ class Finding:
 
 
 def head_of(file: str, finding: Finding) -> str:
-    """The one line of a finding."""
-    return f"{printable(file)}:{finding.line}: {finding.kind}: {printable(finding.text)}"
+    """The one line of a finding in a file, whose name is printable."""
+    return f"{file}:{finding.line}: {finding.kind}: {printable(finding.text)}"
 
 
 def shown_line(finding: Finding) -> List[str]:
@@ -56,15 +56,14 @@ def shown_line(finding: Finding) -> List[str]:
 
 def put_findings(file: str, findings: Iterable[Finding], out: TextIO) -> None:
     """Puts findings in full: the line, the file's own line with a caret, and the advice."""
+    shown = printable(file)
     for finding in findings:
-        print(head_of(file, finding), file=out)
-        for row in shown_line(finding):
-            print(row, file=out)
-        for row in finding.advice:
-            print("    " + printable(row), file=out)
+        rows = [head_of(shown, finding), *shown_line(finding), *("    " + printable(row) for row in finding.advice)]
+        out.write("\n".join(rows) + "\n")
 
 
 def put_heads(file: str, findings: Iterable[Finding], out: TextIO) -> None:
     """Puts findings as one line each."""
+    shown = printable(file)
     for finding in findings:
-        print(head_of(file, finding), file=out)
+        out.write(head_of(shown, finding) + "\n")

@@ -49,15 +49,10 @@ def encode(text: str) -> bytes:
 def lines_of(data: bytes) -> List[Line]:
     """The lines as the station counts them: LF ends one, and one CR before it belongs to the end."""
     pieces = decode(data).split("\n")
-    lines: List[Line] = []
-    for place, piece in enumerate(pieces):
-        is_last = place == len(pieces) - 1
-        if is_last and piece == "":
-            break
-        end = "" if is_last else "\n"
-        if piece.endswith("\r"):
-            piece, end = piece[:-1], "\r" + end
-        lines.append(Line(place + 1, piece, end))
+    last = pieces.pop()
+    lines = [Line(number, piece[:-1], "\r\n") if piece[-1:] == "\r" else Line(number, piece, "\n") for number, piece in enumerate(pieces, 1)]
+    if last:
+        lines.append(Line(len(lines) + 1, last[:-1], "\r") if last[-1] == "\r" else Line(len(lines) + 1, last, ""))
     return lines
 
 

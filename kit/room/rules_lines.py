@@ -8,10 +8,13 @@ from typing import Dict, Set
 
 from room.draft import Draft
 from room.edit_list import says_drop
+from room.taken import NUMBER
 from room.timecode import Counting
 from room.view import Edit, View
 
 LONGEST_NAME = 64
+PLAIN_NAME = re.compile(f"[!-~]{{1,{LONGEST_NAME}}}")
+SHORT_WIPE = re.compile("W([0-9]{1,2})")
 
 
 def fcm_words(draft: Draft) -> None:
@@ -39,11 +42,11 @@ def _is_heard(text: str, is_drop: bool) -> bool:
 
 def event_numbers(draft: Draft) -> None:
     """Numbers that aren't one to six digits get one that no other event has, the same for a row of lines with one number."""
-    used: Set[int] = {int(e.event.number) for e in draft.view.entries if re.fullmatch("[0-9]{1,6}", e.event.number)}
+    used: Set[int] = {int(e.event.number) for e in draft.view.entries if NUMBER.fullmatch(e.event.number)}
     free = max(used, default=0) + 1
     for edit in draft.view.edits:
         old = edit.entries[0].event.number
-        if re.fullmatch("[0-9]{1,6}", old):
+        if NUMBER.fullmatch(old):
             continue
         while free in used or free > 999_999:
             free = free + 1 if free < 999_999 else 1
@@ -67,9 +70,11 @@ def label_points(draft: Draft) -> None:
     """Points and commas in labels become colons, or in drop-frame counting the last one a semicolon."""
     view = draft.view
     is_drop = draft.rate == 30 and any(says_drop(words) for _, words in view.fcm)
+    points = re.compile("[.,]" if draft.rate == 30 else "[.,;]")
     for entry in view.pictures:
-        for place in range(4):
-            label = entry.event.labels[place]
+        for place, label in enumerate(entry.event.labels):
+            if points.search(label) is None:
+                continue
             new = re.sub("[.,]", ":", label[:8]) + (re.sub("[.,]", ";" if is_drop else ":", label[8]) + label[9:])
             if draft.rate != 30:
                 new = new.replace(";", ":")
@@ -77,7 +82,7 @@ def label_points(draft: Draft) -> None:
                 why = "no frame is dropped at this rate" if ";" in label else "the station's separators"
                 draft.put(draft.row(entry.line), entry.event.label_spans[place], new, "label", why)
     for line, motion in view.early_motions + [each for edit in view.edits for each in edit.motions]:
-        new = re.sub("[.,]" if draft.rate == 30 else "[.,;]", ":", motion.trigger)
+        new = points.sub(":", motion.trigger)
         if new != motion.trigger:
             draft.put(draft.row(line), motion.trigger_span, new, "trigger", "the station's separators")
 
@@ -85,7 +90,7 @@ def label_points(draft: Draft) -> None:
 def wipe_digits(draft: Draft) -> None:
     """A wipe's code has three digits."""
     for entry in draft.view.pictures:
-        code = re.fullmatch("W([0-9]{1,2})", entry.event.transition)
+        code = SHORT_WIPE.fullmatch(entry.event.transition)
         if code is not None:
             draft.put(draft.row(entry.line), entry.event.transition_span, f"W{int(code.group(1)):03}", "wipe", "its code has three digits")
 
@@ -194,7 +199,7 @@ def _motion_names(draft: Draft, view: View, given: Dict[str, str]) -> None:
 
 def is_plain_name(name: str) -> bool:
     """Whether the station takes it as a reel's name."""
-    return re.fullmatch(f"[!-~]{{1,{LONGEST_NAME}}}", name) is not None
+    return PLAIN_NAME.fullmatch(name) is not None
 
 
 def why_not_plain(name: str) -> str:

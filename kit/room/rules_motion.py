@@ -2,17 +2,19 @@
 
 from __future__ import annotations
 
+from collections import defaultdict, deque
 from decimal import Decimal, InvalidOperation
-from typing import Dict, List, Optional, Tuple
+from typing import Deque, Dict, List, Optional, Set, Tuple, cast
 
 from room.draft import Draft, Row, entries_by_line
 from room.edit_list import MotionLine, read_motion
 from room.list_text import Line
 from room.taken import SPEED
 from room.timecode import Counting
-from room.view import Edit, Entry, is_ascending_reverse, is_same_reel_transition, same_time
+from room.view import Edit, Entry, digits_of, is_ascending_reverse, is_same_reel_transition, same_time
 
 Motion = Tuple[Line, MotionLine]
+Source = Tuple[str, str]
 
 # How a program lists the source of a reverse, as far as is known: `range` in ascending order, so that play begins at its end;
 # `first` with the frame at which play begins as source in, which is the station's own reading.
@@ -33,20 +35,29 @@ def motions_before_events(draft: Draft) -> None:
         return
     moves: List[Tuple[Row, Row]] = []
     for line, motion in draft.view.early_motions:
-        if _names(motion, edits[0]) or len(edits[0].pictures) == 1:
+        if _source(motion) in _sources(edits[0]) or len(edits[0].pictures) == 1:
             moves.append((draft.row(line), draft.row(edits[0].entries[-1].line)))
         else:
             draft.ask(line, "this motion line stands before the first event, and isn't that event's")
     for edit, following in zip(edits, edits[1:]):
+        if not edit.motions:
+            continue
+        own, next_ones = _sources(edit), _sources(following)
+        has_its_own = any(_source(motion) in next_ones for _, motion in following.motions)
         for line, motion in edit.motions:
-            if not _names(motion, edit) and _names(motion, following) and not any(_names(m, following) for _, m in following.motions):
+            if not has_its_own and _source(motion) not in own and _source(motion) in next_ones:
                 moves.append((draft.row(line), draft.row(following.entries[-1].line)))
-    for row, anchor in reversed(moves):
-        draft.move_behind(row, anchor, "a motion line stands behind its event")
+    draft.move_behind(moves, "a motion line stands behind its event")
 
 
-def _names(motion: MotionLine, edit: Edit) -> bool:
-    return any(e.event.reel == motion.reel and same_time(e.event.labels[0], motion.trigger) for e in edit.entries)
+def _source(motion: MotionLine) -> Source:
+    """The reel and the time that a motion line names."""
+    return motion.reel, digits_of(motion.trigger)
+
+
+def _sources(edit: Edit) -> Set[Source]:
+    """The reel and the source in of each event line of an edit."""
+    return {(entry.event.reel, digits_of(entry.event.labels[0])) for entry in edit.entries}
 
 
 def _behind(edit: Edit) -> int:
@@ -57,15 +68,24 @@ def _behind(edit: Edit) -> int:
 def owners(edit: Edit) -> Dict[int, Entry]:
     """Whose motion each motion line of an edit is, by the line's number: its trigger tells, then its reel, then its being alone."""
     found: Dict[int, Entry] = {}
+    if not edit.motions:
+        return found
+    by_time, by_reel, by_both = (cast(Dict[object, Deque[Entry]], defaultdict(deque)) for _ in range(3))
+    for entry in edit.pictures:
+        reel, time = entry.event.reel, digits_of(entry.event.labels[0])
+        for group in (by_time[time], by_reel[reel], by_both[reel, time]):
+            group.append(entry)
+    alone = deque(edit.pictures if len(edit.pictures) == 1 else ())
+    owned: Set[Entry] = set()
     for line, motion in edit.motions:
-        free = [entry for entry in edit.pictures if entry not in found.values()]
-        by_time = [e for e in free if same_time(e.event.labels[0], motion.trigger)]
-        by_both = [e for e in by_time if e.event.reel == motion.reel]
-        by_reel = [e for e in free if e.event.reel == motion.reel]
-        alone = free if len(edit.pictures) == 1 else []
-        chosen = next((group[0] for group in (by_both, by_reel, by_time, alone) if group), None)
-        if chosen is not None:
-            found[line.number] = chosen
+        reel, time = _source(motion)
+        for group in (by_both[reel, time], by_reel[reel], by_time[time], alone):
+            while group and group[0] in owned:
+                group.popleft()
+            if group:
+                found[line.number] = group[0]
+                owned.add(group[0])
+                break
     return found
 
 
@@ -73,11 +93,12 @@ def motion_fields(draft: Draft) -> None:
     """Reel, speed and trigger of motion lines: the event's reel, two decimals, and the event's source in where there is none."""
     for edit in draft.view.edits:
         found = owners(edit)
+        reels = {entry.event.reel for entry in edit.entries} if edit.motions else set()
         for line, motion in edit.motions:
             entry = found.get(line.number)
             if entry is not None:
                 _fields_of_motion(draft, line, motion, entry)
-            elif not any(each.event.reel == motion.reel for each in edit.entries):
+            elif motion.reel not in reels:
                 draft.ask(line, f"this motion line of {motion.reel or 'no reel'} fits no event before it")
 
 
@@ -136,6 +157,7 @@ def motion_stills(draft: Draft) -> None:
 
 def motion_sides(draft: Draft) -> None:
     """In a transition within one reel the first motion line goes to the outgoing side: it gets one at play speed of its own."""
+    moves: List[Tuple[Row, Row]] = []
     for edit in reversed(draft.view.edits):
         if not is_same_reel_transition(edit):
             continue
@@ -150,11 +172,14 @@ def motion_sides(draft: Draft) -> None:
             text = f"M2   {out.event.reel:<8}       {draft.rate:03}.0                {out.event.labels[0]}"
             draft.insert(first_line.number - 1, text, "the outgoing side plays on, and the motion line behind is the incoming side's")
         elif same_time(motions[1][1].trigger, out.event.labels[0]):
-            draft.move_behind(draft.row(first_line), draft.row(motions[1][0]), "the outgoing side's motion line comes first")
+            moves.insert(0, (draft.row(first_line), draft.row(motions[1][0])))
+    draft.move_behind(moves, "the outgoing side's motion line comes first")
 
 
 def reverses(draft: Draft) -> None:
     """A reverse whose range stands in ascending order begins at the range's last frame; which habit a list has, its program says."""
+    if not any("-" in line.text for line in draft.view.lines if line.text.lstrip(" \t").startswith("M2")):
+        return
     entries = entries_by_line(draft.view)
     habit = HABITS.get(draft.options.habit or "")
     for taken in draft.view.reading.events:

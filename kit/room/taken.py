@@ -119,6 +119,11 @@ def read_list(lines: List[Line], rate: int, size: int = 0) -> Reading:
     return reader.reading
 
 
+def tokens_of(text: str) -> List[str]:
+    """What stands between blanks and tabs."""
+    return text.split() if text.isascii() and text.isprintable() else TOKEN.findall(text)
+
+
 class _Reader:
     """One pass over the lines, with what holds at each."""
 
@@ -133,6 +138,7 @@ class _Reader:
         self.is_last_known = True
         self.pictures = 0
         self.run: List[Head] = []
+        self.by_reel: Dict[str, List[Head]] = {}
         self.moved: Dict[str, int] = {}
         # Events whose motion line is refused: their lengths aren't judged either.
         self.unsure_runs: List[List[Head]] = []
@@ -145,16 +151,13 @@ class _Reader:
         self.reading.refused.append(Refused(number, line.number, column, end - column, added))
 
     def read(self, line: Line) -> None:
-        match = TOKEN.search(line.text)
-        if match is None:
-            return
-        first = match.group()
-        if "0" <= first[0] <= "9":
-            self.read_event(line, TOKEN.findall(line.text))
-        elif first.startswith("FCM:"):
+        start = line.text.lstrip(" \t")
+        if "0" <= start[:1] <= "9":
+            self.read_event(line, tokens_of(start))
+        elif start.startswith("FCM:"):
             self.read_fcm(line)
-        elif first == "M2":
-            self.read_motion(line, TOKEN.findall(line.text))
+        elif start[:3] in ("M2", "M2 ", "M2\t"):
+            self.read_motion(line, tokens_of(start))
 
     def read_fcm(self, line: Line) -> None:
         words = fcm_words(line.text) or ""
@@ -199,19 +202,26 @@ class _Reader:
         digits = re.match("[0-9]{1,6}", words[0])
         head = Head(line.number, int(digits.group()) if digits else -1, words[1] if len(words) > 1 else "", None)
         self.add_to_run(head)
-        self.unsure_runs.append(self.run)
+        self.doubt_run()
 
     def add_to_run(self, head: Head) -> None:
         if not self.run or self.run[-1].event != head.event:
             self.run = []
+            self.by_reel = {}
             self.moved = {}
         self.run.append(head)
+        self.by_reel.setdefault(head.reel, []).append(head)
+
+    def doubt_run(self) -> None:
+        """The lengths of this run's events aren't judged."""
+        if not self.unsure_runs or self.unsure_runs[-1] is not self.run:
+            self.unsure_runs.append(self.run)
 
     def read_picture(self, line: Line, words: List[str]) -> None:
         if len(words) < 4:
             return self.refuse_event("3.1", line, words, 3, "the line ends here")
         shape = words[3]
-        wipe = WIPE.fullmatch(shape)
+        wipe = WIPE.fullmatch(shape) if shape[0] == "W" else None
         if shape != "C" and shape != "D" and wipe is None:
             return self.refuse_event("3.3" if shape[0] == "K" else "3.6", line, words, 3)
         times = 4
@@ -230,8 +240,8 @@ class _Reader:
         self.begin_record()
         self.pictures += 1
         numbers: List[int] = []
-        for place in range(4):
-            counting = self.record_counting if place > 1 else self.source_counting
+        source, record = self.source_counting, self.record_counting
+        for place, counting in enumerate((source, source, record, record)):
             fault, number = counting.read(words[times + place])
             if fault is not None:
                 which = ("source in", "source out", "record in", "record out")[place]
@@ -282,7 +292,7 @@ class _Reader:
             faulty = 3
         if faulty is not None:
             self.refuse("3.4", line, faulty)
-            self.unsure_runs.append(self.run)
+            self.doubt_run()
             return
         fault, _ = self.source_counting.read(words[3])
         if fault is not None:
@@ -291,13 +301,13 @@ class _Reader:
 
     def bind_motion(self, line: Line, reel: str, speed: str, is_refused: bool) -> None:
         """The first motion line of a reel belongs to the run's first event line of that reel, and so on."""
-        own = [head for head in self.run if head.reel == reel]
+        own = self.by_reel.get(reel, [])
         place = self.moved.get(reel, 0)
         self.moved[reel] = place + 1
         if place >= len(own):
             if not is_refused:
                 self.refuse("4.6", line, 1)
-            self.unsure_runs.append(self.run)
+            self.doubt_run()
             return
         taken = own[place].taken
         if taken is not None:
@@ -358,20 +368,19 @@ def _overlaps(lasting: List[Taken]) -> List[Refused]:
     """Lines are put in, one after another; those that share no frame with an earlier one stay sorted by their record in."""
     refused: List[Refused] = []
     starts: List[int] = []
-    placed: List[Taken] = []
+    ends: List[int] = []
+    lines: List[int] = []
     overlapping: List[Taken] = []
     for taken in lasting:
-        place = bisect.bisect_left(starts, taken.record_out)
-        near: List[Taken] = []
-        while place > 0 and placed[place - 1].record_out > taken.record_in:
-            place -= 1
-            near.append(placed[place])
-        near += [other for other in overlapping[:50] if other.record_in < taken.record_out and taken.record_in < other.record_out]
+        place = bisect.bisect_right(ends, taken.record_in)
+        near = lines[place : bisect.bisect_left(starts, taken.record_out, place)]
+        near += [other.line for other in overlapping if other.record_in < taken.record_out and taken.record_in < other.record_out]
         if near:
-            earliest = min(other.line for other in near)
-            refused.append(Refused("7.1", taken.line, other_line=earliest))
-            overlapping.append(taken)
+            refused.append(Refused("7.1", taken.line, other_line=min(near)))
+            if len(overlapping) < 50:
+                overlapping.append(taken)
         else:
             starts.insert(place, taken.record_in)
-            placed.insert(place, taken)
+            ends.insert(place, taken.record_out)
+            lines.insert(place, taken.line)
     return refused

@@ -8,7 +8,7 @@ from __future__ import annotations
 import os
 import re
 from dataclasses import dataclass, field
-from functools import cached_property
+from functools import cached_property, lru_cache
 from typing import Dict, List, Optional, Tuple
 
 from room.edit_list import EventLine, MotionLine, Note, fcm_words, read_event, read_motion, read_note
@@ -19,8 +19,11 @@ from room.timecode import Counting
 # The words for a file that has no tape: the reel is then no source.
 FILE_REELS = ("AX", "AUX")
 
+NOT_A_DIGIT = re.compile("[^0-9]")
+ENDING = re.compile(r"\.(mov|mxf|mp4|m4v|avi|dpx|exr|r3d|ari|arx|braw|crm|psd|tiff?|jpe?g|png)$", re.IGNORECASE)
 
-@dataclass
+
+@dataclass(eq=False)
 class Entry:
     """An event line of an edit, its clip's name where a note gives one, and the event that the station takes of it."""
 
@@ -30,15 +33,15 @@ class Entry:
     taken: Optional[Taken] = None
 
 
-@dataclass
+@dataclass(eq=False)
 class Edit:
-    """Event lines of one number, and what belongs to them."""
+    """Event lines of one number, and what belongs to them. Its pictures are asked for once all lines are added."""
 
     entries: List[Entry] = field(default_factory=list)
     motions: List[Tuple[Line, MotionLine]] = field(default_factory=list)
     notes: List[Tuple[Line, Note]] = field(default_factory=list)
 
-    @property
+    @cached_property
     def pictures(self) -> List[Entry]:
         return [entry for entry in self.entries if entry.event.is_picture]
 
@@ -80,6 +83,38 @@ class View:
     def pictures(self) -> List[Entry]:
         return [entry for entry in self.entries if entry.event.is_picture]
 
+    def change(self, number: int, text: str) -> bool:
+        """Gives a line another text, if it stays what it is: an event line of its number, picture and transition, or a motion line."""
+        line = self.lines[number - 1]
+        entry, motion = self._entries_by_line.get(number), self._motions_by_line.get(number)
+        if entry is not None:
+            event = _event_of(text, text[:80].lstrip(" \t"))
+            old = entry.event
+            if event is None or (event.number, event.is_picture, event.is_transition) != (old.number, old.is_picture, old.is_transition):
+                return False
+            entry.event = event
+        elif motion is not None:
+            changed = read_motion(text) if text[:80].lstrip(" \t").startswith("M2") else None
+            if changed is None or read_event(text) is not None:
+                return False
+            motions, place = motion
+            motions[place] = (line, changed)
+        else:
+            return False
+        line.text = text
+        self.__dict__.pop("reading", None)
+        self.__dict__.pop("uses_semicolons", None)
+        return True
+
+    @cached_property
+    def _entries_by_line(self) -> Dict[int, Entry]:
+        return {entry.line.number: entry for entry in self.entries}
+
+    @cached_property
+    def _motions_by_line(self) -> Dict[int, Tuple[List[Tuple[Line, MotionLine]], int]]:
+        lists = [self.early_motions, *(edit.motions for edit in self.edits)]
+        return {line.number: (motions, place) for motions in lists for place, (line, _) in enumerate(motions)}
+
     def text_of(self, number: int) -> Optional[str]:
         """The line with this number."""
         return self.lines[number - 1].text if 1 <= number <= len(self.lines) else None
@@ -97,8 +132,14 @@ def view_of(lines: List[Line], rate: int, size: int = 0) -> View:
     for line in lines:
         is_open = _add(view, line, is_open)
     for edit in view.edits:
-        name_clips(edit)
+        if edit.notes:
+            name_clips(edit)
     return view
+
+
+def _event_of(text: str, start: str) -> Optional[EventLine]:
+    """The event of a line that begins so behind its blanks."""
+    return read_event(text) if "0" <= start[0] <= "9" or not start.startswith(("*", "FCM:", "FROM ")) else None
 
 
 def _add(view: View, line: Line, is_open: bool) -> bool:
@@ -106,7 +147,10 @@ def _add(view: View, line: Line, is_open: bool) -> bool:
     start = line.text[:80].lstrip(" \t")
     if not start:
         return is_open
-    event = None if start.startswith(("*", "FCM:", "FROM ")) else read_event(line.text)
+    if start[0] == "*":
+        _add_note(view, line)
+        return False
+    event = _event_of(line.text, start)
     if event is not None:
         if not is_open or view.edits[-1].entries[-1].event.number != event.number:
             view.edits.append(Edit())
@@ -120,19 +164,27 @@ def _add(view: View, line: Line, is_open: bool) -> bool:
     if motion is not None:
         (view.edits[-1].motions if view.edits else view.early_motions).append((line, motion))
         return False
+    _add_note(view, line)
+    return False
+
+
+def _add_note(view: View, line: Line) -> None:
+    """Adds a line that is no event, where it has a note."""
     note = read_note(line.text)
     if note is not None:
         view.notes.append((line, note))
         if view.edits:
             view.edits[-1].notes.append((line, note))
-    return False
 
 
 def name_clips(edit: Edit) -> None:
     """Gives each picture line its clip: in a transition FROM names the line before, and TO the incoming one."""
-    source = os.path.basename(edit.note("SOURCE FILE") or edit.note("FROM FILE") or "")
-    of_from = edit.note("FROM CLIP NAME") or source
-    of_to = edit.note("TO CLIP NAME")
+    named: Dict[str, str] = {}
+    for _, note in edit.notes:
+        if note.value:
+            named.setdefault(note.key, note.value)
+    of_from = named.get("FROM CLIP NAME") or os.path.basename(named.get("SOURCE FILE") or named.get("FROM FILE") or "")
+    of_to = named.get("TO CLIP NAME", "")
     pictures = edit.pictures
     for place, entry in enumerate(pictures):
         is_last = place == len(pictures) - 1
@@ -142,9 +194,10 @@ def name_clips(edit: Edit) -> None:
             entry.clip = of_from
 
 
+@lru_cache(maxsize=1 << 16)
 def name_of_clip(clip: str) -> str:
     """A clip's name without the ending of its file, for comparing."""
-    return re.sub(r"\.(mov|mxf|mp4|m4v|avi|dpx|exr|r3d|ari|arx|braw|crm|psd|tiff?|jpe?g|png)$", "", clip.strip(), flags=re.IGNORECASE)
+    return ENDING.sub("", clip.strip())
 
 
 def contradicting_reels(view: View) -> Dict[str, Tuple[Entry, Entry]]:
@@ -155,9 +208,11 @@ def contradicting_reels(view: View) -> Dict[str, Tuple[Entry, Entry]]:
     by_reel: Dict[str, List[Tuple[int, int, str, Entry]]] = {}
     counting = Counting(view.rate)
     for entry in view.pictures:
-        name = name_of_clip(entry.clip)
+        name = name_of_clip(entry.clip) if entry.clip else ""
+        if not name or entry.event.is_black:
+            continue
         times = [counting.near_number(label.replace(";", ":")) for label in entry.event.labels[:2]]
-        if not name or entry.event.is_black or None in times:
+        if None in times:
             continue
         source_in, source_out = times
         assert source_in is not None and source_out is not None
@@ -202,4 +257,9 @@ def is_same_reel_transition(edit: Edit) -> bool:
 
 def same_time(label: str, other: str) -> bool:
     """Whether two labels have the same digits, whatever separates them."""
-    return re.sub("[^0-9]", "", label) == re.sub("[^0-9]", "", other)
+    return label == other or digits_of(label) == digits_of(other)
+
+
+def digits_of(label: str) -> str:
+    """A label's digits."""
+    return NOT_A_DIGIT.sub("", label)

@@ -6,14 +6,25 @@ import unittest
 
 from helpers import quick_station
 from generated import Generated, generate, meaning
-from room.draft import Options
-from room.list_text import lines_of
-from room.rewrite import rewrite
+from room.draft import Draft, Options, Row
+from room.list_text import Line, lines_of, plain_text
+from room.rewrite import RULES, rewrite
 from room.station import DONE, event_table
 from room.taken import read_list
 from room.timecode import Counting
+from room.view import View, view_of
 
 MANY = 2000
+
+
+def shown(view: View) -> object:
+    """A view's values, but for the clips, of which a rule of reels adds some."""
+    edits = [
+        ([(entry.line, vars(entry.event)) for entry in edit.entries], [(line, vars(motion)) for line, motion in edit.motions], edit.notes)
+        for edit in view.edits
+    ]
+    early = [(line, vars(motion)) for line, motion in view.early_motions]
+    return view.lines, edits, early, view.notes, view.fcm, view.uses_semicolons, [(vars(taken)) for taken in view.reading.events], view.reading.refused
 
 
 class TestProperty(unittest.TestCase):
@@ -34,6 +45,21 @@ class TestProperty(unittest.TestCase):
                 self.assertEqual(answer.status, DONE, answer.text)
                 self.compare(made, event_table(answer), new)
         self.assertGreater(same, MANY // 8)
+
+    def test_the_view_behind_each_rule_is_one_made_anew(self) -> None:
+        """A rule's changes are put into the view at hand, in place of reading all rows again."""
+        kept = 0
+        for seed in range(400):
+            made = generate(seed)
+            draft = Draft([Row(line.number, line.text, line.end) for line in lines_of(plain_text(made.data)[0])], Options(made.rate, "avid"))
+            for rule in RULES:
+                before = draft.view
+                rule(draft)
+                with self.subTest(seed=seed, rule=rule.__name__):
+                    now = [Line(place + 1, row.text, row.end) for place, row in enumerate(draft.rows)]
+                    self.assertEqual(shown(draft.view), shown(view_of(now, made.rate)))
+                kept += draft.view is before and draft.findings != []
+        self.assertGreater(kept, 400)
 
     def compare(self, made: Generated, table, new: bytes) -> None:
         """The events are those that were meant, and each clip has one reel of its own."""
