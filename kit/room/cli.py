@@ -31,7 +31,7 @@ COMMANDS = (
 )
 
 # So many values are made before the first are collected.
-SELDOM = 200_000
+SELDOM = 1_000_000
 
 DESCRIPTION = """\
 The room's kit: what an assistant does with lists, projects, scans and reels around the station.

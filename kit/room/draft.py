@@ -53,7 +53,7 @@ class Draft:
     def view(self) -> View:
         """What the rows are now. Its lines are numbered by their places among the rows."""
         view = self._view
-        if view is not None and not all(view.change(row.place, row.text) for row in self._touched):
+        if view is not None and self._touched and not view.change((row.place, row.text) for row in self._touched):
             view = None
         if view is None:
             for place, row in enumerate(self.rows, 1):

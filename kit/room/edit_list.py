@@ -101,7 +101,7 @@ def read_event(text: str) -> Optional[EventLine]:
     if match is None or match.start(6) > LONGEST_HEAD:
         return _read_unusual(text)
     number, reel, channels, transition, duration, *_ = match.groups()
-    if ONE_LABEL.search(reel) or ONE_LABEL.search(number):
+    if len(reel) > 10 and ONE_LABEL.search(reel) or len(number) > 10 and ONE_LABEL.search(number):
         return _read_unusual(text)
     if DIGIT.search(number) is None or number[0] == "*" or CHANNELS.fullmatch(channels) is None:
         return None

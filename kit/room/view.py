@@ -9,7 +9,7 @@ import os
 import re
 from dataclasses import dataclass, field
 from functools import cached_property, lru_cache
-from typing import Dict, List, Optional, Tuple
+from typing import Dict, Iterable, List, Optional, Tuple
 
 from room.edit_list import EventLine, MotionLine, Note, fcm_words, read_event, read_motion, read_note
 from room.list_text import Line
@@ -83,27 +83,34 @@ class View:
     def pictures(self) -> List[Entry]:
         return [entry for entry in self.entries if entry.event.is_picture]
 
-    def change(self, number: int, text: str) -> bool:
-        """Gives a line another text, if it stays what it is: an event line of its number, picture and transition, or a motion line."""
-        line = self.lines[number - 1]
-        entry, motion = self._entries_by_line.get(number), self._motions_by_line.get(number)
-        if entry is not None:
-            event = _event_of(text, text[:80].lstrip(" \t"))
-            old = entry.event
-            if event is None or (event.number, event.is_picture, event.is_transition) != (old.number, old.is_picture, old.is_transition):
-                return False
-            entry.event = event
-        elif motion is not None:
-            changed = read_motion(text) if text[:80].lstrip(" \t").startswith("M2") else None
-            if changed is None or read_event(text) is not None:
-                return False
-            motions, place = motion
-            motions[place] = (line, changed)
-        else:
-            return False
-        line.text = text
+    def change(self, texts: Iterable[Tuple[int, str]]) -> bool:
+        """Gives lines, by their numbers, another text. Where one doesn't stay what it was, the view has to be made anew."""
         self.__dict__.pop("reading", None)
         self.__dict__.pop("uses_semicolons", None)
+        return all(self._change_event(number, text) or self._change_motion(number, text) for number, text in texts)
+
+    def _change_event(self, number: int, text: str) -> bool:
+        """An event line stays one if its number, and whether it has picture and a transition, are the same."""
+        entry = self._entries_by_line.get(number)
+        start = text[:80].lstrip(" \t")
+        event = _event_of(text, start) if entry is not None and start else None
+        if entry is None or event is None:
+            return False
+        old = entry.event
+        if event.number != old.number or event.is_picture != old.is_picture or event.is_transition != old.is_transition:
+            return False
+        entry.event = event
+        entry.line.text = text
+        return True
+
+    def _change_motion(self, number: int, text: str) -> bool:
+        motions, place = self._motions_by_line.get(number, ([], 0))
+        motion = read_motion(text) if motions and text[:80].lstrip(" \t").startswith("M2") and read_event(text) is None else None
+        if motion is None:
+            return False
+        line = motions[place][0]
+        motions[place] = (line, motion)
+        line.text = text
         return True
 
     @cached_property
@@ -139,7 +146,7 @@ def view_of(lines: List[Line], rate: int, size: int = 0) -> View:
 
 def _event_of(text: str, start: str) -> Optional[EventLine]:
     """The event of a line that begins so behind its blanks."""
-    return read_event(text) if "0" <= start[0] <= "9" or not start.startswith(("*", "FCM:", "FROM ")) else None
+    return None if start.startswith(("*", "FCM:", "FROM ")) else read_event(text)
 
 
 def _add(view: View, line: Line, is_open: bool) -> bool:
@@ -150,7 +157,7 @@ def _add(view: View, line: Line, is_open: bool) -> bool:
     if start[0] == "*":
         _add_note(view, line)
         return False
-    event = _event_of(line.text, start)
+    event = read_event(line.text) if "0" <= start[0] <= "9" else _event_of(line.text, start)
     if event is not None:
         if not is_open or view.edits[-1].entries[-1].event.number != event.number:
             view.edits.append(Edit())
