@@ -14,7 +14,7 @@ returns-clause-file g c =
     let size = c.requires.size in
     let count : length pixels ≡ 4 * pixel_count g.N.Work.job = omega (arith, size, length-drop 2048 c.args.file.now) in
     let head : take 2048 new ≡ header_of (out_head g.N.Work.job c.args.i) =
-        c.put_header.ensures.header ∙ ap (λ (job : JobData). header_of (out_head job c.args.i)) c.requires.job in
+    c.put_header.ensures.header ∙ ap (λ (job : JobData). header_of (out_head job c.args.i)) c.requires.job in
     let is : new ≡ header_of (out_head g.N.Work.job c.args.i) ++ pixels =
-        sym (take-append-drop 2048 new) ∙ ap (λ rest. take 2048 new ++ rest) c.put_header.ensures.behind ∙ ap (λ front. front ++ pixels) head in
+    sym (take-append-drop 2048 new) ∙ ap (λ rest. take 2048 new ++ rest) c.put_header.ensures.behind ∙ ap (λ front. front ++ pixels) head in
     reheaded g.N.Work.job g.N.Work.files c.args.i pixels new (c.put_header.ensures.size ∙ size) count is c.requires.pixels
