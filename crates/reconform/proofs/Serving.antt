@@ -7,7 +7,8 @@ use Rattle.std.proofs.lemmas.List.{get_or-set_same, get_or-set_other, length-set
 use Rattle.scan_source.specs.World.{World, file_at}
 use Rattle.conform_job.specs.Job.{JobData, file_of}
 use Rattle.frame_render.specs.Frame.{frame_file}
-use Rattle.reel_disk.specs.Disk.{Files, History}
+use Rattle.reel_disk.specs.Disk.{Files, History, view_of}
+use Rattle.reel_disk.specs.Loan.{Loan}
 use Rattle.resume_ledger.specs.Look.{ViewState, IsViewOf}
 use Rattle.reel_writer.specs.Reel.{frames_of}
 use Rattle.reel_writer.specs.View.{ReelView, after_finish, after_fault}
@@ -16,9 +17,9 @@ use Rattle.reconform.specs.declared.plan.FramePlan.{FramePlan}
 use Rattle.reconform.specs.Adopt.{CanServe, IsSameReel, IsServed, AreServed}
 use Rattle.reconform.specs.Donor.{IsDonor, IsIntact, HasIntactDonor, IsLeast, AreLeast, donor_in}
 use Rattle.reconform.specs.Laws.{HasTitle}
-use Rattle.reconform.specs.Parts.{HasAdopted}
+use Rattle.reconform.specs.Parts.{HasAdopted, HasServed}
 use Rattle.reconform.specs.Plan.{AreAlike, plan_at}
-use Rattle.reconform.proofs.Going.{part_itself, still_itself}
+use Rattle.reconform.proofs.Going.{both_itself, part_itself, still_itself}
 use Rattle.reconform.proofs.Painting.{equal_plans}
 
 -- where the old folder is sound, the pixels of a donor are those of the frame
@@ -181,4 +182,18 @@ adopted_none new old told tells history reel_tells reel_history view disk reel =
   end = inr refl;
   part = part_itself new told reel_tells reel_history reel.ledger.gates reel.disk;
   still = λ is. still_itself (history disk);
+}
+
+-- nothing is to be done for a frame
+pub nothing_done : {D E : Type 0} (new old : JobData) (told : Option World) (tells : Bool) (history : D → History) (faults : D → ℕ) (loans : D → List Loan)
+    (reel_tells : Bool) (reel_history : E → History) (reel_faults : E → ℕ) (reel_loans : E → List Loan) (view : ViewState) (i : ℕ) (disk : D) (reel : ReelView E)
+    → reel.ledger.closed ≡ false → (tells ≡ true → IsServed new old view (view_of (history disk)) i reel.ledger.gates reel.ledger.gates)
+    → HasServed new old told tells history faults loans reel_tells reel_history reel_faults reel_loans view i (Ok tt) disk disk reel reel
+nothing_done new old told tells history faults loans reel_tells reel_history reel_faults reel_loans view i disk reel is_open served = record {
+  served = served;
+  stays = same_itself reel;
+  stays_open = is_open;
+  part = part_itself new told reel_tells reel_history reel.ledger.gates reel.disk;
+  still = λ is. still_itself (history disk);
+  disks = both_itself faults loans reel_faults reel_loans _ (λ is. cc) disk reel.disk;
 }

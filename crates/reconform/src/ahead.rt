@@ -8,214 +8,174 @@ ghost use Rattle.reel_writer.specs.Leaves.{LeavesDisk};
 ghost use Rattle.reel_writer.specs.Reel.{frames_of};
 ghost use Rattle.reconform.specs.Ahead.{CanFinish, HoldsDonor, HoldsFrame, IsKept};
 ghost use Rattle.reconform.specs.Donor.{donor_in};
-ghost use Rattle.reconform.specs.Parts.{HasDonors, WasLookedAt};
+ghost use Rattle.reconform.specs.Parts.{CanTake, HasDonors};
 ghost use Rattle.reconform.specs.Plan.{plan_at};
 ghost use Rattle.sha2.specs.Sha256.{sha256};
 
-use crate::donors::Donors;
 use crate::plan::plan_at;
-use conform_job::{Job, Work};
+use crate::takeover::Takeover;
+use conform_job::Work;
 use frame_hash::{Hasher, Room};
 use frame_render::rehead;
 use reel_disk::{Disk, DiskFault};
 use reel_writer::{Reel, read_whole};
-use resume_ledger::LedgerView;
 
-/// Makes the files of the frames from `from` on that are to be taken over, one in each room, with their digests: those that
-/// aren't acknowledged, and whose donor is intact. A donor's file of another length than a frame's ends it: the rooms that are
-/// left are free then, as are those of damaged donors.
-pub(crate) fn fill_rooms<N: Work, O: Work, D: Disk, E: Disk, H: Hasher>(
-    new_job: &Job,
-    old_job: &Job,
-    old: &mut D,
-    view: &LedgerView,
-    donors: &Donors,
-    reel: &Reel<E, N>,
-    hasher: &H,
-    from: u32,
-    rooms: &mut [Room],
-) -> Result<(), DiskFault>
-    requires can_hash { H.can_hash }
-    requires new_job { new_job.now ≡ N.job }
-    requires old_job { old_job.now ≡ O.job }
-    requires looked { WasLookedAt N.job O.job N.files D.tells (view_of (D.history old.old)) view.now }
-    requires donors { HasDonors N.job O.job view.now.gates donors.now.by_plan }
-    requires size { All (λ room. length room.bytes.items ≡ frame_size N.job) rooms.old }
-    ensures filled { OnOk result (All (CanFinish N.job O.job N.files D.tells view.now (view_of (D.history old.old))) rooms.new) }
-    ensures still { D.tells ≡ true → IsStill (D.history old.old) (D.history old.new) }
-    ensures disk { LeavesDisk D.faults D.loans (IsErr result) old.old old.new }
-{
-    match read_ahead::<N, O, D, E>(new_job, old_job, old, view, donors, reel, from, rooms) {
-        Ok(()) => {
-            hasher.hash(rooms);
-            dress_all::<N, O, D>(new_job, &*old, view, donors, rooms);
-            hasher.hash(rooms);
-            Ok(())
-        }
-        Err(DiskFault) => Err(DiskFault),
-    }
-}
-
-/// Reads the files of donors, one into each room.
-fn read_ahead<N: Work, O: Work, D: Disk, E: Disk>(
-    new_job: &Job,
-    old_job: &Job,
-    old: &mut D,
-    view: &LedgerView,
-    donors: &Donors,
-    reel: &Reel<E, N>,
-    from: u32,
-    rooms: &mut [Room],
-) -> Result<(), DiskFault>
-    requires new_job { new_job.now ≡ N.job }
-    requires old_job { old_job.now ≡ O.job }
-    requires donors { HasDonors N.job O.job view.now.gates donors.now.by_plan }
-    requires size { All (λ room. length room.bytes.items ≡ frame_size N.job) rooms.old }
-    ensures read { OnOk result (All (HoldsDonor N.job O.job D.tells (view_of (D.history old.old)) donors.now.by_plan) rooms.new) }
-    ensures still { D.tells ≡ true → IsStill (D.history old.old) (D.history old.new) }
-    ensures disk { LeavesDisk D.faults D.loans (IsErr result) old.old old.new }
-{
-    let mut next = from;
-    for n in 0..rooms.len() {
-        match read_next::<N, O, D, E>(
-            new_job,
-            old_job,
-            old,
-            view,
-            donors,
-            reel,
-            next,
-            &mut rooms[n],
-        ) {
-            Ok(behind) => next = behind,
-            Err(DiskFault) => return Err(DiskFault),
-        }
-    }
-    Ok(())
-}
-
-/// Reads the file of the donor of the next frame from `from` on that is to be taken over, if the file is as long as the room:
-/// where the next one is looked for. The room is free where there is none.
-fn read_next<N: Work, O: Work, D: Disk, E: Disk>(
-    new_job: &Job,
-    old_job: &Job,
-    old: &mut D,
-    view: &LedgerView,
-    donors: &Donors,
-    reel: &Reel<E, N>,
-    from: u32,
-    room: &mut Room,
-) -> Result<u32, DiskFault>
-    requires new_job { new_job.now ≡ N.job }
-    requires old_job { old_job.now ≡ O.job }
-    requires donors { HasDonors N.job O.job view.now.gates donors.now.by_plan }
-    requires size { length room.old.bytes.items ≡ frame_size N.job }
-    ensures read { OnOk result (HoldsDonor N.job O.job D.tells (view_of (D.history old.old)) donors.now.by_plan room.new) }
-    ensures still { D.tells ≡ true → IsStill (D.history old.old) (D.history old.new) }
-    ensures disk { LeavesDisk D.faults D.loans (IsErr result) old.old old.new }
-{
-    room.frame = None;
-    let end = new_job.count();
-    match next_wanted::<N, O, E>(new_job, view, donors, reel, from) {
-        Some((i, j)) => match read_whole(old, old_job.file_of(j), &mut room.bytes) {
-            Ok(true) => {
-                room.frame = Some(i);
-                Ok(i + 1)
+impl<H: Hasher> Takeover<'_, '_, '_, '_, '_, H> {
+    /// Makes the files of the frames from `from` on that are to be taken over, one in each room, with their digests: those that
+    /// aren't acknowledged, and whose donor is intact. A donor's file of another length than a frame's ends it: the rooms that are
+    /// left are free then, as are those of damaged donors.
+    pub(crate) fn fill_rooms<N: Work, O: Work, D: Disk, E: Disk>(
+        &self,
+        old: &mut D,
+        reel: &Reel<E, N>,
+        from: u32,
+        rooms: &mut [Room],
+    ) -> Result<(), DiskFault>
+        requires can_hash { H.can_hash }
+        requires can { CanTake N.job O.job N.files D.tells (view_of (D.history old.old))
+            self.now.new_job.now self.now.old_job.now self.now.view.now self.now.donors.now.by_plan }
+        requires size { All (λ room. length room.bytes.items ≡ frame_size N.job) rooms.old }
+        ensures filled { OnOk result (All (CanFinish N.job O.job N.files D.tells self.now.view.now (view_of (D.history old.old)))
+            rooms.new) }
+        ensures still { D.tells ≡ true → IsStill (D.history old.old) (D.history old.new) }
+        ensures disk { LeavesDisk D.faults D.loans (IsErr result) old.old old.new }
+    {
+        match self.read_ahead::<N, O, D, E>(old, reel, from, rooms) {
+            Ok(()) => {
+                self.hasher.hash(rooms);
+                self.dress_all::<N, O, D>(&*old, rooms);
+                self.hasher.hash(rooms);
+                Ok(())
             }
-            Ok(false) => Ok(end),
             Err(DiskFault) => Err(DiskFault),
-        },
-        None => Ok(end),
+        }
     }
-}
 
-/// The first frame from `from` on that isn't acknowledged and has a donor, and the donor.
-fn next_wanted<N: Work, O: Work, E: Disk>(
-    new_job: &Job,
-    view: &LedgerView,
-    donors: &Donors,
-    reel: &Reel<E, N>,
-    from: u32,
-) -> Option<(u32, u32)>
-    requires new_job { new_job.now ≡ N.job }
-    requires donors { HasDonors N.job O.job view.now.gates donors.now.by_plan }
-    ensures within { IfSome result (λ found. (found.0 < frames_of N.job) × (found.1 < frames_of O.job)) }
-    ensures donor { IfSome result (λ found. donor_in donors.now.by_plan (plan_at N.job found.0) ≡ Some found.1) }
-{
-    for i in from..new_job.count() {
-        if !reel.is_acked(i) {
-            if let Some(j) = donors.get(plan_at(new_job, i)) {
-                return Some((i, j));
+    /// Reads the files of donors, one into each room.
+    fn read_ahead<N: Work, O: Work, D: Disk, E: Disk>(
+        &self,
+        old: &mut D,
+        reel: &Reel<E, N>,
+        from: u32,
+        rooms: &mut [Room],
+    ) -> Result<(), DiskFault>
+        requires new_job { self.now.new_job.now ≡ N.job }
+        requires old_job { self.now.old_job.now ≡ O.job }
+        requires donors { HasDonors N.job O.job self.now.view.now.gates self.now.donors.now.by_plan }
+        requires size { All (λ room. length room.bytes.items ≡ frame_size N.job) rooms.old }
+        ensures read { OnOk result (All (HoldsDonor N.job O.job D.tells (view_of (D.history old.old)) self.now.donors.now.by_plan)
+            rooms.new) }
+        ensures still { D.tells ≡ true → IsStill (D.history old.old) (D.history old.new) }
+        ensures disk { LeavesDisk D.faults D.loans (IsErr result) old.old old.new }
+    {
+        let mut next = from;
+        for n in 0..rooms.len() {
+            match self.read_next::<N, O, D, E>(old, reel, next, &mut rooms[n]) {
+                Ok(behind) => next = behind,
+                Err(DiskFault) => return Err(DiskFault),
+            }
+        }
+        Ok(())
+    }
+
+    /// Reads the file of the donor of the next frame from `from` on that is to be taken over, if the file is as long as the room:
+    /// where the next one is looked for. The room is free where there is none.
+    fn read_next<N: Work, O: Work, D: Disk, E: Disk>(
+        &self,
+        old: &mut D,
+        reel: &Reel<E, N>,
+        from: u32,
+        room: &mut Room,
+    ) -> Result<u32, DiskFault>
+        requires new_job { self.now.new_job.now ≡ N.job }
+        requires old_job { self.now.old_job.now ≡ O.job }
+        requires donors { HasDonors N.job O.job self.now.view.now.gates self.now.donors.now.by_plan }
+        requires size { length room.old.bytes.items ≡ frame_size N.job }
+        ensures read { OnOk result (HoldsDonor N.job O.job D.tells (view_of (D.history old.old)) self.now.donors.now.by_plan room.new) }
+        ensures still { D.tells ≡ true → IsStill (D.history old.old) (D.history old.new) }
+        ensures disk { LeavesDisk D.faults D.loans (IsErr result) old.old old.new }
+    {
+        room.frame = None;
+        let end = self.new_job.count();
+        match self.next_wanted::<N, O, E>(reel, from) {
+            Some((i, j)) => match read_whole(old, self.old_job.file_of(j), &mut room.bytes) {
+                Ok(true) => {
+                    room.frame = Some(i);
+                    Ok(i + 1)
+                }
+                Ok(false) => Ok(end),
+                Err(DiskFault) => Err(DiskFault),
+            },
+            None => Ok(end),
+        }
+    }
+
+    /// The first frame from `from` on that isn't acknowledged and has a donor, and the donor.
+    fn next_wanted<N: Work, O: Work, E: Disk>(
+        &self,
+        reel: &Reel<E, N>,
+        from: u32,
+    ) -> Option<(u32, u32)>
+        requires new_job { self.now.new_job.now ≡ N.job }
+        requires donors { HasDonors N.job O.job self.now.view.now.gates self.now.donors.now.by_plan }
+        ensures within { IfSome result (λ found. (found.0 < frames_of N.job) × (found.1 < frames_of O.job)) }
+        ensures donor { IfSome result (λ found. donor_in self.now.donors.now.by_plan (plan_at N.job found.0) ≡ Some found.1) }
+    {
+        for i in from..self.new_job.count() {
+            if !reel.is_acked(i) {
+                if let Some(j) = self.donors.get(plan_at(self.new_job, i)) {
+                    return Some((i, j));
+                }
+            }
+        }
+        None
+    }
+
+    /// Makes of each donor's file that of its frame, where the donor is intact; the rooms of others are free then.
+    fn dress_all<N: Work, O: Work, D: Disk>(&self, _old: &D, rooms: &mut [Room])
+        requires can { CanTake N.job O.job N.files D.tells (view_of (D.history _old.now))
+            self.now.new_job.now self.now.old_job.now self.now.view.now self.now.donors.now.by_plan }
+        requires read { All (HoldsDonor N.job O.job D.tells (view_of (D.history _old.now)) self.now.donors.now.by_plan) rooms.old }
+        requires digests { All (λ room. IfSome room.frame (λ i. room.digest ≡ sha256 room.bytes.items)) rooms.old }
+        ensures frames { All (HoldsFrame N.job O.job N.files D.tells self.now.view.now (view_of (D.history _old.now))) rooms.new }
+    {
+        for n in 0..rooms.len() {
+            self.dress::<N, O, D>(_old, &mut rooms[n]);
+        }
+    }
+
+    /// The same of one room. Nothing is read of the old folder.
+    fn dress<N: Work, O: Work, D: Disk>(&self, _old: &D, room: &mut Room)
+        requires can { CanTake N.job O.job N.files D.tells (view_of (D.history _old.now))
+            self.now.new_job.now self.now.old_job.now self.now.view.now self.now.donors.now.by_plan }
+        requires read { HoldsDonor N.job O.job D.tells (view_of (D.history _old.now)) self.now.donors.now.by_plan room.old }
+        requires digest { IfSome room.old.frame (λ i. room.old.digest ≡ sha256 room.old.bytes.items) }
+        ensures frame { HoldsFrame N.job O.job N.files D.tells self.now.view.now (view_of (D.history _old.now)) room.new }
+    {
+        if let Some(i) = room.frame {
+            if self.is_kept::<N, O>(i, &room.digest) {
+                rehead::<N>(self.new_job, i, &mut room.bytes);
+            } else {
+                room.frame = None;
             }
         }
     }
-    None
-}
 
-/// Makes of each donor's file that of its frame, where the donor is intact; the rooms of others are free then.
-fn dress_all<N: Work, O: Work, D: Disk>(
-    new_job: &Job,
-    _old: &D,
-    view: &LedgerView,
-    donors: &Donors,
-    rooms: &mut [Room],
-)
-    requires new_job { new_job.now ≡ N.job }
-    requires looked { WasLookedAt N.job O.job N.files D.tells (view_of (D.history _old.now)) view.now }
-    requires donors { HasDonors N.job O.job view.now.gates donors.now.by_plan }
-    requires read { All (HoldsDonor N.job O.job D.tells (view_of (D.history _old.now)) donors.now.by_plan) rooms.old }
-    requires digests { All (λ room. IfSome room.frame (λ i. room.digest ≡ sha256 room.bytes.items)) rooms.old }
-    ensures frames { All (HoldsFrame N.job O.job N.files D.tells view.now (view_of (D.history _old.now))) rooms.new }
-{
-    for n in 0..rooms.len() {
-        dress::<N, O, D>(new_job, _old, view, donors, &mut rooms[n]);
-    }
-}
-
-/// The same of one room. Nothing is read of the old folder.
-fn dress<N: Work, O: Work, D: Disk>(
-    new_job: &Job,
-    _old: &D,
-    view: &LedgerView,
-    donors: &Donors,
-    room: &mut Room,
-)
-    requires new_job { new_job.now ≡ N.job }
-    requires looked { WasLookedAt N.job O.job N.files D.tells (view_of (D.history _old.now)) view.now }
-    requires donors { HasDonors N.job O.job view.now.gates donors.now.by_plan }
-    requires read { HoldsDonor N.job O.job D.tells (view_of (D.history _old.now)) donors.now.by_plan room.old }
-    requires digest { IfSome room.old.frame (λ i. room.old.digest ≡ sha256 room.old.bytes.items) }
-    ensures frame { HoldsFrame N.job O.job N.files D.tells view.now (view_of (D.history _old.now)) room.new }
-{
-    if let Some(i) = room.frame {
-        if is_kept::<N, O>(new_job, view, donors, i, &room.digest) {
-            rehead::<N>(new_job, i, &mut room.bytes);
-        } else {
-            room.frame = None;
+    /// Whether frame `i` has a donor, and the digest is the one that the old folder keeps of it, if it keeps one.
+    fn is_kept<N: Work, O: Work>(&self, i: u32, digest: &[u8; 32]) -> bool
+        requires new_job { self.now.new_job.now ≡ N.job }
+        requires index { i < frames_of N.job }
+        requires flags { length self.now.view.now.gates ≡ frames_of O.job }
+        requires donors { HasDonors N.job O.job self.now.view.now.gates self.now.donors.now.by_plan }
+        ensures kept { result ≡ true → IsKept N.job self.now.view.now self.now.donors.now.by_plan i digest.now }
+    {
+        match self.donors.get(plan_at(self.new_job, i)) {
+            Some(j) => match self.view.hash_of(j) {
+                Some(kept) => kept == *digest,
+                None => true,
+            },
+            None => false,
         }
-    }
-}
-
-/// Whether frame `i` has a donor, and the digest is the one that the old folder keeps of it, if it keeps one.
-fn is_kept<N: Work, O: Work>(
-    new_job: &Job,
-    view: &LedgerView,
-    donors: &Donors,
-    i: u32,
-    digest: &[u8; 32],
-) -> bool
-    requires new_job { new_job.now ≡ N.job }
-    requires index { i < frames_of N.job }
-    requires flags { length view.now.gates ≡ frames_of O.job }
-    requires donors { HasDonors N.job O.job view.now.gates donors.now.by_plan }
-    ensures kept { result ≡ true → IsKept N.job view.now donors.now.by_plan i digest.now }
-{
-    match donors.get(plan_at(new_job, i)) {
-        Some(j) => match view.hash_of(j) {
-            Some(kept) => kept == *digest,
-            None => true,
-        },
-        None => false,
     }
 }
 

@@ -8,16 +8,17 @@ ghost use Rattle.scan_source.specs.World.{file_at};
 ghost use Rattle.reel_disk.specs.Disk.{view_of, IsStill};
 ghost use Rattle.reel_writer.specs.Leaves.{LeavesDisk};
 ghost use Rattle.reel_writer.specs.Reel.{frames_of};
-ghost use Rattle.reconform.specs.Adopt.{IsSameReel, IsServed, LeavesBoth};
+ghost use Rattle.reconform.specs.Adopt.{IsSameReel, LeavesBoth};
 ghost use Rattle.reconform.specs.Ahead.{CanFinish};
 ghost use Rattle.reconform.specs.Donor.{HasIntactDonor};
-ghost use Rattle.reconform.specs.Parts.{HasAdopted, HasDonors, IsPart, WasLookedAt};
+ghost use Rattle.reconform.specs.Parts.{CanTake, HasAdopted, HasServed, IsPart, WasLookedAt};
 
 use crate::adopting::AdoptFault;
-use crate::ahead::{are_free, fill_rooms, free_place, place_of};
+use crate::ahead::{are_free, free_place, place_of};
 use crate::donors::Donors;
 use crate::intact::read_intact;
 use crate::plan::{are_alike, plan_at};
+use crate::takeover::Takeover;
 use conform_job::{Job, Work};
 use frame_hash::{Hasher, Room, rooms_of};
 use frame_render::{Rendered, rehead};
@@ -28,358 +29,266 @@ use sha2::{Digest, Sha256};
 use std::alloc::Global;
 use std::mem::replace;
 
-/// Reads the file of the donor of frame `i`, where it has one that is intact: whether it has. The donor's bytes are in `file`
-/// then.
-fn read_donor<N: Work, O: Work, D: Disk>(
-    new_job: &Job,
-    old_job: &Job,
-    old: &mut D,
-    view: &LedgerView,
-    donors: &Donors,
-    i: u32,
-    file: &mut [u8],
-) -> Result<bool, DiskFault>
-    requires new_job { new_job.now ≡ N.job }
-    requires old_job { old_job.now ≡ O.job }
-    requires looked { WasLookedAt N.job O.job N.files D.tells (view_of (D.history old.old)) view.now }
-    requires donors { HasDonors N.job O.job view.now.gates donors.now.by_plan }
-    requires index { i < frames_of N.job }
-    requires file { length file.old ≡ frame_size O.job }
-    ensures intact { IfOk result (λ is. D.tells ≡ true
-        → (is ≡ true) ↔ HasIntactDonor N.job O.job view.now (view_of (D.history old.old)) i) }
-    ensures pixels { IfOk result (λ is. is ≡ true → IfSome N.files (λ world.
-        drop 2048 file.new ≡ drop 2048 (frame_file N.job (file_at world) i))) }
-    ensures file { length file.new ≡ frame_size O.job }
-    ensures still { D.tells ≡ true → IsStill (D.history old.old) (D.history old.new) }
-    ensures same { D.loans old.new ≡ D.loans old.old }
-    ensures cause { HasCause (D.faults old.old) (D.faults old.new) (IsErr result) }
-    ensures steady { OnOk result (D.faults old.new ≡ D.faults old.old) }
-{
-    match donors.get(plan_at(new_job, i)) {
-        Some(j) => read_intact(old, old_job, view, j, file),
-        None => Ok(false),
-    }
-}
-
-/// Finishes frame `i`, whose file lies in a room with its digest. The room is free then.
-fn finish_frame<N: Work, E: Disk>(
-    alloc: Global,
-    job: &Job,
-    reel: &mut Reel<E, N>,
-    i: u32,
-    room: &mut Room,
-) -> Result<(), DiskFault>
-    requires job { job.now ≡ N.job }
-    requires index { i < frames_of N.job }
-    requires size { length room.old.bytes.items ≡ frame_size N.job }
-    requires file { IsFileOf N.job N.files i room.old.bytes.items }
-    requires digest { room.old.digest ≡ sha256 room.old.bytes.items }
-    requires is_open { reel.old.ledger.closed ≡ false }
-    requires fresh { slice_index_or reel.old.ledger.gates i false ≡ false }
-    ensures free { OnOk result (IsFree (frame_size N.job) room.new) }
-    ensures finished { OnOk result (reel.new.ledger.gates ≡ set reel.old.ledger.gates i true) }
-    ensures stays { IsSameReel reel.old reel.new }
-    ensures stays_open { OnOk result (reel.new.ledger.closed ≡ false) }
-    ensures part { IsPart N.job N.files E.tells E.history reel.old.ledger.gates reel.old.disk reel.new.disk }
-    ensures same { E.loans reel.new.disk ≡ E.loans reel.old.disk }
-    ensures cause { HasCause (E.faults reel.old.disk) (E.faults reel.new.disk) (IsErr result) }
-    ensures steady { OnOk result (E.faults reel.new.disk ≡ E.faults reel.old.disk) }
-{
-    let bytes = replace(&mut room.bytes, Vec::new(alloc));
-    let hashed = Hashed::with(Rendered::<N>::of_file(job, i, bytes), room.digest);
-    match reel.finish(&hashed) {
-        Ok(()) => {
-            room.bytes = hashed.into_frame().into_bytes();
-            room.frame = None;
-            Ok(())
+impl<H: Hasher> Takeover<'_, '_, '_, '_, '_, H> {
+    /// Reads the file of the donor of frame `i`, where it has one that is intact: whether it has. The donor's bytes are in `file`
+    /// then.
+    fn read_donor<N: Work, O: Work, D: Disk>(
+        &self,
+        old: &mut D,
+        i: u32,
+        file: &mut [u8],
+    ) -> Result<bool, DiskFault>
+        requires can { CanTake N.job O.job N.files D.tells (view_of (D.history old.old))
+            self.now.new_job.now self.now.old_job.now self.now.view.now self.now.donors.now.by_plan }
+        requires index { i < frames_of N.job }
+        requires file { length file.old ≡ frame_size O.job }
+        ensures intact { IfOk result (λ is. D.tells ≡ true
+            → (is ≡ true) ↔ HasIntactDonor N.job O.job self.now.view.now (view_of (D.history old.old)) i) }
+        ensures pixels { IfOk result (λ is. is ≡ true → IfSome N.files (λ world.
+            drop 2048 file.new ≡ drop 2048 (frame_file N.job (file_at world) i))) }
+        ensures file { length file.new ≡ frame_size O.job }
+        ensures still { D.tells ≡ true → IsStill (D.history old.old) (D.history old.new) }
+        ensures same { D.loans old.new ≡ D.loans old.old }
+        ensures cause { HasCause (D.faults old.old) (D.faults old.new) (IsErr result) }
+        ensures steady { OnOk result (D.faults old.new ≡ D.faults old.old) }
+    {
+        match self.donors.get(plan_at(self.new_job, i)) {
+            Some(j) => read_intact(old, self.old_job, self.view, j, file),
+            None => Ok(false),
         }
-        Err(DiskFault) => Err(DiskFault),
     }
-}
 
-/// Adopts frame `i`, whose file wasn't read ahead, unless it has no intact donor. The room is free then.
-fn adopt_alone<N: Work, O: Work, D: Disk, E: Disk>(
-    alloc: Global,
-    new_job: &Job,
-    old_job: &Job,
-    old: &mut D,
-    view: &LedgerView,
-    donors: &Donors,
-    reel: &mut Reel<E, N>,
-    i: u32,
-    room: &mut Room,
-) -> Result<(), DiskFault>
-    requires new_job { new_job.now ≡ N.job }
-    requires old_job { old_job.now ≡ O.job }
-    requires looked { WasLookedAt N.job O.job N.files D.tells (view_of (D.history old.old)) view.now }
-    requires donors { HasDonors N.job O.job view.now.gates donors.now.by_plan }
-    requires index { i < frames_of N.job }
-    requires size { length room.old.bytes.items ≡ frame_size N.job }
-    requires is_open { reel.old.ledger.closed ≡ false }
-    requires flags { length reel.old.ledger.gates ≡ frames_of N.job }
-    requires fresh { slice_index_or reel.old.ledger.gates i false ≡ false }
-    ensures free { OnOk result (IsFree (frame_size N.job) room.new) }
-    ensures served { OnOk result (D.tells ≡ true
-        → IsServed N.job O.job view.now (view_of (D.history old.old)) i reel.old.ledger.gates reel.new.ledger.gates) }
-    ensures stays { IsSameReel reel.old reel.new }
-    ensures stays_open { OnOk result (reel.new.ledger.closed ≡ false) }
-    ensures part { IsPart N.job N.files E.tells E.history reel.old.ledger.gates reel.old.disk reel.new.disk }
-    ensures still { D.tells ≡ true → IsStill (D.history old.old) (D.history old.new) }
-    ensures disks { LeavesBoth D.faults D.loans E.faults E.loans (IsErr result) old.old old.new reel.old.disk reel.new.disk }
-{
-    room.frame = None;
-    let served = match read_donor::<N, O, D>(
-        new_job,
-        old_job,
-        old,
-        view,
-        donors,
-        i,
-        &mut room.bytes,
-    ) {
-        Ok(served) => served,
-        Err(DiskFault) => return Err(DiskFault),
-    };
-    if served {
-        rehead::<N>(new_job, i, &mut room.bytes);
-        room.digest = Sha256::digest(&room.bytes);
-        return finish_frame(alloc, new_job, reel, i, room);
+    /// Finishes frame `i`, whose file lies in a room with its digest. The room is free then.
+    fn finish_frame<N: Work, E: Disk>(
+        &self,
+        reel: &mut Reel<E, N>,
+        i: u32,
+        room: &mut Room,
+    ) -> Result<(), DiskFault>
+        requires job { self.now.new_job.now ≡ N.job }
+        requires index { i < frames_of N.job }
+        requires size { length room.old.bytes.items ≡ frame_size N.job }
+        requires file { IsFileOf N.job N.files i room.old.bytes.items }
+        requires digest { room.old.digest ≡ sha256 room.old.bytes.items }
+        requires is_open { reel.old.ledger.closed ≡ false }
+        requires fresh { slice_index_or reel.old.ledger.gates i false ≡ false }
+        ensures free { OnOk result (IsFree (frame_size N.job) room.new) }
+        ensures finished { OnOk result (reel.new.ledger.gates ≡ set reel.old.ledger.gates i true) }
+        ensures stays { IsSameReel reel.old reel.new }
+        ensures stays_open { OnOk result (reel.new.ledger.closed ≡ false) }
+        ensures part { IsPart N.job N.files E.tells E.history reel.old.ledger.gates reel.old.disk reel.new.disk }
+        ensures same { E.loans reel.new.disk ≡ E.loans reel.old.disk }
+        ensures cause { HasCause (E.faults reel.old.disk) (E.faults reel.new.disk) (IsErr result) }
+        ensures steady { OnOk result (E.faults reel.new.disk ≡ E.faults reel.old.disk) }
+    {
+        let bytes = replace(&mut room.bytes, Vec::new(self.alloc));
+        let hashed = Hashed::with(Rendered::<N>::of_file(self.new_job, i, bytes), room.digest);
+        match reel.finish(&hashed) {
+            Ok(()) => {
+                room.bytes = hashed.into_frame().into_bytes();
+                room.frame = None;
+                Ok(())
+            }
+            Err(DiskFault) => Err(DiskFault),
+        }
     }
-    Ok(())
-}
 
-/// Adopts frame `i`, unless it is acknowledged or has no intact donor.
-fn adopt_frame<N: Work, O: Work, D: Disk, E: Disk, H: Hasher>(
-    alloc: Global,
-    new_job: &Job,
-    old_job: &Job,
-    old: &mut D,
-    view: &LedgerView,
-    donors: &Donors,
-    reel: &mut Reel<E, N>,
-    hasher: &H,
-    i: u32,
-    rooms: &mut [Room],
-) -> Result<(), DiskFault>
-    requires can_hash { H.can_hash }
-    requires new_job { new_job.now ≡ N.job }
-    requires old_job { old_job.now ≡ O.job }
-    requires looked { WasLookedAt N.job O.job N.files D.tells (view_of (D.history old.old)) view.now }
-    requires donors { HasDonors N.job O.job view.now.gates donors.now.by_plan }
-    requires index { i < frames_of N.job }
-    requires rooms { All (CanFinish N.job O.job N.files D.tells view.now (view_of (D.history old.old))) rooms.old }
-    requires some { 0 < length rooms.old }
-    requires is_open { reel.old.ledger.closed ≡ false }
-    requires size { length reel.old.ledger.gates ≡ frames_of N.job }
-
-    ensures rooms { OnOk result (All (CanFinish N.job O.job N.files D.tells view.now (view_of (D.history old.old))) rooms.new) }
-    ensures served { OnOk result (D.tells ≡ true
-        → IsServed N.job O.job view.now (view_of (D.history old.old)) i reel.old.ledger.gates reel.new.ledger.gates) }
-    ensures stays { IsSameReel reel.old reel.new }
-    ensures stays_open { OnOk result (reel.new.ledger.closed ≡ false) }
-    ensures part { IsPart N.job N.files E.tells E.history reel.old.ledger.gates reel.old.disk reel.new.disk }
-    ensures still { D.tells ≡ true → IsStill (D.history old.old) (D.history old.new) }
-    ensures disks { LeavesBoth D.faults D.loans E.faults E.loans (IsErr result) old.old old.new reel.old.disk reel.new.disk }
-{
-    if reel.is_acked(i) {
-        return Ok(());
+    /// Adopts frame `i`, whose file wasn't read ahead, unless it has no intact donor. The room is free then.
+    fn adopt_alone<N: Work, O: Work, D: Disk, E: Disk>(
+        &self,
+        old: &mut D,
+        reel: &mut Reel<E, N>,
+        i: u32,
+        room: &mut Room,
+    ) -> Result<(), DiskFault>
+        requires can { CanTake N.job O.job N.files D.tells (view_of (D.history old.old))
+            self.now.new_job.now self.now.old_job.now self.now.view.now self.now.donors.now.by_plan }
+        requires index { i < frames_of N.job }
+        requires size { length room.old.bytes.items ≡ frame_size N.job }
+        requires is_open { reel.old.ledger.closed ≡ false }
+        requires flags { length reel.old.ledger.gates ≡ frames_of N.job }
+        requires fresh { slice_index_or reel.old.ledger.gates i false ≡ false }
+        ensures free { OnOk result (IsFree (frame_size N.job) room.new) }
+        ensures done { HasServed N.job O.job N.files D.tells D.history D.faults D.loans E.tells E.history E.faults E.loans
+            self.now.view.now i result old.old old.new reel.old reel.new }
+    {
+        room.frame = None;
+        let served = match self.read_donor::<N, O, D>(old, i, &mut room.bytes) {
+            Ok(served) => served,
+            Err(DiskFault) => return Err(DiskFault),
+        };
+        if served {
+            rehead::<N>(self.new_job, i, &mut room.bytes);
+            room.digest = Sha256::digest(&room.bytes);
+            return self.finish_frame(reel, i, room);
+        }
+        Ok(())
     }
-    match donors.get(plan_at(new_job, i)) {
-        Some(_) => adopt_wanted::<N, O, D, E, H>(
-            alloc, new_job, old_job, old, view, donors, reel, hasher, i, rooms,
-        ),
-        None => Ok(()),
-    }
-}
 
-/// Adopts frame `i`, which isn't acknowledged, unless its donor isn't intact.
-fn adopt_wanted<N: Work, O: Work, D: Disk, E: Disk, H: Hasher>(
-    alloc: Global,
-    new_job: &Job,
-    old_job: &Job,
-    old: &mut D,
-    view: &LedgerView,
-    donors: &Donors,
-    reel: &mut Reel<E, N>,
-    hasher: &H,
-    i: u32,
-    rooms: &mut [Room],
-) -> Result<(), DiskFault>
-    requires can_hash { H.can_hash }
-    requires new_job { new_job.now ≡ N.job }
-    requires old_job { old_job.now ≡ O.job }
-    requires looked { WasLookedAt N.job O.job N.files D.tells (view_of (D.history old.old)) view.now }
-    requires donors { HasDonors N.job O.job view.now.gates donors.now.by_plan }
-    requires index { i < frames_of N.job }
-    requires rooms { All (CanFinish N.job O.job N.files D.tells view.now (view_of (D.history old.old))) rooms.old }
-    requires some { 0 < length rooms.old }
-    requires is_open { reel.old.ledger.closed ≡ false }
-    requires flags { length reel.old.ledger.gates ≡ frames_of N.job }
-    requires fresh { slice_index_or reel.old.ledger.gates i false ≡ false }
-    ensures rooms { OnOk result (All (CanFinish N.job O.job N.files D.tells view.now (view_of (D.history old.old))) rooms.new) }
-    ensures served { OnOk result (D.tells ≡ true
-        → IsServed N.job O.job view.now (view_of (D.history old.old)) i reel.old.ledger.gates reel.new.ledger.gates) }
-    ensures stays { IsSameReel reel.old reel.new }
-    ensures stays_open { OnOk result (reel.new.ledger.closed ≡ false) }
-    ensures part { IsPart N.job N.files E.tells E.history reel.old.ledger.gates reel.old.disk reel.new.disk }
-    ensures still { D.tells ≡ true → IsStill (D.history old.old) (D.history old.new) }
-    ensures disks { LeavesBoth D.faults D.loans E.faults E.loans (IsErr result) old.old old.new reel.old.disk reel.new.disk }
-{
-    if let Err(DiskFault) = make_ready::<N, O, D, E, H>(
-        new_job, old_job, old, view, donors, reel, hasher, i, rooms,
-    ) {
-        return Err(DiskFault);
-    }
-    serve::<N, O, D, E>(alloc, new_job, old_job, old, view, donors, reel, i, rooms)
-}
+    /// Adopts frame `i`, unless it is acknowledged or has no intact donor.
+    fn adopt_frame<N: Work, O: Work, D: Disk, E: Disk>(
+        &self,
+        old: &mut D,
+        reel: &mut Reel<E, N>,
+        i: u32,
+        rooms: &mut [Room],
+    ) -> Result<(), DiskFault>
+        requires can_hash { H.can_hash }
+        requires can { CanTake N.job O.job N.files D.tells (view_of (D.history old.old))
+            self.now.new_job.now self.now.old_job.now self.now.view.now self.now.donors.now.by_plan }
+        requires index { i < frames_of N.job }
+        requires rooms { All (CanFinish N.job O.job N.files D.tells self.now.view.now (view_of (D.history old.old))) rooms.old }
+        requires some { 0 < length rooms.old }
+        requires is_open { reel.old.ledger.closed ≡ false }
+        requires size { length reel.old.ledger.gates ≡ frames_of N.job }
 
-/// Fills the rooms from frame `i` on, once all are free.
-fn make_ready<N: Work, O: Work, D: Disk, E: Disk, H: Hasher>(
-    new_job: &Job,
-    old_job: &Job,
-    old: &mut D,
-    view: &LedgerView,
-    donors: &Donors,
-    reel: &Reel<E, N>,
-    hasher: &H,
-    i: u32,
-    rooms: &mut [Room],
-) -> Result<(), DiskFault>
-    requires can_hash { H.can_hash }
-    requires new_job { new_job.now ≡ N.job }
-    requires old_job { old_job.now ≡ O.job }
-    requires looked { WasLookedAt N.job O.job N.files D.tells (view_of (D.history old.old)) view.now }
-    requires donors { HasDonors N.job O.job view.now.gates donors.now.by_plan }
-    requires rooms { All (CanFinish N.job O.job N.files D.tells view.now (view_of (D.history old.old))) rooms.old }
-    ensures rooms { OnOk result (All (CanFinish N.job O.job N.files D.tells view.now (view_of (D.history old.old))) rooms.new) }
-    ensures still { D.tells ≡ true → IsStill (D.history old.old) (D.history old.new) }
-    ensures disk { LeavesDisk D.faults D.loans (IsErr result) old.old old.new }
-{
-    if are_free(rooms) {
-        return fill_rooms::<N, O, D, E, H>(
-            new_job, old_job, old, view, donors, reel, hasher, i, rooms,
+        ensures rooms { OnOk result (All (CanFinish N.job O.job N.files D.tells self.now.view.now (view_of (D.history old.old))) rooms.new) }
+        ensures done { HasServed N.job O.job N.files D.tells D.history D.faults D.loans E.tells E.history E.faults E.loans
+            self.now.view.now i result old.old old.new reel.old reel.new }
+    {
+        if reel.is_acked(i) {
+            return Ok(());
+        }
+        match self.donors.get(plan_at(self.new_job, i)) {
+            Some(_) => self.adopt_wanted::<N, O, D, E>(old, reel, i, rooms),
+            None => Ok(()),
+        }
+    }
+
+    /// Adopts frame `i`, which isn't acknowledged, unless its donor isn't intact.
+    fn adopt_wanted<N: Work, O: Work, D: Disk, E: Disk>(
+        &self,
+        old: &mut D,
+        reel: &mut Reel<E, N>,
+        i: u32,
+        rooms: &mut [Room],
+    ) -> Result<(), DiskFault>
+        requires can_hash { H.can_hash }
+        requires can { CanTake N.job O.job N.files D.tells (view_of (D.history old.old))
+            self.now.new_job.now self.now.old_job.now self.now.view.now self.now.donors.now.by_plan }
+        requires index { i < frames_of N.job }
+        requires rooms { All (CanFinish N.job O.job N.files D.tells self.now.view.now (view_of (D.history old.old))) rooms.old }
+        requires some { 0 < length rooms.old }
+        requires is_open { reel.old.ledger.closed ≡ false }
+        requires flags { length reel.old.ledger.gates ≡ frames_of N.job }
+        requires fresh { slice_index_or reel.old.ledger.gates i false ≡ false }
+        ensures rooms { OnOk result (All (CanFinish N.job O.job N.files D.tells self.now.view.now (view_of (D.history old.old))) rooms.new) }
+        ensures done { HasServed N.job O.job N.files D.tells D.history D.faults D.loans E.tells E.history E.faults E.loans
+            self.now.view.now i result old.old old.new reel.old reel.new }
+    {
+        if let Err(DiskFault) = self.make_ready::<N, O, D, E>(old, reel, i, rooms) {
+            return Err(DiskFault);
+        }
+        self.serve::<N, O, D, E>(old, reel, i, rooms)
+    }
+
+    /// Fills the rooms from frame `i` on, once all are free.
+    fn make_ready<N: Work, O: Work, D: Disk, E: Disk>(
+        &self,
+        old: &mut D,
+        reel: &Reel<E, N>,
+        i: u32,
+        rooms: &mut [Room],
+    ) -> Result<(), DiskFault>
+        requires can_hash { H.can_hash }
+        requires can { CanTake N.job O.job N.files D.tells (view_of (D.history old.old))
+            self.now.new_job.now self.now.old_job.now self.now.view.now self.now.donors.now.by_plan }
+        requires rooms { All (CanFinish N.job O.job N.files D.tells self.now.view.now (view_of (D.history old.old))) rooms.old }
+        ensures rooms { OnOk result (All (CanFinish N.job O.job N.files D.tells self.now.view.now (view_of (D.history old.old))) rooms.new) }
+        ensures still { D.tells ≡ true → IsStill (D.history old.old) (D.history old.new) }
+        ensures disk { LeavesDisk D.faults D.loans (IsErr result) old.old old.new }
+    {
+        if are_free(rooms) {
+            return self.fill_rooms::<N, O, D, E>(old, reel, i, rooms);
+        }
+        Ok(())
+    }
+
+    /// Adopts frame `i`, which isn't acknowledged: from its room, or where it has none, alone.
+    fn serve<N: Work, O: Work, D: Disk, E: Disk>(
+        &self,
+        old: &mut D,
+        reel: &mut Reel<E, N>,
+        i: u32,
+        rooms: &mut [Room],
+    ) -> Result<(), DiskFault>
+        requires can { CanTake N.job O.job N.files D.tells (view_of (D.history old.old))
+            self.now.new_job.now self.now.old_job.now self.now.view.now self.now.donors.now.by_plan }
+        requires index { i < frames_of N.job }
+        requires rooms { All (CanFinish N.job O.job N.files D.tells self.now.view.now (view_of (D.history old.old))) rooms.old }
+        requires some { 0 < length rooms.old }
+        requires is_open { reel.old.ledger.closed ≡ false }
+        requires flags { length reel.old.ledger.gates ≡ frames_of N.job }
+        requires fresh { slice_index_or reel.old.ledger.gates i false ≡ false }
+        ensures rooms { OnOk result (All (CanFinish N.job O.job N.files D.tells self.now.view.now (view_of (D.history old.old))) rooms.new) }
+        ensures done { HasServed N.job O.job N.files D.tells D.history D.faults D.loans E.tells E.history E.faults E.loans
+            self.now.view.now i result old.old old.new reel.old reel.new }
+    {
+        match place_of(rooms, i) {
+            Some(n) => self.finish_frame(reel, i, &mut rooms[n]),
+            None => {
+                let n = free_place(rooms);
+                self.adopt_alone::<N, O, D, E>(old, reel, i, &mut rooms[n])
+            }
+        }
+    }
+
+    /// Adopts each frame of the new job that isn't acknowledged and has an intact donor, in order.
+    fn adopt_frames<N: Work, O: Work, D: Disk, E: Disk>(
+        &self,
+        old: &mut D,
+        reel: &mut Reel<E, N>,
+    ) -> Result<(), AdoptFault>
+        requires can_hash { H.can_hash }
+        requires can { CanTake N.job O.job N.files D.tells (view_of (D.history old.old))
+            self.now.new_job.now self.now.old_job.now self.now.view.now self.now.donors.now.by_plan }
+        requires is_open { reel.old.ledger.closed ≡ false }
+        requires size { length reel.old.ledger.gates ≡ frames_of N.job }
+
+        ensures adopted { HasAdopted N.job O.job N.files D.tells D.history E.tells E.history self.now.view.now
+            result old.old old.new reel.old reel.new }
+        ensures disks { LeavesBoth D.faults D.loans E.faults E.loans (IsErrOf result AdoptFault.DiskFault)
+            old.old old.new reel.old.disk reel.new.disk }
+    {
+        let mut rooms = rooms_of(
+            self.alloc,
+            self.hasher.rooms().max(1),
+            frame_len(self.new_job),
         );
-    }
-    Ok(())
-}
-
-/// Adopts frame `i`, which isn't acknowledged: from its room, or where it has none, alone.
-fn serve<N: Work, O: Work, D: Disk, E: Disk>(
-    alloc: Global,
-    new_job: &Job,
-    old_job: &Job,
-    old: &mut D,
-    view: &LedgerView,
-    donors: &Donors,
-    reel: &mut Reel<E, N>,
-    i: u32,
-    rooms: &mut [Room],
-) -> Result<(), DiskFault>
-    requires new_job { new_job.now ≡ N.job }
-    requires old_job { old_job.now ≡ O.job }
-    requires looked { WasLookedAt N.job O.job N.files D.tells (view_of (D.history old.old)) view.now }
-    requires donors { HasDonors N.job O.job view.now.gates donors.now.by_plan }
-    requires index { i < frames_of N.job }
-    requires rooms { All (CanFinish N.job O.job N.files D.tells view.now (view_of (D.history old.old))) rooms.old }
-    requires some { 0 < length rooms.old }
-    requires is_open { reel.old.ledger.closed ≡ false }
-    requires flags { length reel.old.ledger.gates ≡ frames_of N.job }
-    requires fresh { slice_index_or reel.old.ledger.gates i false ≡ false }
-    ensures rooms { OnOk result (All (CanFinish N.job O.job N.files D.tells view.now (view_of (D.history old.old))) rooms.new) }
-    ensures served { OnOk result (D.tells ≡ true
-        → IsServed N.job O.job view.now (view_of (D.history old.old)) i reel.old.ledger.gates reel.new.ledger.gates) }
-    ensures stays { IsSameReel reel.old reel.new }
-    ensures stays_open { OnOk result (reel.new.ledger.closed ≡ false) }
-    ensures part { IsPart N.job N.files E.tells E.history reel.old.ledger.gates reel.old.disk reel.new.disk }
-    ensures still { D.tells ≡ true → IsStill (D.history old.old) (D.history old.new) }
-    ensures disks { LeavesBoth D.faults D.loans E.faults E.loans (IsErr result) old.old old.new reel.old.disk reel.new.disk }
-{
-    match place_of(rooms, i) {
-        Some(n) => finish_frame(alloc, new_job, reel, i, &mut rooms[n]),
-        None => {
-            let n = free_place(rooms);
-            adopt_alone::<N, O, D, E>(
-                alloc,
-                new_job,
-                old_job,
-                old,
-                view,
-                donors,
-                reel,
-                i,
-                &mut rooms[n],
-            )
+        if rooms.is_empty() {
+            return Err(AdoptFault::NoMemory);
         }
+        self.adopt_each::<N, O, D, E>(old, reel, &mut rooms)
     }
-}
 
-/// Adopts each frame of the new job that isn't acknowledged and has an intact donor, in order.
-fn adopt_frames<N: Work, O: Work, D: Disk, E: Disk, H: Hasher>(
-    alloc: Global,
-    new_job: &Job,
-    old_job: &Job,
-    old: &mut D,
-    view: &LedgerView,
-    donors: &Donors,
-    reel: &mut Reel<E, N>,
-    hasher: &H,
-) -> Result<(), AdoptFault>
-    requires can_hash { H.can_hash }
-    requires new_job { new_job.now ≡ N.job }
-    requires old_job { old_job.now ≡ O.job }
-    requires looked { WasLookedAt N.job O.job N.files D.tells (view_of (D.history old.old)) view.now }
-    requires donors { HasDonors N.job O.job view.now.gates donors.now.by_plan }
-    requires is_open { reel.old.ledger.closed ≡ false }
-    requires size { length reel.old.ledger.gates ≡ frames_of N.job }
+    /// The same, in rooms that are there.
+    fn adopt_each<N: Work, O: Work, D: Disk, E: Disk>(
+        &self,
+        old: &mut D,
+        reel: &mut Reel<E, N>,
+        rooms: &mut [Room],
+    ) -> Result<(), AdoptFault>
+        requires can_hash { H.can_hash }
+        requires can { CanTake N.job O.job N.files D.tells (view_of (D.history old.old))
+            self.now.new_job.now self.now.old_job.now self.now.view.now self.now.donors.now.by_plan }
+        requires rooms { All (CanFinish N.job O.job N.files D.tells self.now.view.now (view_of (D.history old.old))) rooms.old }
+        requires some { 0 < length rooms.old }
+        requires is_open { reel.old.ledger.closed ≡ false }
+        requires size { length reel.old.ledger.gates ≡ frames_of N.job }
 
-    ensures adopted { HasAdopted N.job O.job N.files D.tells D.history E.tells E.history view.now result old.old old.new reel.old reel.new }
-    ensures disks { LeavesBoth D.faults D.loans E.faults E.loans (IsErrOf result AdoptFault.DiskFault)
-        old.old old.new reel.old.disk reel.new.disk }
-{
-    let mut rooms = rooms_of(alloc, hasher.rooms().max(1), frame_len(new_job));
-    if rooms.is_empty() {
-        return Err(AdoptFault::NoMemory);
-    }
-    adopt_each::<N, O, D, E, H>(
-        alloc, new_job, old_job, old, view, donors, reel, hasher, &mut rooms,
-    )
-}
-
-/// The same, in rooms that are there.
-fn adopt_each<N: Work, O: Work, D: Disk, E: Disk, H: Hasher>(
-    alloc: Global,
-    new_job: &Job,
-    old_job: &Job,
-    old: &mut D,
-    view: &LedgerView,
-    donors: &Donors,
-    reel: &mut Reel<E, N>,
-    hasher: &H,
-    rooms: &mut [Room],
-) -> Result<(), AdoptFault>
-    requires can_hash { H.can_hash }
-    requires new_job { new_job.now ≡ N.job }
-    requires old_job { old_job.now ≡ O.job }
-    requires looked { WasLookedAt N.job O.job N.files D.tells (view_of (D.history old.old)) view.now }
-    requires donors { HasDonors N.job O.job view.now.gates donors.now.by_plan }
-    requires rooms { All (CanFinish N.job O.job N.files D.tells view.now (view_of (D.history old.old))) rooms.old }
-    requires some { 0 < length rooms.old }
-    requires is_open { reel.old.ledger.closed ≡ false }
-    requires size { length reel.old.ledger.gates ≡ frames_of N.job }
-
-    ensures adopted { HasAdopted N.job O.job N.files D.tells D.history E.tells E.history view.now result old.old old.new reel.old reel.new }
-    ensures disks { LeavesBoth D.faults D.loans E.faults E.loans (IsErrOf result AdoptFault.DiskFault)
-        old.old old.new reel.old.disk reel.new.disk }
-{
-    for i in 0..new_job.count() {
-        match adopt_frame::<N, O, D, E, H>(
-            alloc, new_job, old_job, old, view, donors, reel, hasher, i, rooms,
-        ) {
-            Ok(()) => {}
-            Err(DiskFault) => return Err(AdoptFault::DiskFault),
+        ensures adopted { HasAdopted N.job O.job N.files D.tells D.history E.tells E.history self.now.view.now
+            result old.old old.new reel.old reel.new }
+        ensures disks { LeavesBoth D.faults D.loans E.faults E.loans (IsErrOf result AdoptFault.DiskFault)
+            old.old old.new reel.old.disk reel.new.disk }
+    {
+        for i in 0..self.new_job.count() {
+            match self.adopt_frame::<N, O, D, E>(old, reel, i, rooms) {
+                Ok(()) => {}
+                Err(DiskFault) => return Err(AdoptFault::DiskFault),
+            }
         }
+        Ok(())
     }
-    Ok(())
 }
 
 /// How many bytes the file of a frame has: 2048 of header and four for each pixel.
@@ -413,9 +322,17 @@ pub(crate) fn adopt_alike<N: Work, O: Work, D: Disk, E: Disk, H: Hasher>(
 {
     if are_alike(new_job, old_job) {
         return match Donors::of(alloc, old_job, view) {
-            Ok(donors) => adopt_frames::<N, O, D, E, H>(
-                alloc, new_job, old_job, old, view, &donors, reel, hasher,
-            ),
+            Ok(donors) => {
+                let from = Takeover {
+                    alloc,
+                    new_job,
+                    old_job,
+                    view,
+                    donors: &donors,
+                    hasher,
+                };
+                from.adopt_frames::<N, O, D, E>(old, reel)
+            }
             Err(_) => Err(AdoptFault::NoMemory),
         };
     }

@@ -8,6 +8,7 @@ mod donors;
 mod frames;
 mod intact;
 mod plan;
+mod takeover;
 
 pub use adopting::{AdoptFault, Adopted, adopt};
 pub use plan::{FramePlan, PlanSide, are_alike, plan_at, plan_laws};

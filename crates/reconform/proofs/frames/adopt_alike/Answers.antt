@@ -3,8 +3,13 @@ use Rattle.reconform.proofs.Going.{both_itself, part_itself, still_itself}
 use Rattle.reconform.proofs.Serving.{adopted_none, same_itself}
 use Rattle.reconform.proofs.frames.adopt_alike.Goals as goal
 
-pub adopt_frames-requires-clause-donors : goal.adopt_frames-requires-clause-donors
-adopt_frames-requires-clause-donors g c = record { alike = search rules; titles = search rules; least = search rules }
+pub adopt_frames-requires-clause-can : goal.adopt_frames-requires-clause-can
+adopt_frames-requires-clause-can g c = record {
+  new_is = c.requires.new_job;
+  old_is = c.requires.old_job;
+  looked = c.requires.looked;
+  donors = record { alike = search rules; titles = search rules; least = search rules };
+}
 
 -- the jobs aren't alike, or there is no room for the map
 pub returns-clause-adopted : goal.returns-clause-adopted

@@ -6,13 +6,13 @@ use Rattle.reconform.specs.Adopt.{AreServed, IsServed}
 use Rattle.reconform.proofs.Dressing.{finish_along}
 use Rattle.reconform.proofs.Going.{both_behind, both_itself, looked_along, part_along, part_itself, still_itself}
 use Rattle.reconform.proofs.Serving.{same_along, same_itself, served_first, served_more}
-use Rattle.reconform.proofs.frames.adopt_each.Goals as goal
+use Rattle.reconform.proofs.takeover.Takeover.adopt_each.Goals as goal
 
 pub loop-i-init : goal.loop-i-init
 loop-i-init g c = record {
   within = omega arith;
-  ending = c.count-i-end.ensures.count ∙ ap frames_of c.requires.new_job;
-  served = λ told. served_first g.N.Work.job g.O.Work.job c.args.view.now (view_of (g.D.Disk.history c.args.old.now)) c.args.reel.now.ledger.gates;
+  ending = c.count-i-end.ensures.count ∙ ap frames_of c.requires.can.new_is;
+  served = λ told. served_first g.N.Work.job g.O.Work.job c.args.self.now.view.now (view_of (g.D.Disk.history c.args.old.now)) c.args.reel.now.ledger.gates;
   stays = same_itself c.args.reel.now;
   is_open = c.requires.is_open;
   rooms = c.requires.rooms;
@@ -25,13 +25,17 @@ loop-i-init g c = record {
   same_disk = refl;
 }
 
-pub adopt_frame-requires-clause-looked : goal.adopt_frame-requires-clause-looked
-adopt_frame-requires-clause-looked g c =
-    looked_along g.N.Work.job g.O.Work.job g.D.Disk.tells (g.D.Disk.history c.args.old.now) (g.D.Disk.history c.loop-i.old) c.loop-i.invariant.still g.N.Work.files c.args.view.now c.requires.looked
+pub adopt_frame-requires-clause-can : goal.adopt_frame-requires-clause-can
+adopt_frame-requires-clause-can g c = record {
+  new_is = c.requires.can.new_is;
+  old_is = c.requires.can.old_is;
+  looked = looked_along g.N.Work.job g.O.Work.job g.D.Disk.tells (g.D.Disk.history c.args.old.now) (g.D.Disk.history c.loop-i.old) c.loop-i.invariant.still g.N.Work.files c.args.self.now.view.now c.requires.can.looked;
+  donors = c.requires.can.donors;
+}
 
 pub adopt_frame-requires-clause-rooms : goal.adopt_frame-requires-clause-rooms
 adopt_frame-requires-clause-rooms g c =
-    finish_along g.N.Work.job g.O.Work.job g.N.Work.files g.D.Disk.tells c.args.view.now (view_of (g.D.Disk.history c.args.old.now)) (view_of (g.D.Disk.history c.loop-i.old))
+    finish_along g.N.Work.job g.O.Work.job g.N.Work.files g.D.Disk.tells c.args.self.now.view.now (view_of (g.D.Disk.history c.args.old.now)) (view_of (g.D.Disk.history c.loop-i.old))
     (λ told. ap (λ (m : Moment). m.view) (sym (c.loop-i.invariant.still told).same)) c.loop-i.rooms c.loop-i.invariant.rooms
 
 pub adopt_frame-requires-clause-size : goal.adopt_frame-requires-clause-size
@@ -40,16 +44,16 @@ adopt_frame-requires-clause-size g c = c.loop-i.invariant.stays.size ∙ c.requi
 pub loop-i-preserved : goal.loop-i-preserved
 loop-i-preserved g c =
     let inv = c.loop-i.invariant in
-    let step = c.in-Ok.ensures in
+    let step = c.in-Ok.ensures.done in
     record {
       within = let lt = c.loop-i-test.true in let all = inv.ending in omega (arith, lt, all);
       ending = inv.ending;
-      served = λ told. served_more g.N.Work.job g.O.Work.job c.args.view.now (view_of (g.D.Disk.history c.args.old.now)) c.loop-i.i c.args.reel.now.ledger.gates c.loop-i.reel.ledger.gates c.adopt_frame.new.reel.ledger.gates (inv.served told)
-          (subst (λ (m : Moment). IsServed g.N.Work.job g.O.Work.job c.args.view.now m.view c.loop-i.i c.loop-i.reel.ledger.gates c.adopt_frame.new.reel.ledger.gates) (inv.still told).same (step.served told));
+      served = λ told. served_more g.N.Work.job g.O.Work.job c.args.self.now.view.now (view_of (g.D.Disk.history c.args.old.now)) c.loop-i.i c.args.reel.now.ledger.gates c.loop-i.reel.ledger.gates c.adopt_frame.new.reel.ledger.gates (inv.served told)
+          (subst (λ (m : Moment). IsServed g.N.Work.job g.O.Work.job c.args.self.now.view.now m.view c.loop-i.i c.loop-i.reel.ledger.gates c.adopt_frame.new.reel.ledger.gates) (inv.still told).same (step.served told));
       stays = same_along _ _ _ inv.stays step.stays;
       is_open = step.stays_open;
-      rooms = finish_along g.N.Work.job g.O.Work.job g.N.Work.files g.D.Disk.tells c.args.view.now (view_of (g.D.Disk.history c.loop-i.old)) (view_of (g.D.Disk.history c.args.old.now))
-          (λ told. ap (λ (m : Moment). m.view) (inv.still told).same) c.adopt_frame.new.rooms step.rooms;
+      rooms = finish_along g.N.Work.job g.O.Work.job g.N.Work.files g.D.Disk.tells c.args.self.now.view.now (view_of (g.D.Disk.history c.loop-i.old)) (view_of (g.D.Disk.history c.args.old.now))
+          (λ told. ap (λ (m : Moment). m.view) (inv.still told).same) c.adopt_frame.new.rooms c.in-Ok.ensures.rooms;
       some = search rules;
       part = part_along g.N.Work.job g.N.Work.files g.E.Disk.tells g.E.Disk.history c.args.reel.now.ledger.gates c.loop-i.reel.ledger.gates inv.stays.grows c.args.reel.now.disk c.loop-i.reel.disk c.adopt_frame.new.reel.disk inv.part step.part;
       still = λ told. still_along _ _ _ (inv.still told) (step.still told);
@@ -63,7 +67,7 @@ loop-i-preserved g c =
 pub returns-in-Err-clause-adopted : goal.returns-in-Err-clause-adopted
 returns-in-Err-clause-adopted g c =
     let inv = c.loop-i.invariant in
-    let step = c.adopt_frame.ensures in
+    let step = c.adopt_frame.ensures.done in
     record {
       served = tt;
       stays = same_along _ _ _ inv.stays step.stays;
@@ -76,7 +80,7 @@ returns-in-Err-clause-adopted g c =
 pub returns-in-Err-clause-disks : goal.returns-in-Err-clause-disks
 returns-in-Err-clause-disks g c =
     both_behind g.D.Disk.faults g.D.Disk.loans g.E.Disk.faults g.E.Disk.loans _ _ (λ is. refl) (λ is. refl) c.args.old.now c.loop-i.old c.adopt_frame.new.old c.args.reel.now.disk c.loop-i.reel.disk c.adopt_frame.new.reel.disk c.loop-i.invariant.faults_old c.loop-i.invariant.faults c.loop-i.invariant.same_old c.loop-i.invariant.same_disk
-    c.in-Err.ensures.disks
+    c.in-Err.ensures.done.disks
 
 -- every frame was served
 pub returns-clause-adopted : goal.returns-clause-adopted
@@ -87,7 +91,7 @@ returns-clause-adopted g c =
     let ending = inv.ending in
     let all : c.loop-i.i ≡ frames_of g.N.Work.job = omega (arith, late, within, ending) in
     record {
-      served = λ told. subst (λ n. AreServed g.N.Work.job g.O.Work.job c.args.view.now (view_of (g.D.Disk.history c.args.old.now)) n c.args.reel.now.ledger.gates c.loop-i.reel.ledger.gates) all (inv.served told);
+      served = λ told. subst (λ n. AreServed g.N.Work.job g.O.Work.job c.args.self.now.view.now (view_of (g.D.Disk.history c.args.old.now)) n c.args.reel.now.ledger.gates c.loop-i.reel.ledger.gates) all (inv.served told);
       stays = inv.stays;
       stays_open = inv.is_open;
       end = tt;

@@ -1,7 +1,7 @@
 use Rattle.std.proofs.Common.{ap, ◌∙◌}
 use Rattle.frame_render.specs.Frame.{FrameBytes}
 use Rattle.reconform.proofs.Going.{part_finished}
-use Rattle.reconform.proofs.frames.finish_frame.Goals as goal
+use Rattle.reconform.proofs.takeover.Takeover.finish_frame.Goals as goal
 
 pub returns-in-Ok-clause-part : goal.returns-in-Ok-clause-part
 returns-in-Ok-clause-part g c =

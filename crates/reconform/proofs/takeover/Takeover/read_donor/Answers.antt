@@ -1,0 +1,37 @@
+use Rattle.std.proofs.Common.{◌≡◌, ◌<◌, true, sym, ap, ◌∙◌, subst}
+use Rattle.std.specs.Prelude.{Some, None, ◌↔◌}
+use Rattle.conform_job.specs.Job.{JobData, file_of}
+use Rattle.reel_disk.specs.Disk.{view_of}
+use Rattle.reel_writer.specs.Reel.{frames_of}
+use Rattle.reconform.specs.Donor.{IsIntact}
+use Rattle.reconform.specs.Plan.{plan_at}
+use Rattle.reconform.proofs.Serving.{if_ok, intact_some, intact_none, least_here, served_pixels}
+use Rattle.reconform.proofs.takeover.Takeover.read_donor.Goals as goal
+
+pub read_intact-requires-clause-within : goal.read_intact-requires-clause-within
+read_intact-requires-clause-within g c =
+    let least = least_here g.O.Work.job c.args.self.now.view.now.gates (frames_of g.O.Work.job) c.args.self.now.donors.now.by_plan c.plan_at.result (plan_at g.N.Work.job c.args.i) (Some c.in-Some.j)
+    c.requires.can.donors.least (c.plan_at.ensures ∙ ap (λ (job : JobData). plan_at job c.args.i) c.requires.can.new_is) (sym c.in-Some.is ∙ c.get.ensures) in
+    subst (λ (job : JobData). c.in-Some.j < frames_of job) (sym c.requires.can.old_is) least.0
+
+pub returns-in-Some-clause-intact : goal.returns-in-Some-clause-intact
+returns-in-Some-clause-intact g c =
+    let least = least_here g.O.Work.job c.args.self.now.view.now.gates (frames_of g.O.Work.job) c.args.self.now.donors.now.by_plan c.plan_at.result (plan_at g.N.Work.job c.args.i) (Some c.in-Some.j)
+    c.requires.can.donors.least (c.plan_at.ensures ∙ ap (λ (job : JobData). plan_at job c.args.i) c.requires.can.new_is) (sym c.in-Some.is ∙ c.get.ensures) in
+    let files = view_of (g.D.Disk.history c.args.old.now) in
+    if_ok c.read_intact.result _ _ (λ is read told. intact_some g.N.Work.job g.O.Work.job c.args.self.now.view.now files c.args.i c.in-Some.j c.requires.can.donors.alike least is
+    (subst (λ (job : JobData). (is ≡ true) ↔ IsIntact job c.args.self.now.view.now files c.in-Some.j) c.requires.can.old_is (read told))) c.read_intact.ensures.intact
+
+pub returns-in-Some-clause-pixels : goal.returns-in-Some-clause-pixels
+returns-in-Some-clause-pixels g c =
+    let least = least_here g.O.Work.job c.args.self.now.view.now.gates (frames_of g.O.Work.job) c.args.self.now.donors.now.by_plan c.plan_at.result (plan_at g.N.Work.job c.args.i) (Some c.in-Some.j)
+    c.requires.can.donors.least (c.plan_at.ensures ∙ ap (λ (job : JobData). plan_at job c.args.i) c.requires.can.new_is) (sym c.in-Some.is ∙ c.get.ensures) in
+    let files = view_of (g.D.Disk.history c.args.old.now) in
+    if_ok c.read_intact.result _ _ (λ is bytes yes. served_pixels g.N.Work.job g.O.Work.job g.N.Work.files g.D.Disk.tells files c.args.self.now.view.now c.args.i c.in-Some.j c.read_intact.new.into
+    c.requires.can.looked.can_serve c.requires.can.looked.viewed c.requires.can.donors.alike c.requires.can.donors.titles least.1 least.2 (λ told. ap (λ (job : JobData). files (file_of job c.in-Some.j)) (sym c.requires.can.old_is) ∙ bytes yes told)) c.read_intact.ensures.bytes
+
+pub returns-in-None-clause-intact : goal.returns-in-None-clause-intact
+returns-in-None-clause-intact g c told =
+    intact_none g.N.Work.job g.O.Work.job c.args.self.now.view.now (view_of (g.D.Disk.history c.args.old.now)) c.args.i
+    (least_here g.O.Work.job c.args.self.now.view.now.gates (frames_of g.O.Work.job) c.args.self.now.donors.now.by_plan c.plan_at.result (plan_at g.N.Work.job c.args.i) None
+    c.requires.can.donors.least (c.plan_at.ensures ∙ ap (λ (job : JobData). plan_at job c.args.i) c.requires.can.new_is) (sym c.in-None.is ∙ c.get.ensures))

@@ -1,0 +1,36 @@
+use Rattle.std.proofs.Common.{◌≡◌, List, ℕ, Bool, Option, true, subst, sym, arith}
+use Rattle.std.specs.Prelude.{IfSome}
+use Rattle.reel_disk.specs.Disk.{view_of}
+use Rattle.reconform.specs.Adopt.{IsServed}
+use Rattle.reconform.specs.Donor.{HasIntactDonor}
+use Rattle.reconform.proofs.Dressing.{freed}
+use Rattle.reconform.proofs.Going.{new_asked, still_itself}
+use Rattle.reconform.proofs.Serving.{on_ok, served_set, where_ok}
+use Rattle.reconform.proofs.takeover.Takeover.serve.Goals as goal
+
+pub returns-in-Some-clause-rooms : goal.returns-in-Some-clause-rooms
+returns-in-Some-clause-rooms g c =
+    on_ok c.finish_frame.result _ _ (λ free. freed g.N.Work.job g.O.Work.job g.N.Work.files g.D.Disk.tells c.args.self.now.view.now (view_of (g.D.Disk.history c.args.old.now)) c.args.rooms.now c.in-Some.n _ free c.requires.rooms) c.finish_frame.ensures.free
+
+pub returns-in-Some-clause-done : goal.returns-in-Some-clause-done
+returns-in-Some-clause-done g c =
+    let files = view_of (g.D.Disk.history c.args.old.now) in
+    let gates = c.args.reel.now.ledger.gates in
+    let index = c.requires.index in
+    let size = c.requires.flags in
+    let can = c.requires.rooms c.in-Some.n c.finish_frame.new.room c.in-Some.ensures.within in
+    let donor = subst (λ (frame : Option ℕ). IfSome frame (λ i. g.D.Disk.tells ≡ true → HasIntactDonor g.N.Work.job g.O.Work.job c.args.self.now.view.now files i)) (c.in-Some.ensures.holds c.finish_frame.new.room) can.holds.donor in
+    let done = c.finish_frame.ensures in
+    record {
+      served = on_ok c.finish_frame.result _ _ (λ finished told. subst (λ (gs : List Bool). IsServed g.N.Work.job g.O.Work.job c.args.self.now.view.now files c.args.i gates gs) (sym finished)
+          (served_set g.N.Work.job g.O.Work.job c.args.self.now.view.now files c.args.i gates (omega (arith, index, size)) (donor told))) done.finished;
+      stays = done.stays;
+      stays_open = done.stays_open;
+      part = done.part;
+      still = λ told. still_itself (g.D.Disk.history c.args.old.now);
+      disks = new_asked g.D.Disk.faults g.D.Disk.loans g.E.Disk.faults g.E.Disk.loans _ c.args.old.now c.args.reel.now.disk c.finish_frame.new.reel.disk done.cause (where_ok c.finish_frame.result _ done.steady) done.same;
+    }
+
+pub returns-in-None-clause-rooms : goal.returns-in-None-clause-rooms
+returns-in-None-clause-rooms g c =
+    on_ok c.adopt_alone.result _ _ (λ free. freed g.N.Work.job g.O.Work.job g.N.Work.files g.D.Disk.tells c.args.self.now.view.now (view_of (g.D.Disk.history c.args.old.now)) c.args.rooms.now c.free_place-n.result _ free c.requires.rooms) c.adopt_alone.ensures.free
