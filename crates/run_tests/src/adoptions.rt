@@ -1,6 +1,7 @@
 //! Adoptions over disks in memory: stops at each call of the new folder, and what is done behind them, and an old folder that
 //! fails.
 use cf_base::FileId;
+use frame_hash::{Hasher, Room, hash_each};
 use reconform::{AdoptFault, Adopted, adopt};
 use reel_disk::{Disk, Got, MemoryDisk};
 use station::RunEnd;
@@ -15,6 +16,21 @@ const SHORTER: &[u8] = b"TITLE: DESK
 003  B002     V     D    002 02:00:00:00 02:00:00:12 01:00:00:12 01:00:01:00
 ";
 
+/// Three files are read ahead.
+struct ThreeRooms;
+
+impl Hasher for ThreeRooms {
+    ghost can_hash = { Unit {0} };
+
+    fn rooms(&self) -> usize {
+        3
+    }
+
+    fn hash(&self, rooms: &mut [Room]) {
+        hash_each(rooms);
+    }
+}
+
 /// What the disk takes over from the folder of the old job.
 fn taken(
     alloc: Global,
@@ -25,7 +41,14 @@ fn taken(
 ) -> Result<Adopted, AdoptFault> {
     new.job.recall();
     old.job.recall();
-    adopt::<Brand, Brand, MemoryDisk>(alloc, &new.job, &old.job, from, disk)
+    adopt::<Brand, Brand, MemoryDisk, ThreeRooms>(
+        alloc,
+        &new.job,
+        &old.job,
+        from,
+        disk,
+        &ThreeRooms,
+    )
 }
 
 /// Whether a run renders the four frames that can't be taken over, and leaves the same files as are on the other disk.
