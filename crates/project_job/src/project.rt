@@ -184,7 +184,7 @@ fn reels_of(alloc: Global, project: &Project) -> Result<ReelTable, Outcome>
     let Ok(entries) = project.reels.copy(alloc) else {
         return Err(Outcome::NoMemory);
     };
-    match ReelTable::of(entries) {
+    match ReelTable::of(alloc, entries) {
         Ok(table) => Ok(table),
         Err(Fail::Fault(fault)) => Err(Outcome::Refused(Refused::Reels(fault))),
         Err(Fail::NoMemory) => Err(Outcome::NoMemory),

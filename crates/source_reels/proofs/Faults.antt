@@ -47,7 +47,7 @@ no_fault_more entries i e at is none k z below there = elim (cases_order k i) [
 
 -- ---- one reel
 
-kind_none : (named past : Bool) → cond named (Some TwoNames) (cond past (Some Range) None) ≡ None → (named ≡ false) × (past ≡ false)
+pub kind_none : (named past : Bool) → cond named (Some TwoNames) (cond past (Some Range) None) ≡ None → (named ≡ false) × (past ≡ false)
 kind_none true past e = absurd (none-some TwoNames (sym e))
 kind_none false true e = absurd (none-some Range (sym e))
 kind_none false false e = (refl, refl)

@@ -1,13 +1,15 @@
 //! The table of the source reels.
 ghost use Rattle.std.specs.Prelude.{◌≡◌, ◌≤◌, ◌<◌, length, slice_get, Some, None, IfOk, IfSome};
 ghost use Rattle.std.specs.Option.{option_map};
-ghost use Rattle.std.specs.List.{list_any};
 ghost use Rattle.cf_base.specs.Fail.{Gives};
 ghost use Rattle.cf_base.specs.declared.reel.ReelEntry.{ReelEntry};
-ghost use Rattle.source_reels.specs.Reels.{has_name, reel_place, reels_fault, kind_after, is_past_end, path_at, key_in, IsTabled, table_of};
+ghost use Rattle.source_reels.specs.Places.{ArePlaced, HasPlaces, IsKindAfter};
+ghost use Rattle.source_reels.specs.Reels.{reel_place, reels_fault, is_past_end, path_at, key_in, IsTabled, table_of};
 
 use crate::path::{key_of, path_of};
 use cf_base::{Fail, Key, Name, PathText, ReelEntry, ReelRows};
+use std::alloc::Global;
+use std::collections::BTreeMap;
 use std::marker::Model;
 
 /// Why a table of reels is refused: the first reel that is, from 1, and why.
@@ -30,31 +32,37 @@ pub enum ReelKind {
 #[derive(Drop)]
 pub struct ReelTable {
     rows: ReelRows,
+    /// The place of each reel, by its name.
+    places: BTreeMap<Name, u16>,
 }
 
 impl Model for ReelTable {
     ghost use Rattle.std.specs.Prelude.{◌≡◌, List, None};
     ghost use Rattle.cf_base.specs.declared.reel.ReelEntry.{ReelEntry};
+    ghost use Rattle.source_reels.specs.Places.{HasPlaces};
     ghost use Rattle.source_reels.specs.Reels.{IsTabled, reels_fault};
 
     ghost Value = { List ReelEntry };
 
     ghost view = { λ t. t.rows };
 
-    ghost invariant = { λ t. IsTabled t.rows × (reels_fault t.rows ≡ None) };
+    ghost invariant = { λ t. IsTabled t.rows × (reels_fault t.rows ≡ None) × HasPlaces t.rows t.places };
 }
 
 impl ReelTable {
     /// The table of these reels, at most 1024, with prefixes of at most 200 bytes. 13.1 and 13.2 in the order of the reels,
     /// exactly where their rules say; of one reel 13.1 comes first.
-    pub fn of(entries: ReelRows) -> Result<ReelTable, Fail<ReelFault>>
+    pub fn of(alloc: Global, entries: ReelRows) -> Result<ReelTable, Fail<ReelFault>>
         requires { IsTabled entries }
         ensures table { Gives result (table_of entries) }
         ensures entries { IfOk result (λ table. table ≡ entries) }
     {
-        match fault_of(entries.items()) {
-            Some(fault) => Err(Fail::Fault(fault)),
-            None => Ok(ReelTable { rows: entries }),
+        match places_of(alloc, entries.items()) {
+            Ok(places) => Ok(ReelTable {
+                rows: entries,
+                places,
+            }),
+            Err(fail) => Err(fail),
         }
     }
 
@@ -67,16 +75,12 @@ impl ReelTable {
         self.rows.items()
     }
 
-    /// The place of the reel of that name, None exactly where no reel has it. Goes through the names in order. Takes no
-    /// memory.
+    /// The place of the reel of that name, None exactly where no reel has it. Takes no memory.
     pub fn find(&self, name: &Name) -> Option<u16>
         ensures place { result ≡ reel_place self.now name.now }
         ensures within { IfSome result (λ reel. reel < length self.now) }
     {
-        match place_of(self.rows.items(), name) {
-            Some(place) => Some(place as u16),
-            None => None,
-        }
+        self.places.get(name).copied()
     }
 
     /// The name of the reel at a place of the table. Takes no memory.
@@ -126,27 +130,6 @@ fn key_in(entries: &[ReelEntry], reel: u16, source: i64) -> Option<Key>
     key_of(&e, reel, source)
 }
 
-/// The place of the first reel of that name.
-fn place_of(entries: &[ReelEntry], name: &Name) -> Option<usize>
-    ensures place { result ≡ reel_place entries.now name.now }
-    ensures within { IfSome result (λ place. place < length entries.now) }
-{
-    entries.iter().position(|e| has_name(e, name))
-}
-
-fn has_name(e: &ReelEntry, name: &Name) -> bool
-    ensures { result ≡ has_name name.now e.now }
-{
-    e.name.bytes() == name.bytes()
-}
-
-/// Whether one of these reels has the name.
-fn is_named_in(entries: &[ReelEntry], name: &Name) -> bool
-    ensures { result ≡ list_any (has_name name.now) entries.now }
-{
-    entries.iter().any(|e| has_name(e, name))
-}
-
 fn is_past_end(e: &ReelEntry) -> bool
     ensures { result ≡ is_past_end e.now }
 {
@@ -154,11 +137,11 @@ fn is_past_end(e: &ReelEntry) -> bool
         || u64::from(e.file) + u64::from(e.frames) > 10_000_000
 }
 
-/// What is wrong with a reel behind others.
-fn kind_after(before: &[ReelEntry], e: &ReelEntry) -> Option<ReelKind>
-    ensures { result ≡ kind_after before.now e.now }
+/// What is wrong with a reel behind those that have these places.
+fn kind_after(places: &BTreeMap<Name, u16>, e: &ReelEntry) -> Option<ReelKind>
+    ensures { IsKindAfter places.now e.now result }
 {
-    if is_named_in(before, &e.name) {
+    if places.contains_key(&e.name) {
         return Some(ReelKind::TwoNames);
     }
     if is_past_end(e) {
@@ -167,18 +150,23 @@ fn kind_after(before: &[ReelEntry], e: &ReelEntry) -> Option<ReelKind>
     None
 }
 
-/// The first reel that is refused.
-fn fault_of(entries: &[ReelEntry]) -> Option<ReelFault>
+/// The place of each reel by its name, or the first reel that is refused.
+fn places_of(alloc: Global, entries: &[ReelEntry]) -> Result<BTreeMap<Name, u16>, Fail<ReelFault>>
     requires { length entries.now ≤ 1024 }
-    ensures { result ≡ reels_fault entries.now }
+    ensures { ArePlaced entries.now result }
 {
+    let mut places = BTreeMap::new(alloc);
     for i in 0..entries.len() {
-        if let Some(kind) = kind_after(&entries[..i], &entries[i]) {
-            return Some(ReelFault {
+        let e = &entries[i];
+        if let Some(kind) = kind_after(&places, e) {
+            return Err(Fail::Fault(ReelFault {
                 reel: i as u32 + 1,
                 kind,
-            });
+            }));
         }
+        let Ok(_) = places.insert(e.name, i as u16) else {
+            return Err(Fail::NoMemory);
+        };
     }
-    None
+    Ok(places)
 }
