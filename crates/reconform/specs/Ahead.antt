@@ -3,7 +3,8 @@
 --     IsKept         the frame has a donor, and a digest that is the donor's where the old folder keeps one
 --     HoldsFrame     if it isn't free, the frame's own file lies there, made of an intact donor's
 --     CanFinish      the same, and its digest is made
-use Rattle.std.specs.Prelude.{◌≡◌, ℕ, ◌<◌, Bool, true, List, length, Option, Some, IfSome}
+--     AreReady       all of some rooms can be finished
+use Rattle.std.specs.Prelude.{◌≡◌, ℕ, ◌<◌, Bool, true, List, length, All, Option, Some, IfSome}
 use Rattle.std.specs.BTreeMap.{BTreeMap}
 use Rattle.sha2.specs.Sha256.{sha256}
 use Rattle.frame_hash.specs.declared.Room.{Room}
@@ -40,3 +41,6 @@ pub record CanFinish (new old : JobData) (told : Option World) (tells : Bool) (v
     (room : Room) : Type 0 where
   pub holds : HoldsFrame new old told tells view files room
   pub digest : IfSome room.frame (λ i. room.digest ≡ sha256 room.bytes.items)
+
+abbrev pub AreReady : JobData → JobData → Option World → Bool → ViewState → Files → List Room → Type 0
+AreReady new old told tells view files rooms = All (CanFinish new old told tells view files) rooms

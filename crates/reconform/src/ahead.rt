@@ -6,7 +6,7 @@ ghost use Rattle.frame_render.specs.Frame.{frame_size};
 ghost use Rattle.reel_disk.specs.Disk.{view_of, IsStill};
 ghost use Rattle.reel_writer.specs.Leaves.{LeavesDisk};
 ghost use Rattle.reel_writer.specs.Reel.{frames_of};
-ghost use Rattle.reconform.specs.Ahead.{CanFinish, HoldsDonor, HoldsFrame, IsKept};
+ghost use Rattle.reconform.specs.Ahead.{AreReady, HoldsDonor, HoldsFrame, IsKept};
 ghost use Rattle.reconform.specs.Donor.{donor_in};
 ghost use Rattle.reconform.specs.Parts.{CanTake, HasDonors};
 ghost use Rattle.reconform.specs.Plan.{plan_at};
@@ -35,7 +35,7 @@ impl<H: Hasher> Takeover<'_, '_, '_, '_, '_, H> {
         requires can { CanTake N.job O.job N.files D.tells (view_of (D.history old.old))
             self.now.new_job.now self.now.old_job.now self.now.view.now self.now.donors.now.by_plan }
         requires size { All (λ room. length room.bytes.items ≡ frame_size N.job) rooms.old }
-        ensures filled { OnOk result (All (CanFinish N.job O.job N.files D.tells self.now.view.now (view_of (D.history old.old)))
+        ensures filled { OnOk result (AreReady N.job O.job N.files D.tells self.now.view.now (view_of (D.history old.old))
             rooms.new) }
         ensures still { D.tells ≡ true → IsStill (D.history old.old) (D.history old.new) }
         ensures disk { LeavesDisk D.faults D.loans (IsErr result) old.old old.new }

@@ -1,5 +1,5 @@
 //! The frames of an adoption, in order.
-ghost use Rattle.std.specs.Prelude.{◌≡◌, ◌<◌, ◌↔◌, true, false, drop, length, set, slice_index_or, All, IfOk, IfSome, OnOk, IsErr, IsErrOf};
+ghost use Rattle.std.specs.Prelude.{◌≡◌, ◌<◌, ◌↔◌, true, false, drop, length, set, slice_index_or, IfOk, IfSome, OnOk, IsErr, IsErrOf};
 ghost use Rattle.sha2.specs.Sha256.{sha256};
 ghost use Rattle.frame_hash.specs.Rooms.{IsFree};
 ghost use Rattle.cf_base.specs.Count.{HasCause};
@@ -9,7 +9,7 @@ ghost use Rattle.reel_disk.specs.Disk.{view_of, IsStill};
 ghost use Rattle.reel_writer.specs.Leaves.{LeavesDisk};
 ghost use Rattle.reel_writer.specs.Reel.{frames_of};
 ghost use Rattle.reconform.specs.Adopt.{IsSameReel, LeavesBoth};
-ghost use Rattle.reconform.specs.Ahead.{CanFinish};
+ghost use Rattle.reconform.specs.Ahead.{AreReady};
 ghost use Rattle.reconform.specs.Donor.{HasIntactDonor};
 ghost use Rattle.reconform.specs.Parts.{CanTake, HasAdopted, HasServed, IsPart, WasLookedAt};
 
@@ -137,12 +137,12 @@ impl<H: Hasher> Takeover<'_, '_, '_, '_, '_, H> {
         requires can { CanTake N.job O.job N.files D.tells (view_of (D.history old.old))
             self.now.new_job.now self.now.old_job.now self.now.view.now self.now.donors.now.by_plan }
         requires index { i < frames_of N.job }
-        requires rooms { All (CanFinish N.job O.job N.files D.tells self.now.view.now (view_of (D.history old.old))) rooms.old }
+        requires rooms { AreReady N.job O.job N.files D.tells self.now.view.now (view_of (D.history old.old)) rooms.old }
         requires some { 0 < length rooms.old }
         requires is_open { reel.old.ledger.closed ≡ false }
         requires size { length reel.old.ledger.gates ≡ frames_of N.job }
 
-        ensures rooms { OnOk result (All (CanFinish N.job O.job N.files D.tells self.now.view.now (view_of (D.history old.old))) rooms.new) }
+        ensures rooms { OnOk result (AreReady N.job O.job N.files D.tells self.now.view.now (view_of (D.history old.old)) rooms.new) }
         ensures done { HasServed N.job O.job N.files D.tells D.history D.faults D.loans E.tells E.history E.faults E.loans
             self.now.view.now i result old.old old.new reel.old reel.new }
     {
@@ -167,12 +167,12 @@ impl<H: Hasher> Takeover<'_, '_, '_, '_, '_, H> {
         requires can { CanTake N.job O.job N.files D.tells (view_of (D.history old.old))
             self.now.new_job.now self.now.old_job.now self.now.view.now self.now.donors.now.by_plan }
         requires index { i < frames_of N.job }
-        requires rooms { All (CanFinish N.job O.job N.files D.tells self.now.view.now (view_of (D.history old.old))) rooms.old }
+        requires rooms { AreReady N.job O.job N.files D.tells self.now.view.now (view_of (D.history old.old)) rooms.old }
         requires some { 0 < length rooms.old }
         requires is_open { reel.old.ledger.closed ≡ false }
         requires flags { length reel.old.ledger.gates ≡ frames_of N.job }
         requires fresh { slice_index_or reel.old.ledger.gates i false ≡ false }
-        ensures rooms { OnOk result (All (CanFinish N.job O.job N.files D.tells self.now.view.now (view_of (D.history old.old))) rooms.new) }
+        ensures rooms { OnOk result (AreReady N.job O.job N.files D.tells self.now.view.now (view_of (D.history old.old)) rooms.new) }
         ensures done { HasServed N.job O.job N.files D.tells D.history D.faults D.loans E.tells E.history E.faults E.loans
             self.now.view.now i result old.old old.new reel.old reel.new }
     {
@@ -193,8 +193,8 @@ impl<H: Hasher> Takeover<'_, '_, '_, '_, '_, H> {
         requires can_hash { H.can_hash }
         requires can { CanTake N.job O.job N.files D.tells (view_of (D.history old.old))
             self.now.new_job.now self.now.old_job.now self.now.view.now self.now.donors.now.by_plan }
-        requires rooms { All (CanFinish N.job O.job N.files D.tells self.now.view.now (view_of (D.history old.old))) rooms.old }
-        ensures rooms { OnOk result (All (CanFinish N.job O.job N.files D.tells self.now.view.now (view_of (D.history old.old))) rooms.new) }
+        requires rooms { AreReady N.job O.job N.files D.tells self.now.view.now (view_of (D.history old.old)) rooms.old }
+        ensures rooms { OnOk result (AreReady N.job O.job N.files D.tells self.now.view.now (view_of (D.history old.old)) rooms.new) }
         ensures still { D.tells ≡ true → IsStill (D.history old.old) (D.history old.new) }
         ensures disk { LeavesDisk D.faults D.loans (IsErr result) old.old old.new }
     {
@@ -215,12 +215,12 @@ impl<H: Hasher> Takeover<'_, '_, '_, '_, '_, H> {
         requires can { CanTake N.job O.job N.files D.tells (view_of (D.history old.old))
             self.now.new_job.now self.now.old_job.now self.now.view.now self.now.donors.now.by_plan }
         requires index { i < frames_of N.job }
-        requires rooms { All (CanFinish N.job O.job N.files D.tells self.now.view.now (view_of (D.history old.old))) rooms.old }
+        requires rooms { AreReady N.job O.job N.files D.tells self.now.view.now (view_of (D.history old.old)) rooms.old }
         requires some { 0 < length rooms.old }
         requires is_open { reel.old.ledger.closed ≡ false }
         requires flags { length reel.old.ledger.gates ≡ frames_of N.job }
         requires fresh { slice_index_or reel.old.ledger.gates i false ≡ false }
-        ensures rooms { OnOk result (All (CanFinish N.job O.job N.files D.tells self.now.view.now (view_of (D.history old.old))) rooms.new) }
+        ensures rooms { OnOk result (AreReady N.job O.job N.files D.tells self.now.view.now (view_of (D.history old.old)) rooms.new) }
         ensures done { HasServed N.job O.job N.files D.tells D.history D.faults D.loans E.tells E.history E.faults E.loans
             self.now.view.now i result old.old old.new reel.old reel.new }
     {
@@ -271,7 +271,7 @@ impl<H: Hasher> Takeover<'_, '_, '_, '_, '_, H> {
         requires can_hash { H.can_hash }
         requires can { CanTake N.job O.job N.files D.tells (view_of (D.history old.old))
             self.now.new_job.now self.now.old_job.now self.now.view.now self.now.donors.now.by_plan }
-        requires rooms { All (CanFinish N.job O.job N.files D.tells self.now.view.now (view_of (D.history old.old))) rooms.old }
+        requires rooms { AreReady N.job O.job N.files D.tells self.now.view.now (view_of (D.history old.old)) rooms.old }
         requires some { 0 < length rooms.old }
         requires is_open { reel.old.ledger.closed ≡ false }
         requires size { length reel.old.ledger.gates ≡ frames_of N.job }
