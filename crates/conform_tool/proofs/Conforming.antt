@@ -20,10 +20,10 @@ use Rattle.command_answers.proofs.Answering.{done_unrefused, put_refused}
 use Rattle.command_answers.proofs.Replies.{told_any}
 use Rattle.conform_tool.specs.Conform.{AnsweredByCrew, IsAlone, IsCausedByCrew}
 
-module _ {S : Type 0} (world : S → Option World) (faults loads : S → ℕ) (same : S → S → Type 0) (path : List ℕ) (extent : Extent) (workers : ℕ) (scans scans_after : List S) (disk disk_after : DiskState) where
+module _ {S : Type 0} (world : S → Option World) (faults loads : S → ℕ) (same : S → S → Type 0) (path : List ℕ) (extent : Extent) (workers share : ℕ) (scans scans_after : List S) (disk disk_after : DiskState) where
   -- a line for which no memory is left: the outcome is another, and all else is as it was
-  crew_memory : (outcome : Outcome) (output : List ℕ) → IsMade outcome → IsCrewReply world faults loads same path extent workers scans scans_after disk disk_after outcome output
-      → IsCrewReply world faults loads same path extent workers scans scans_after disk disk_after outcomes.NoMemory (line_of outcomes.NoMemory)
+  crew_memory : (outcome : Outcome) (output : List ℕ) → IsMade outcome → IsCrewReply world faults loads same path extent workers share scans scans_after disk disk_after outcome output
+      → IsCrewReply world faults loads same path extent workers share scans scans_after disk disk_after outcomes.NoMemory (line_of outcomes.NoMemory)
   crew_memory outcome output made (inl crewed) = inl (record {
     job = crewed.job;
     comes = crewed.comes;
@@ -56,8 +56,8 @@ module _ {S : Type 0} (world : S → Option World) (faults loads : S → ℕ) (s
     others = uncrewed.others;
   })
 
-  crewed_memory : (outcome : Outcome) (output : List ℕ) → IsMade outcome → IsCausedByCrew world faults loads same path extent workers scans scans_after disk disk_after outcome output
-      → IsCausedByCrew world faults loads same path extent workers scans scans_after disk disk_after outcomes.NoMemory (line_of outcomes.NoMemory)
+  crewed_memory : (outcome : Outcome) (output : List ℕ) → IsMade outcome → IsCausedByCrew world faults loads same path extent workers share scans scans_after disk disk_after outcome output
+      → IsCausedByCrew world faults loads same path extent workers share scans scans_after disk disk_after outcomes.NoMemory (line_of outcomes.NoMemory)
   crewed_memory outcome output made crewed = record {
     reply = crew_memory outcome output made crewed.reply;
     line = λ _. refl;
@@ -69,12 +69,12 @@ module _ {S : Type 0} (world : S → Option World) (faults loads : S → ℕ) (s
 
   pub crew_answered : (r : Result (Vec ℕ Global) Outcome) (sink sink_after : SinkState) (result : Outcome)
       → MatchResult r (λ output. IsPut sink sink_after outcomes.Done output.items result) (λ outcome. IsLinePut sink sink_after outcome result)
-      → MatchResult r (λ text. IsCrewReply world faults loads same path extent workers scans scans_after disk disk_after outcomes.Done text.items) (λ outcome. IsCrewReply world faults loads same path extent workers scans scans_after disk disk_after outcome (line_of outcome))
+      → MatchResult r (λ text. IsCrewReply world faults loads same path extent workers share scans scans_after disk disk_after outcomes.Done text.items) (λ outcome. IsCrewReply world faults loads same path extent workers share scans scans_after disk disk_after outcome (line_of outcome))
       → MatchResult r (λ text. Unit {0}) IsOfRun
       → (r ≡ Err outcomes.SourceFault → HasFailed faults scans scans_after)
       → (r ≡ Err outcomes.DiskFault → HasRisen disk.faults disk_after.faults)
       → disk.faults ≤ disk_after.faults
-      → AnsweredByCrew world faults loads same path extent workers scans scans_after disk disk_after sink sink_after result
+      → AnsweredByCrew world faults loads same path extent workers share scans scans_after disk disk_after sink sink_after result
   crew_answered (Ok text) sink sink_after result put reply kind source failed later = record {
     reached = outcomes.Done;
     output = text.items;
@@ -116,7 +116,7 @@ module _ {S : Type 0} (world : S → Option World) (faults loads : S → ℕ) (s
   }
 
   pub crew_unread : (sink sink_after : SinkState) (result : Outcome) → scans_after ≡ scans → disk_after ≡ disk → IsLinePut sink sink_after outcomes.NoMemory result
-      → AnsweredByCrew world faults loads same path extent workers scans scans_after disk disk_after sink sink_after result
+      → AnsweredByCrew world faults loads same path extent workers share scans scans_after disk disk_after sink sink_after result
   crew_unread sink sink_after result untouched_scans untouched_disk (inl put) = record {
     reached = outcomes.NoMemory;
     output = line_of outcomes.NoMemory;
@@ -138,9 +138,9 @@ spelled_found words None command says spells = absurd (says command spells)
 spelled_found words (Some other) command says spells = ap Some (one_spelled words other command says spells)
 
 -- a crew's run is the one that the words spell
-pub run_found : (words : List (List ℕ)) (found : Option Command) (p path : List ℕ) (e extent : Extent) (w s workers share : ℕ) → IsFoundIn words found → found ≡ Some (commands.Run p e w s) → Spells words (commands.Run path extent workers share) → (p ≡ path) × (e ≡ extent) × (w ≡ workers)
+pub run_found : (words : List (List ℕ)) (found : Option Command) (p path : List ℕ) (e extent : Extent) (w s workers share : ℕ) → IsFoundIn words found → found ≡ Some (commands.Run p e w s) → Spells words (commands.Run path extent workers share) → (p ≡ path) × (e ≡ extent) × (w ≡ workers) × (s ≡ share)
 run_found words found p path e extent w s workers share says is spells =
-    let one = same_Some _ _ (sym is ∙ spelled_found words found (commands.Run path extent workers share) says spells) in (cc, cc, cc)
+    let one = same_Some _ _ (sym is ∙ spelled_found words found (commands.Run path extent workers share) says spells) in (cc, cc, cc, cc)
 
 pub found_run : (words : List (List ℕ)) (found : Option Command) (p : List ℕ) (e : Extent) (w s : ℕ) → IsFoundIn words found → found ≡ Some (commands.Run p e w s) → Spells words (commands.Run p e w s)
 found_run words found p e w s says is = subst (IsFoundIn words) is says
@@ -157,9 +157,10 @@ pub alone_found : (words : List (List ℕ)) (found : Option Command) → IsFound
 alone_found words found says none path extent workers share spells = none path extent workers share (spelled_found words found (commands.Run path extent workers share) says spells)
 
 -- the same answer, by the words
-pub crew_as : {S : Type 0} (world : S → Option World) (faults loads : S → ℕ) (same : S → S → Type 0) (p path : List ℕ) (e extent : Extent) (w workers : ℕ) (scans scans_after : List S) (disk disk_after : DiskState) (sink sink_after : SinkState) (result : Outcome)
-    → (p ≡ path) × (e ≡ extent) × (w ≡ workers) → AnsweredByCrew world faults loads same p e w scans scans_after disk disk_after sink sink_after result → AnsweredByCrew world faults loads same path extent workers scans scans_after disk disk_after sink sink_after result
-crew_as world faults loads same p path e extent w workers scans scans_after disk disk_after sink sink_after result is answered =
-    subst (λ q. AnsweredByCrew world faults loads same q extent workers scans scans_after disk disk_after sink sink_after result) is.0
-    (subst (λ (x : Extent). AnsweredByCrew world faults loads same p x workers scans scans_after disk disk_after sink sink_after result) is.1
-    (subst (λ n. AnsweredByCrew world faults loads same p e n scans scans_after disk disk_after sink sink_after result) is.2 answered))
+pub crew_as : {S : Type 0} (world : S → Option World) (faults loads : S → ℕ) (same : S → S → Type 0) (p path : List ℕ) (e extent : Extent) (w workers s share : ℕ) (scans scans_after : List S) (disk disk_after : DiskState) (sink sink_after : SinkState) (result : Outcome)
+    → (p ≡ path) × (e ≡ extent) × (w ≡ workers) × (s ≡ share) → AnsweredByCrew world faults loads same p e w s scans scans_after disk disk_after sink sink_after result → AnsweredByCrew world faults loads same path extent workers share scans scans_after disk disk_after sink sink_after result
+crew_as world faults loads same p path e extent w workers s share scans scans_after disk disk_after sink sink_after result is answered =
+    subst (λ q. AnsweredByCrew world faults loads same q extent workers share scans scans_after disk disk_after sink sink_after result) is.0
+    (subst (λ (x : Extent). AnsweredByCrew world faults loads same p x workers share scans scans_after disk disk_after sink sink_after result) is.1
+    (subst (λ n. AnsweredByCrew world faults loads same p e n share scans scans_after disk disk_after sink sink_after result) is.2
+    (subst (λ n. AnsweredByCrew world faults loads same p e w n scans scans_after disk disk_after sink sink_after result) is.3 answered)))

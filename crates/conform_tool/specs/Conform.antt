@@ -26,9 +26,9 @@ IsFirst scans scan = slice_get scans 0 ≡ Some scan
 
 module _ {S : Type 0} (world : S → Option World) (faults loads : S → ℕ) (same : S → S → Type 0) where
   -- The run came to this outcome with this output, and each fault has its cause.
-  pub record IsCausedByCrew (path : List ℕ) (extent : Extent) (workers : ℕ) (scans scans_after : List S)
+  pub record IsCausedByCrew (path : List ℕ) (extent : Extent) (workers share : ℕ) (scans scans_after : List S)
       (disk disk_after : DiskState) (reached : Outcome) (output : List ℕ) : Type 0 where
-    pub reply : IsCrewReply world faults loads same path extent workers scans scans_after disk disk_after reached output
+    pub reply : IsCrewReply world faults loads same path extent workers share scans scans_after disk disk_after reached output
     pub line : reached ≢ Done → output ≡ line_of reached
     pub kind : (reached ≡ Done) ⊎ IsOfRun reached
     pub source_fault : reached ≡ SourceFault → HasFailed faults scans scans_after
@@ -42,12 +42,12 @@ module _ {S : Type 0} (world : S → Option World) (faults loads : S → ℕ) (s
     pub untouched_scans : scans_after ≡ scans
     pub untouched_disk : disk_after ≡ disk
 
-  pub record AnsweredByCrew (path : List ℕ) (extent : Extent) (workers : ℕ) (scans scans_after : List S)
+  pub record AnsweredByCrew (path : List ℕ) (extent : Extent) (workers share : ℕ) (scans scans_after : List S)
       (disk disk_after : DiskState) (sink sink_after : SinkState) (result : Outcome) : Type 0 where
     pub reached : Outcome
     pub output : List ℕ
     pub put : IsPut sink sink_after reached output result
-    pub crewed : IsCausedByCrew path extent workers scans scans_after disk disk_after reached output
+    pub crewed : IsCausedByCrew path extent workers share scans scans_after disk disk_after reached output
         ⊎ WereUnread scans scans_after disk disk_after reached output
 
 -- the run with several workers that a command is, or that it is none

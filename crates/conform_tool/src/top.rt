@@ -67,7 +67,7 @@ pub fn conform<S: Scans + Send, D: Disk + Send, K: Sink, R: Threads + Wait + Syn
         → Spells (texts_of words.now) (commands.Run path extent workers share)
         → 2 ≤ workers
         → OnSink K.written K.faults out.old out.new (OnDisk D.tells D.history D.faults disk result.disk
-        (AnsweredByCrew S.world S.faults S.loads S.same path extent workers scans.items result.scans.items)) result.outcome }
+        (AnsweredByCrew S.world S.faults S.loads S.same path extent workers share scans.items result.scans.items)) result.outcome }
 
     // All else, with the first scan.
     ensures answered { IsAlone (texts_of words.now) → (first last : S) → IsFirst scans.items first → IsFirst result.scans.items last
@@ -191,7 +191,8 @@ fn by_crew<S: Scans + Send, D: Disk + Send, K: Sink, R: Threads + Wait + Sync>(
     requires no_fault { D.faults disk ≡ 0 }
     requires first_moment { D.tells ≡ true → (D.history disk).now ≡ 0 }
     ensures crew { OnSink K.written K.faults out.old out.new (OnDisk D.tells D.history D.faults disk result.disk
-        (AnsweredByCrew S.world S.faults S.loads S.same crew.now.project crew.now.extent crew.now.workers scans.items result.scans.items))
+        (AnsweredByCrew S.world S.faults S.loads S.same crew.now.project crew.now.extent crew.now.workers crew.now.share
+        scans.items result.scans.items))
         result.outcome }
     ensures handed_back { vec_len result.scans ≡ vec_len scans }
     ensures later { K.faults out.old ≤ K.faults out.new }

@@ -41,9 +41,9 @@ module _ {S : Type 0} (world : S → Option World) (faults loads : S → ℕ) (s
       let at = worked.failed is in
       (at.0, at.1, λ scan. (worked.each at.0 scan at.1).failed at.2)
 
-  pub crew_job_run : (log : List ShareStep) (job : JobData) (extent : Extent) (range : FrameRange) (told : Option World) (workers count : ℕ) (old new : List S) (disk disk_after : DiskState) (how : RunEnd) (report : Report) (steps : Option (List Step)) → count ≡ length old
+  pub crew_job_run : (log : List ShareStep) (job : JobData) (extent : Extent) (range : FrameRange) (told : Option World) (workers share given count : ℕ) (old new : List S) (disk disk_after : DiskState) (how : RunEnd) (report : Report) (steps : Option (List Step)) → count ≡ length old → given ≡ share
       → report.frames ≡ frames_of job
-      → MatchOption steps (TookNoSteps job disk.tells disk.history disk_after.history how report log) (λ all. TookSteps job range.low range.high told (min workers count) disk.tells disk.history disk_after.history all how report log)
+      → MatchOption steps (TookNoSteps job disk.tells disk.history disk_after.history how report log) (λ all. TookSteps job range.low range.high told (min workers count) given disk.tells disk.history disk_after.history all how report log)
       → (disk.tells ≡ true → IsReelRun job told disk.history disk_after.history)
       → (how ≡ ends.Done → disk.tells ≡ true → AreAllAcked job range.low range.high (moment_of disk_after.history))
       → (how ≡ ends.Done → disk.tells ≡ true → HasWhole job range.low range.high told disk.history disk_after.history)
@@ -53,15 +53,17 @@ module _ {S : Type 0} (world : S → Option World) (faults loads : S → ℕ) (s
       → AreWorked world faults loads same (min workers count) report.loads (how ≡ ends.SourceFault) old new
       → (IsChange how → 1 ≤ report.loads)
       → (reached : Outcome) (output : List ℕ) → ReportsEnd job how (report_text extent range report) reached output
-      → IsJobRunByCrew world faults loads same job extent range told workers old new disk disk_after reached output
-  crew_job_run log job extent range told workers count old new disk disk_after how report steps all frames ran run acked whole sound_has spares writes scans changed reached output reply = record {
+      → IsJobRunByCrew world faults loads same job extent range told workers share old new disk disk_after reached output
+  crew_job_run log job extent range told workers share given count old new disk disk_after how report steps all shared frames ran run acked whole sound_has spares writes scans changed reached output reply = record {
     how = how;
     report = report;
     reply = reply;
     frames = frames;
     steps = steps;
     log = log;
-    ran = subst (λ n. MatchOption steps (TookNoSteps job disk.tells disk.history disk_after.history how report log) (λ all. TookSteps job range.low range.high told (min workers n) disk.tells disk.history disk_after.history all how report log)) all ran;
+    ran =
+        subst (λ n. MatchOption steps (TookNoSteps job disk.tells disk.history disk_after.history how report log) (λ all. TookSteps job range.low range.high told (min workers n) share disk.tells disk.history disk_after.history all how report log)) all
+        (subst (λ n. MatchOption steps (TookNoSteps job disk.tells disk.history disk_after.history how report log) (λ all. TookSteps job range.low range.high told (min workers count) n disk.tells disk.history disk_after.history all how report log)) shared ran);
     keeps = record { run = run; acked = acked; whole = whole; sound_has = sound_has; spares = spares; writes = writes };
     scans = subst (λ n. AreWorked world faults loads same (min workers n) report.loads (how ≡ ends.SourceFault) old new) all scans;
     changed = changed;
@@ -111,13 +113,13 @@ module _ {S : Type 0} (world : S → Option World) (faults loads : S → ℕ) (s
     failed_first [] first some is rose = absurd (omega (arith, some))
     failed_first (scan ∷ scans) first some is rose = (0, omega arith, λ d. subst (λ n. HasRisen n (faults used)) (ap faults (sym is)) rose)
 
-    pub uncrewed : {extent : Extent} (path : List ℕ) (workers : ℕ) (scans : List S) (first : S) (disk : DiskState) (reached : Outcome) (output : List ℕ) → 0 < length scans → get_or scans 0 first ≡ first
+    pub uncrewed : {extent : Extent} (path : List ℕ) (workers share : ℕ) (scans : List S) (first : S) (disk : DiskState) (reached : Outcome) (output : List ℕ) → 0 < length scans → get_or scans 0 first ≡ first
         → IfSome (world first) (λ files. HasPlanned (file_at files) path (Err reached)) → IsOfJob reached → AreLoaded 1 3 (loads first) (loads used)
         → HasLoadedFor (world first) path (loads first) (loads used) reached → (reached ≢ outcomes.SourceFault → faults used ≡ faults first)
         → faults first ≤ faults used → world used ≡ world first → same first used
-        → IsCrewReply world faults loads same path extent workers scans (set scans 0 used) disk disk reached output
-    uncrewed path workers [] first disk reached output some is why kind texts refused steady later told lent = absurd (omega (arith, some))
-    uncrewed path workers (scan ∷ scans) first disk reached output some is why kind texts refused steady later told lent = inr (record {
+        → IsCrewReply world faults loads same path extent workers share scans (set scans 0 used) disk disk reached output
+    uncrewed path workers share [] first disk reached output some is why kind texts refused steady later told lent = absurd (omega (arith, some))
+    uncrewed path workers share (scan ∷ scans) first disk reached output some is why kind texts refused steady later told lent = inr (record {
       why = subst (λ s. IfSome (world s) (λ files. HasPlanned (file_at files) path (Err reached))) (sym is) why;
       kind = kind;
       untouched = refl;
@@ -131,18 +133,18 @@ module _ {S : Type 0} (world : S → Option World) (faults loads : S → ℕ) (s
       others = refl;
     })
 
-    pub crewed : (job : JobData) (extent : Extent) (range : FrameRange) (path : List ℕ) (workers : ℕ) (scans new : List S) (first : S) (disk disk_after : DiskState) (reached : Outcome) (output : List ℕ) → range ≡ range_of extent (frames_of job) → 0 < length scans → get_or scans 0 first ≡ first
+    pub crewed : (job : JobData) (extent : Extent) (range : FrameRange) (path : List ℕ) (workers share : ℕ) (scans new : List S) (first : S) (disk disk_after : DiskState) (reached : Outcome) (output : List ℕ) → range ≡ range_of extent (frames_of job) → 0 < length scans → get_or scans 0 first ≡ first
         → IfSome (world first) (λ files. HasPlanned (file_at files) path (Ok job)) → world used ≡ world first
         → HasFirstLoaded world faults loads same (2 + cube_count job.parts.project.cube) scans (set scans 0 used)
-        → IsJobRunByCrew world faults loads same job extent range (told_by world (set scans 0 used)) workers (set scans 0 used) new disk disk_after reached output
-        → IsCrewReply world faults loads same path extent workers scans new disk disk_after reached output
-    crewed job extent range path workers scans new first disk disk_after reached output whole some is comes told texts ran = inl (record {
+        → IsJobRunByCrew world faults loads same job extent range (told_by world (set scans 0 used)) workers share (set scans 0 used) new disk disk_after reached output
+        → IsCrewReply world faults loads same path extent workers share scans new disk disk_after reached output
+    crewed job extent range path workers share scans new first disk disk_after reached output whole some is comes told texts ran = inl (record {
       job = job;
       comes = subst (λ o. IfSome o (λ files. HasPlanned (file_at files) path (Ok job))) (told_first scans some is) comes;
       planned = set scans 0 used;
       texts = texts;
-      ran = subst (λ (r : FrameRange). IsJobRunByCrew world faults loads same job extent r (told_by world scans) workers (set scans 0 used) new disk disk_after reached output) whole
-          (subst (λ o. IsJobRunByCrew world faults loads same job extent range o workers (set scans 0 used) new disk disk_after reached output) (told_still scans first some is told) ran);
+      ran = subst (λ (r : FrameRange). IsJobRunByCrew world faults loads same job extent r (told_by world scans) workers share (set scans 0 used) new disk disk_after reached output) whole
+          (subst (λ o. IsJobRunByCrew world faults loads same job extent range o workers share (set scans 0 used) new disk disk_after reached output) (told_still scans first some is told) ran);
     })
       where
         told_first : (scans : List S) → 0 < length scans → get_or scans 0 first ≡ first → world first ≡ told_by world scans

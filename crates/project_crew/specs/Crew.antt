@@ -48,7 +48,7 @@ module _ {S : Type 0} (world : S → Option World) (faults loads : S → ℕ) (s
 
   -- The job was run in the folder by a crew, over a range of its frames.
   pub record IsJobRunByCrew (job : JobData) (extent : Extent) (range : FrameRange) (told : Option World)
-      (workers : ℕ) (old new : List S) (disk disk_after : DiskState) (reached : Outcome) (output : List ℕ) : Type 0 where
+      (workers share : ℕ) (old new : List S) (disk disk_after : DiskState) (reached : Outcome) (output : List ℕ) : Type 0 where
     pub how : RunEnd
     pub report : Report
     pub reply : ReportsEnd job how (report_text extent range report) reached output
@@ -56,9 +56,9 @@ module _ {S : Type 0} (world : S → Option World) (faults loads : S → ℕ) (s
     -- the steps of the workers, how the run ended by them, and what the folder acknowledges now; or why there are none
     pub steps : Option (List Step)
     pub log : List ShareStep
-    -- there are as many workers as were asked for, at most one a scan
+    -- there are as many workers as were asked for, at most one a scan, and they share as many source frames as were asked for
     pub ran : MatchOption steps (TookNoSteps job disk.tells disk.history disk_after.history how report log)
-        (λ all. TookSteps job range.low range.high told (min workers (length old)) disk.tells disk.history
+        (λ all. TookSteps job range.low range.high told (min workers (length old)) share disk.tells disk.history
         disk_after.history all how report log)
     pub keeps : IsSafeRun job range told how disk disk_after
     -- what was done with the scans: as many loads as were reported
@@ -66,14 +66,14 @@ module _ {S : Type 0} (world : S → Option World) (faults loads : S → ℕ) (s
     pub changed : IsChange how → 1 ≤ report.loads
 
   -- The project came to this job, which a crew ran in the folder, as far as it was asked for.
-  pub record RanItsJobByCrew (path : List ℕ) (extent : Extent) (workers : ℕ) (old new : List S)
+  pub record RanItsJobByCrew (path : List ℕ) (extent : Extent) (workers share : ℕ) (old new : List S)
       (disk disk_after : DiskState) (reached : Outcome) (output : List ℕ) : Type 0 where
     pub job : JobData
     pub comes : IfSome (told_by world old) (λ files. ComesTo (file_at files) path (Ok job.parts))
     -- the scans when it was planned, with the first of them
     pub planned : List S
     pub texts : HasFirstLoaded (2 + cube_count job.parts.project.cube) old planned
-    pub ran : IsJobRunByCrew job extent (range_of extent (frames_of job)) (told_by world old) workers
+    pub ran : IsJobRunByCrew job extent (range_of extent (frames_of job)) (told_by world old) workers share
         planned new disk disk_after reached output
 
   -- The project came to no job, the folder is as it was, and so are all scans but the first, which is handed back as it was lent.
@@ -92,6 +92,6 @@ module _ {S : Type 0} (world : S → Option World) (faults loads : S → ℕ) (s
     pub lent : (scan : S) → same (slice_index_or old 0 scan) (slice_index_or new 0 scan)
     pub others : drop 1 new ≡ drop 1 old
 
-  abbrev pub IsCrewReply : List ℕ → Extent → ℕ → List S → List S → DiskState → DiskState → Outcome → List ℕ → Type 0
-  IsCrewReply path extent workers old new disk disk_after reached output =
-      RanItsJobByCrew path extent workers old new disk disk_after reached output ⊎ IsUnplannedByCrew path old new disk disk_after reached
+  abbrev pub IsCrewReply : List ℕ → Extent → ℕ → ℕ → List S → List S → DiskState → DiskState → Outcome → List ℕ → Type 0
+  IsCrewReply path extent workers share old new disk disk_after reached output =
+      RanItsJobByCrew path extent workers share old new disk disk_after reached output ⊎ IsUnplannedByCrew path old new disk disk_after reached

@@ -55,7 +55,7 @@ pub fn run_crewed<S: Scans + Send, D: Disk + Send, R: Threads + Wait + Sync>(
     requires no_fault { D.faults disk ≡ 0 }
     requires first_moment { D.tells ≡ true → (D.history disk).now ≡ 0 }
     ensures reply { Replies result.result (OnDisk D.tells D.history D.faults disk result.disk
-        (IsCrewReply S.world S.faults S.loads S.same path.now extent workers scans.items result.scans.items)) }
+        (IsCrewReply S.world S.faults S.loads S.same path.now extent workers share scans.items result.scans.items)) }
     ensures kind { MatchResult result.result (λ text. Unit {0}) IsOfRun }
     ensures handed_back { vec_len result.scans ≡ vec_len scans }
 
@@ -104,7 +104,7 @@ fn run_job<S: Scans + Send, D: Disk + Send, R: Threads + Wait + Sync>(
     requires first_moment { D.tells ≡ true → (D.history disk).now ≡ 0 }
     ensures ran { Replies result.result (OnDisk D.tells D.history D.faults disk result.disk
         (IsJobRunByCrew S.world S.faults S.loads S.same job.now extent range (told_by S.world scans.items)
-        workers scans.items result.scans.items)) }
+        workers share scans.items result.scans.items)) }
     ensures kind { MatchResult result.result (λ text. Unit {0}) IsOfRun }
     ensures handed_back { vec_len result.scans ≡ vec_len scans }
 

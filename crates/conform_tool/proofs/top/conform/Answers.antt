@@ -12,7 +12,7 @@ use Rattle.conform_tool.proofs.top.conform.Goals as goal
 
 pub returns-in-Some-clause-crew : goal.returns-in-Some-clause-crew
 returns-in-Some-clause-crew g c path extent workers share spells many =
-    crew_as g.S.Scans.world g.S.Scans.faults g.S.Scans.loads g.S.Scans.same _ _ _ _ _ _ _ _ _ _ _ _ _
+    crew_as g.S.Scans.world g.S.Scans.faults g.S.Scans.loads g.S.Scans.same _ _ _ _ _ _ _ _ _ _ _ _ _ _ _
     (run_found _ _ c.in-Some.crew.project path c.in-Some.crew.extent extent c.in-Some.crew.workers c.in-Some.crew.share workers share c.in-Ok.ensures.command c.in-Some.ensures.0 spells) c.by_crew.ensures.crew
 
 pub returns-in-Some-clause-answered : goal.returns-in-Some-clause-answered
@@ -41,8 +41,8 @@ returns-in-None-clause-crew g c path extent workers share spells many =
 -- a crew's run
 pub returns-in-Some-clause-headline : goal.returns-in-Some-clause-headline
 returns-in-Some-clause-headline g c world job extent runs =
-    crew_answered_promise c.job_laws.ensures.job g.S.Scans.world g.S.Scans.faults g.S.Scans.loads g.S.Scans.same runs.path extent runs.workers _ _ _ _ _ _ _
-    (crew_as g.S.Scans.world g.S.Scans.faults g.S.Scans.loads g.S.Scans.same _ _ _ _ _ _ _ _ _ _ _ _ _
+    crew_answered_promise c.job_laws.ensures.job g.S.Scans.world g.S.Scans.faults g.S.Scans.loads g.S.Scans.same runs.path extent runs.workers runs.share _ _ _ _ _ _ _
+    (crew_as g.S.Scans.world g.S.Scans.faults g.S.Scans.loads g.S.Scans.same _ _ _ _ _ _ _ _ _ _ _ _ _ _ _
     (run_found _ _ c.in-Some.crew.project runs.path c.in-Some.crew.extent extent c.in-Some.crew.workers c.in-Some.crew.share runs.workers runs.share c.in-Ok.ensures.command c.in-Some.ensures.0 runs.spells) c.by_crew.ensures.crew)
     world job runs.scans_tell runs.disk_tells runs.comes
 
@@ -51,8 +51,8 @@ returns-in-Some-clause-complete g c command world spells is accepted =
     let disk = disk_state g.D.Disk.tells g.D.Disk.history g.D.Disk.faults c.args.disk in
     let folders = folders_of g.D.Disk.tells g.D.Disk.history g.D.Disk.faults c.args.disk c.args.old.now in
     let command_is = found_command _ _ command _ _ _ _ c.in-Ok.ensures.command c.in-Some.ensures.0 spells in
-    let complete = crew_answered_complete c.job_laws.ensures.job g.S.Scans.world g.S.Scans.faults g.S.Scans.loads g.S.Scans.same c.in-Some.crew.project c.in-Some.crew.extent c.in-Some.crew.workers _ _ disk _ world is
-    (subst (λ k. IsAccepted k world folders) command_is accepted) c.in-Some.crew.share _ _ _ c.by_crew.ensures.crew in
+    let complete = crew_answered_complete c.job_laws.ensures.job g.S.Scans.world g.S.Scans.faults g.S.Scans.loads g.S.Scans.same c.in-Some.crew.project c.in-Some.crew.extent c.in-Some.crew.workers c.in-Some.crew.share _ _ disk _ world is
+    (subst (λ k. IsAccepted k world folders) command_is accepted) _ _ _ c.by_crew.ensures.crew in
     λ scans_steady disk_steady old_steady sink_steady. subst (λ k. IsComplete k c.by_crew.result.outcome) (sym command_is) (complete scans_steady disk_steady sink_steady)
 
 pub returns-in-Some-clause-unfailed : goal.returns-in-Some-clause-unfailed
@@ -107,15 +107,15 @@ returns-in-None-clause-unfailed g c =
 pub returns-in_default-clause-headline : goal.returns-in_default-clause-headline
 returns-in_default-clause-headline g c world job extent runs =
     let disk = disk_state g.D.Disk.tells g.D.Disk.history g.D.Disk.faults c.args.disk in
-    crew_answered_promise c.job_laws.ensures.job g.S.Scans.world g.S.Scans.faults g.S.Scans.loads g.S.Scans.same runs.path extent runs.workers c.args.scans.items c.args.scans.items disk disk _ _ _
-    (crew_unread g.S.Scans.world g.S.Scans.faults g.S.Scans.loads g.S.Scans.same runs.path extent runs.workers c.args.scans.items c.args.scans.items disk disk _ _ _ refl refl c.put_line-outcome.ensures.put)
+    crew_answered_promise c.job_laws.ensures.job g.S.Scans.world g.S.Scans.faults g.S.Scans.loads g.S.Scans.same runs.path extent runs.workers runs.share c.args.scans.items c.args.scans.items disk disk _ _ _
+    (crew_unread g.S.Scans.world g.S.Scans.faults g.S.Scans.loads g.S.Scans.same runs.path extent runs.workers runs.share c.args.scans.items c.args.scans.items disk disk _ _ _ refl refl c.put_line-outcome.ensures.put)
     world job runs.scans_tell runs.disk_tells runs.comes
 
 pub returns-in_default-clause-adopted : goal.returns-in_default-clause-adopted
 returns-in_default-clause-adopted g c world job adopts =
     let disk = disk_state g.D.Disk.tells g.D.Disk.history g.D.Disk.faults c.args.disk in
-    crew_answered_promise c.job_laws.ensures.job g.S.Scans.world g.S.Scans.faults g.S.Scans.loads g.S.Scans.same adopts.path Whole 2 c.args.scans.items c.args.scans.items disk disk _ _ _
-    (crew_unread g.S.Scans.world g.S.Scans.faults g.S.Scans.loads g.S.Scans.same adopts.path Whole 2 c.args.scans.items c.args.scans.items disk disk _ _ _ refl refl c.put_line-outcome.ensures.put)
+    crew_answered_promise c.job_laws.ensures.job g.S.Scans.world g.S.Scans.faults g.S.Scans.loads g.S.Scans.same adopts.path Whole 2 2 c.args.scans.items c.args.scans.items disk disk _ _ _
+    (crew_unread g.S.Scans.world g.S.Scans.faults g.S.Scans.loads g.S.Scans.same adopts.path Whole 2 2 c.args.scans.items c.args.scans.items disk disk _ _ _ refl refl c.put_line-outcome.ensures.put)
     world job adopts.scans_tell adopts.disk_tells adopts.comes
 
 -- a run with several workers makes calls on the folder
