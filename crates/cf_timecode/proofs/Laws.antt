@@ -8,7 +8,7 @@ use Rattle.cf_base.specs.declared.timing.Mode.{Mode}
 use Rattle.cf_base.specs.declared.timing.Mode.TheVariants.{NonDrop, Drop}
 use Rattle.cf_base.specs.Timing.{base_of, CanCount}
 use Rattle.cf_timecode.specs.declared.Label.{Label}
-use Rattle.cf_timecode.specs.Counting.{is_dropped, is_passed_over, is_in_range, IsValid, following, pass_over, next, label_after, minute_of, number_of as number, CountsOnce, FillsDay, NumbersCount, NumbersFit, NeverPassedOver}
+use Rattle.cf_timecode.specs.Counting.{is_dropped, is_passed_over, is_in_range, IsValid, following, pass_over, next, label_after, second_of, minute_of, number_of as number, CountsOnce, FillsDay, NumbersCount, NumbersFit, NeverPassedOver, IsBefore, NumbersRise}
 
 -- a label that counting can come to, in whatever hour
 pub record IsKept (rate : Rate) (mode : Mode) (l : Label) : Type 0 where
@@ -281,3 +281,75 @@ numbers_fit R30 NonDrop l can valid = let r = is_in_range-true R30 l valid.0 in 
 numbers_fit R30 Drop l can valid = let r = is_in_range-true R30 l valid.0 in omega arith
 numbers_fit R24 Drop l can valid = absurd can
 numbers_fit R25 Drop l can valid = absurd can
+
+-- ---- the order of labels
+
+-- an earlier label has an earlier second, or the same second and an earlier frame
+second_rises : (a b : Label) → a.m < 60 → b.m < 60 → a.s < 60 → b.s < 60 → IsBefore a b → (second_of a < second_of b) ⊎ ((second_of a ≡ second_of b) × (a.f < b.f))
+second_rises a b am bm «as» bs (inl hour) = inl (omega arith)
+second_rises a b am bm «as» bs (inr (inl minute)) = inl (omega arith)
+second_rises a b am bm «as» bs (inr (inr (inl second))) = inl (omega arith)
+second_rises a b am bm «as» bs (inr (inr (inr frame))) = inr (omega arith, frame.3)
+
+-- an earlier label has an earlier minute, or the same minute and fewer frames in it
+minute_rises : (a b : Label) → a.m < 60 → b.m < 60 → a.f < 30 → b.f < 30 → IsBefore a b → (minute_of a < minute_of b) ⊎ ((minute_of a ≡ minute_of b) × (a.s * 30 + a.f < b.s * 30 + b.f))
+minute_rises a b am bm af bf (inl hour) = inl (omega arith)
+minute_rises a b am bm af bf (inr (inl minute)) = inl (omega arith)
+minute_rises a b am bm af bf (inr (inr (inl second))) = inr (omega arith, omega arith)
+minute_rises a b am bm af bf (inr (inr (inr frame))) = inr (omega arith, omega arith)
+
+number_rises : (rate : Rate) (mode : Mode) (a b : Label) → CanCount rate mode → IsValid rate mode a → IsValid rate mode b → IsBefore a b → number rate mode a < number rate mode b
+number_rises R24 NonDrop a b can va vb before =
+    let ra = is_in_range-true R24 a va.0 in
+    let rb = is_in_range-true R24 b vb.0 in
+    elim (second_rises a b ra.1 rb.1 ra.2 rb.2 before) [ inl less ↦ omega arith | inr same ↦ omega arith ]
+number_rises R25 NonDrop a b can va vb before =
+    let ra = is_in_range-true R25 a va.0 in
+    let rb = is_in_range-true R25 b vb.0 in
+    elim (second_rises a b ra.1 rb.1 ra.2 rb.2 before) [ inl less ↦ omega arith | inr same ↦ omega arith ]
+number_rises R30 NonDrop a b can va vb before =
+    let ra = is_in_range-true R30 a va.0 in
+    let rb = is_in_range-true R30 b vb.0 in
+    elim (second_rises a b ra.1 rb.1 ra.2 rb.2 before) [ inl less ↦ omega arith | inr same ↦ omega arith ]
+number_rises R30 Drop a b can va vb before =
+    let ra = is_in_range-true R30 a va.0 in
+    let rb = is_in_range-true R30 b vb.0 in
+    elim (minute_rises a b ra.1 rb.1 ra.3 rb.3 before) [
+      | inl less ↦
+          let kept = kept_of (number R30 Drop b) b (has_number R30 Drop b vb) in
+          let h = earlier (minute_of a) (minute_of b) (a.s * 30 + a.f) (b.s * 30 + b.f) less (omega arith) kept in
+          omega (arith, h)
+      | inr same ↦ omega arith
+    ]
+number_rises R24 Drop a b can va vb before = absurd can
+number_rises R25 Drop a b can va vb before = absurd can
+
+-- of two labels one is before the other, or they are one
+in_order : (a b : Label) → IsBefore a b ⊎ (IsBefore b a ⊎ (a ≡ b))
+in_order a b = elim (cases_order a.h b.h) [
+  | inr (inl less) ↦ inl (inl less)
+  | inr (inr more) ↦ inr (inl (inl more))
+  | inl hour ↦ elim (cases_order a.m b.m) [
+    | inr (inl less) ↦ inl (inr (inl (hour, less)))
+    | inr (inr more) ↦ inr (inl (inr (inl (sym hour, more))))
+    | inl minute ↦ elim (cases_order a.s b.s) [
+      | inr (inl less) ↦ inl (inr (inr (inl (hour, minute, less))))
+      | inr (inr more) ↦ inr (inl (inr (inr (inl (sym hour, sym minute, more)))))
+      | inl second ↦ elim (cases_order a.f b.f) [
+        | inr (inl less) ↦ inl (inr (inr (inr (hour, minute, second, less))))
+        | inr (inr more) ↦ inr (inl (inr (inr (inr (sym hour, sym minute, sym second, more)))))
+        | inl frame ↦ inr (inr (same_label a b hour minute second frame))
+      ]
+    ]
+  ]
+]
+
+pub numbers_rise : NumbersRise
+numbers_rise rate mode a b can va vb = (
+  (λ (less : number rate mode a < number rate mode b). elim (in_order a b) [
+    | inl before ↦ before
+    | inr (inl after) ↦ let more = number_rises rate mode b a can vb va after in absurd (omega arith)
+    | inr (inr same) ↦ let equal : number rate mode a ≡ number rate mode b = ap (number rate mode) same in absurd (omega arith)
+  ]),
+  (λ (before : IsBefore a b). number_rises rate mode a b can va vb before),
+)

@@ -5,8 +5,9 @@
 --     following rate label      the label one frame later, dropped or not
 --     next rate mode label      the first of the labels that follow which isn't passed over
 --     label_after rate mode n      the label to which n steps of next lead from 00:00:00:00
+--     IsBefore a b      label a is read before label b
 -- The number of a label in its day is the n for which `label_after` gives it. Hours go on past 23, so no label comes twice.
-use Rattle.std.specs.Prelude.{◌≡◌, ◌<◌, ℕ, suc, zero, ◌+◌, ◌*◌, ◌/◌, ◌%◌, Bool, true, false, not, ◌&&◌, nat_lt, ◌==◌, if◌then◌else◌}
+use Rattle.std.specs.Prelude.{◌≡◌, ◌<◌, ◌⊎◌, ◌↔◌, ℕ, suc, zero, ◌+◌, ◌*◌, ◌/◌, ◌%◌, Bool, true, false, not, ◌&&◌, nat_lt, ◌==◌, if◌then◌else◌}
 use Rattle.cf_base.specs.declared.timing.Rate.{Rate}
 use Rattle.cf_base.specs.declared.timing.Rate.TheVariants.{R24, R25, R30}
 use Rattle.cf_base.specs.declared.timing.Mode.{Mode}
@@ -85,3 +86,15 @@ CountsOnce = (rate : Rate) (mode : Mode) (m n : ℕ) → CanCount rate mode → 
 abbrev pub FillsDay : Type 0
 FillsDay = (rate : Rate) (mode : Mode) → CanCount rate mode → label_after rate mode (frames_in_day rate mode)
     ≡ record { h = 24; m = 0; s = 0; f = 0 }
+
+-- labels stand in the order of the first part in which they differ: hours, then minutes, seconds, frames
+abbrev pub IsBefore : Label → Label → Type 0
+IsBefore a b = (a.h < b.h)
+    ⊎ ((a.h ≡ b.h) × (a.m < b.m))
+    ⊎ ((a.h ≡ b.h) × (a.m ≡ b.m) × (a.s < b.s))
+    ⊎ ((a.h ≡ b.h) × (a.m ≡ b.m) × (a.s ≡ b.s) × (a.f < b.f))
+
+-- of two labels of the day, exactly the earlier one has the lesser number
+abbrev pub NumbersRise : Type 0
+NumbersRise = (rate : Rate) (mode : Mode) (a b : Label) → CanCount rate mode → IsValid rate mode a → IsValid rate mode b
+    → (number_of rate mode a < number_of rate mode b) ↔ IsBefore a b

@@ -8,7 +8,7 @@
 ghost use Rattle.std.specs.Prelude.{◌≡◌, ◌≤◌, ◌<◌, true, false, ◌&&◌, ◌+◌, ◌*◌, ◌/◌, ◌%◌, ◌⊎◌, length, IfOk};
 ghost use Rattle.std.specs.Char.{is_ascii_digit};
 ghost use Rattle.cf_base.specs.Timing.{CanCount, frames_in_day};
-ghost use Rattle.cf_timecode.specs.Counting.{IsValid, label_after, is_in_range, is_passed_over, CountsOnce, FillsDay, NumbersCount, NumbersFit, NeverPassedOver};
+ghost use Rattle.cf_timecode.specs.Counting.{IsValid, label_after, is_in_range, is_passed_over, CountsOnce, FillsDay, NumbersCount, NumbersFit, NumbersRise, NeverPassedOver};
 ghost use Rattle.cf_timecode.specs.Spelling.{parsed, spelled, bcd_of, bcd_pair, has_shape, has_digits, is_separator, has_semicolon, number_at, SpellsBack};
 
 use cf_base::{FrameNo, Mode, Rate};
@@ -109,13 +109,15 @@ pub fn label_of(rate: Rate, mode: Mode, n: FrameNo) -> Label
 }
 
 /// What holds of counting: no label comes twice, a day's number of labels comes to 24 hours, no step leads to a label
-/// that is passed over, and the number of a label by arithmetic is its number by counting, and lies in the day.
+/// that is passed over, and the number of a label by arithmetic is its number by counting, and lies in the day. Of two
+/// labels of the day, exactly the earlier one has the lesser number.
 pub fn counting_laws()
     ensures once { CountsOnce }
     ensures day { FillsDay }
     ensures kept { NeverPassedOver }
     ensures numbers { NumbersCount }
     ensures fit { NumbersFit }
+    ensures order { NumbersRise }
 {}
 
 /// How many labels drop-frame counting has passed over when it comes to frame n.
