@@ -56,7 +56,7 @@ covering_in events n place found =
     let inside = covers-true here.0 n here.2 in
     record { e = here.0; at = here.1; begun = inside.0; going = inside.1 }
 
-covering_some : (events : List EventRec) → first_overlap events ≡ None → (i : ℕ) (e : EventRec) (n : ℕ) → slice_get events i ≡ Some e → e.rec_in ≤ n → n < e.rec_out → covering events n ≡ Some i
+pub covering_some : (events : List EventRec) → first_overlap events ≡ None → (i : ℕ) (e : EventRec) (n : ℕ) → slice_get events i ≡ Some e → e.rec_in ≤ n → n < e.rec_out → covering events n ≡ Some i
 covering_some events apart i e n at a b = elim (option_cases (covering events n)) [
   | inl none ↦ absurd (false≢true (sym (position_none (λ (e : EventRec). covers e n) events none i e at) ∙ covers_by e n a b))
   | inr some ↦
@@ -64,7 +64,7 @@ covering_some events apart i e n at a b = elim (option_cases (covering events n)
       some.1 ∙ ap Some (one_covers events apart some.0 i c.e e n c.at at (c.begun, c.going) (a, b))
 ]
 
-covering_none : (events : List EventRec) (n : ℕ) → ((i : ℕ) (e : EventRec) → slice_get events i ≡ Some e → e.rec_in ≤ n → n < e.rec_out → ⊥) → covering events n ≡ None
+pub covering_none : (events : List EventRec) (n : ℕ) → ((i : ℕ) (e : EventRec) → slice_get events i ≡ Some e → e.rec_in ≤ n → n < e.rec_out → ⊥) → covering events n ≡ None
 covering_none events n never = elim (option_cases (covering events n)) [
   | inl none ↦ none
   | inr some ↦ let c = covering_in events n some.0 some.1 in absurd (never some.0 c.e c.at c.begun c.going)

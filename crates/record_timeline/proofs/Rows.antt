@@ -1,5 +1,5 @@
 -- Worked timelines, by computation.
-use Rattle.std.proofs.Common.{◌≡◌, pos, negsuc, refl, List, [], ◌∷◌}
+use Rattle.std.proofs.Common.{◌≡◌, pos, negsuc, refl, lit≤, lit<, List, [], ◌∷◌}
 use Rattle.std.specs.Prelude.{codes, Ok, Err, Some, None}
 use Rattle.cf_base.specs.declared.timing.Rate.TheVariants.{R24, R30}
 use Rattle.cf_base.specs.declared.timing.Mode.TheVariants.{NonDrop, Drop}
@@ -9,6 +9,7 @@ use Rattle.record_timeline.specs.declared.Side.TheVariants.{Black, Frame}
 use Rattle.record_timeline.specs.declared.Shot.TheVariants.{Gap, One, Two}
 use Rattle.record_timeline.specs.declared.TimelineFault.TheVariants.{Overlap, TooLongReel}
 use Rattle.record_timeline.specs.Accepted.{timeline_of, first_overlap, first_frame, frame_count}
+use Rattle.record_timeline.specs.Laws.{IsCovered, reel_end, EndsEmpty, new_side}
 use Rattle.record_timeline.specs.Shots.{shot_of}
 use Rattle.record_timeline.proofs.Samples.{event, desk, overlapping}
 
@@ -101,3 +102,46 @@ from_black = refl
 
 moved : shot_of R24 moving 13 ≡ One (Frame 1 (negsuc 1))
 moved = refl
+
+-- ---- the reel's frames
+
+first_covered : IsCovered desk_list 86400
+first_covered = (0, event 4 (codes "A001") NonDrop 86400 86410 86400 86410 Cut, refl, (lit≤ tt, lit< tt))
+
+last_covered : IsCovered desk_list 86423
+last_covered = (2, event 8 (codes "B002") NonDrop 172800 172812 86412 86424 (Dissolve 4), refl, (lit≤ tt, lit< tt))
+
+reel_ends : reel_end desk_list ≡ 86424
+reel_ends = refl
+
+-- a line of no length behind all others: the reel's last frames show a gap
+abbrev pub black_end : List EventRec
+black_end = event 1 (codes "A") NonDrop 0 10 10 20 Cut ∷ event 2 (codes "A") NonDrop 0 0 25 25 Cut ∷ []
+
+end_is_empty : EndsEmpty black_end
+end_is_empty = (1, event 2 (codes "A") NonDrop 0 0 25 25 Cut, refl, lit≤ tt, refl)
+
+last_of_black : shot_of R24 black_end 24 ≡ Gap
+last_of_black = refl
+
+last_before_black : IsCovered black_end 19
+last_before_black = (0, event 1 (codes "A") NonDrop 0 10 10 20 Cut, refl, (lit≤ tt, lit< tt))
+
+-- no lines, no frames
+nothing_first : first_frame [] ≡ 0
+nothing_first = refl
+
+nothing_counted : frame_count [] ≡ 0
+nothing_counted = refl
+
+-- ---- the line that a frame shows
+
+-- the dissolve leads to its own line's side
+shown_in_dissolve : new_side (shot_of R24 desk_list 86412) ≡ Some (Frame 2 (pos 172800))
+shown_in_dissolve = refl
+
+shown_in_cut : new_side (shot_of R24 desk_list 86409) ≡ Some (Frame 0 (pos 86409))
+shown_in_cut = refl
+
+shown_in_gap : new_side (shot_of R24 desk_list 86411) ≡ None
+shown_in_gap = refl

@@ -1,12 +1,22 @@
 -- What the definitions come to, in words of record frames.
 --     Covers e n      record frame n is one of the line's
 --     Meet e f      the lines have a record frame in common
---     SharingIsMeeting, FindsMeetings, NamesFirstMeeting, FindsCover, OneCovers      the laws
-use Rattle.std.specs.Prelude.{◌≡◌, ℕ, ◌<◌, ◌≤◌, true, List, slice_get, Some, None, ◌↔◌, MatchOption}
+--     IsCovered events n      record frame n is one of a line of the list
+--     IsReelFrame events n      record frame n is one of the reel
+--     SharingIsMeeting, FindsMeetings, NamesFirstMeeting, FindsCover, OneCovers      the laws of lines that meet
+--     MadeCovers, HoldsCovered, EndsWithin, BeginsCovered, EndsCovered, ReelIsLeast      the laws of the reel's frames
+--     ShowsCover, ShowsGap      the laws of what a frame shows
+use Rattle.std.specs.Prelude.{◌≡◌, ℕ, ◌+◌, ◌<◌, ◌≤◌, true, List, slice_get, Option, Some, None, ◌↔◌, ◌⊎◌, MatchOption}
+use Rattle.cf_base.specs.declared.timing.Rate.{Rate}
+use Rattle.cf_base.specs.declared.timing.Mode.{Mode}
 use Rattle.cf_base.specs.declared.event.EventRec.{EventRec}
+use Rattle.cf_base.specs.Events.{IsWellMade}
+use Rattle.record_timeline.specs.declared.Side.{Side}
+use Rattle.record_timeline.specs.declared.Shot.{Shot}
+use Rattle.record_timeline.specs.declared.Shot.TheVariants.{Gap, One, Two}
 use Rattle.record_timeline.specs.declared.TimelineFault.TheVariants.{Overlap}
-use Rattle.record_timeline.specs.Accepted.{share, first_overlap}
-use Rattle.record_timeline.specs.Shots.{covering}
+use Rattle.record_timeline.specs.Accepted.{share, first_overlap, first_frame, frame_count}
+use Rattle.record_timeline.specs.Shots.{covering, side_of, shot_of}
 
 abbrev pub Covers : EventRec → ℕ → Type 0
 Covers e n = (e.rec_in ≤ n) × (n < e.rec_out)
@@ -56,3 +66,62 @@ FindsCover = (events : List EventRec) (n : ℕ) → MatchOption (covering events
 abbrev pub OneCovers : Type 0
 OneCovers = (events : List EventRec) → first_overlap events ≡ None → (i j : ℕ) (e f : EventRec) (n : ℕ)
     → slice_get events i ≡ Some e → slice_get events j ≡ Some f → Covers e n → Covers f n → i ≡ j
+
+-- ---- the reel's frames
+
+-- a line of the list covers the frame
+abbrev pub IsCovered : List EventRec → ℕ → Type 0
+IsCovered events n = (i : ℕ) × (e : EventRec) × (slice_get events i ≡ Some e) × Covers e n
+
+-- the frame behind the reel's last
+abbrev pub reel_end : List EventRec → ℕ
+reel_end events = first_frame events + frame_count events
+
+abbrev pub IsReelFrame : List EventRec → ℕ → Type 0
+IsReelFrame events n = (first_frame events ≤ n) × (n < reel_end events)
+
+-- a well-made list covers a frame; so an empty list isn't well made, nor is one of lines without record frames
+abbrev pub MadeCovers : Type 0
+MadeCovers = (rate : Rate) (mode : Mode) (events : List EventRec) → IsWellMade rate mode events → (n : ℕ) × IsCovered events n
+
+-- each frame that is covered is one of the reel
+abbrev pub HoldsCovered : Type 0
+HoldsCovered = (events : List EventRec) (n : ℕ) → IsCovered events n → IsReelFrame events n
+
+-- no line ends behind the reel, nor does one without record frames
+abbrev pub EndsWithin : Type 0
+EndsWithin = (events : List EventRec) (i : ℕ) (e : EventRec) → slice_get events i ≡ Some e → e.rec_out ≤ reel_end events
+
+-- the reel's first frame is covered, if any frame is
+abbrev pub BeginsCovered : Type 0
+BeginsCovered = (events : List EventRec) (n : ℕ) → IsCovered events n → IsCovered events (first_frame events)
+
+-- a line without record frames ends where the reel does
+abbrev pub EndsEmpty : List EventRec → Type 0
+EndsEmpty events = (i : ℕ) × (e : EventRec) × (slice_get events i ≡ Some e) × (e.rec_out ≤ e.rec_in) × (e.rec_out ≡ reel_end events)
+
+-- the reel's last frame is covered, or a line without record frames makes it one of the reel
+abbrev pub EndsCovered : Type 0
+EndsCovered = (events : List EventRec) (last : ℕ) → last + 1 ≡ reel_end events → IsCovered events last ⊎ EndsEmpty events
+
+-- where the last frame is covered, no smaller range than the reel holds each frame that is covered
+abbrev pub ReelIsLeast : Type 0
+ReelIsLeast = (events : List EventRec) (last from to : ℕ) → last + 1 ≡ reel_end events → IsCovered events last
+    → ((n : ℕ) → IsCovered events n → (from ≤ n) × (n < to)) → (n : ℕ) → IsReelFrame events n → (from ≤ n) × (n < to)
+
+-- ---- what a frame shows
+
+-- the side that a shot shows alone, or to which its transition leads
+abbrev pub new_side : Shot → Option Side
+new_side Gap = None
+new_side (One side) = Some side
+new_side (Two old new transition k d) = Some new
+
+-- a frame that a line covers shows that line's side
+abbrev pub ShowsCover : Type 0
+ShowsCover = (rate : Rate) (events : List EventRec) → first_overlap events ≡ None → (i : ℕ) (e : EventRec) (n : ℕ)
+    → slice_get events i ≡ Some e → Covers e n → new_side (shot_of rate events n) ≡ Some (side_of rate i e n)
+
+-- exactly a frame that no line covers shows a gap
+abbrev pub ShowsGap : Type 0
+ShowsGap = (rate : Rate) (events : List EventRec) (n : ℕ) → (shot_of rate events n ≡ Gap) ↔ (IsCovered events n → ⊥)

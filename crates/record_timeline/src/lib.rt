@@ -6,6 +6,8 @@ mod shots;
 mod spans;
 
 ghost use Rattle.record_timeline.specs.Laws.{SharingIsMeeting, FindsMeetings, NamesFirstMeeting, OneCovers, FindsCover};
+ghost use Rattle.record_timeline.specs.Laws.{MadeCovers, HoldsCovered, EndsWithin, BeginsCovered, EndsCovered, ReelIsLeast};
+ghost use Rattle.record_timeline.specs.Laws.{ShowsCover, ShowsGap};
 
 use cf_base::{EventList, EventRec, Fail, FrameNo, Mode, Rate, Transition};
 use shots::{event_before, shot_within};
@@ -167,10 +169,22 @@ impl Timeline {
 /// What the definitions come to. Lines share a frame where both cover one; no line is refused exactly where no two lines do,
 /// and else the first line that does, with the earliest one that it meets. The covering line of a frame covers it, and where no
 /// line is refused there is one at most.
+///
+/// The reel has each frame that a line covers, and no line ends behind it. Its first frame is covered. So is its last one,
+/// unless a line without record frames ends the reel; where it is, no smaller range has each frame that is covered. A frame
+/// shows the line that covers it, and a gap exactly where none does.
 pub fn timeline_laws()
     ensures sharing { SharingIsMeeting }
     ensures none { FindsMeetings }
     ensures first { NamesFirstMeeting }
     ensures cover { FindsCover }
     ensures one { OneCovers }
+    ensures some { MadeCovers }
+    ensures holds { HoldsCovered }
+    ensures within { EndsWithin }
+    ensures begins { BeginsCovered }
+    ensures ends { EndsCovered }
+    ensures least { ReelIsLeast }
+    ensures shows { ShowsCover }
+    ensures gap { ShowsGap }
 {}
