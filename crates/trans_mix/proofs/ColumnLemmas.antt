@@ -6,7 +6,7 @@ use Rattle.std.specs.Int.{abs_diff}
 use Rattle.trans_mix.specs.Wipe.{has_passed}
 use Rattle.trans_mix.specs.Columns.{AreColumns, from_left, from_right, from_middle}
 
-below_true : (a b : ℕ) → a < b → nat_lt a b ≡ true
+pub below_true : (a b : ℕ) → a < b → nat_lt a b ≡ true
 below_true a b lt = grind (arith, nat_tests)
 
 below_false : (a b : ℕ) → b ≤ a → nat_lt a b ≡ false

@@ -8,6 +8,8 @@
 
 ghost use Rattle.std.specs.Prelude.{◌≡◌, ◌^◌, ◌<◌, ◌≤◌, IsTrue};
 ghost use Rattle.cf_base.specs.Events.{is_known_wipe};
+ghost use Rattle.trans_mix.specs.Laws.{LiesBetween, GoesToNew, IsSameBack, IsNearest, KeepsNegatives};
+ghost use Rattle.trans_mix.specs.Laws.{KeepsShowing, BeginsAndEnds, BeginsEmpty, EndsFull, ReachesAll, Turns, Flips};
 ghost use Rattle.trans_mix.specs.Mix.{mixed_code};
 ghost use Rattle.trans_mix.specs.Wipe.{has_passed, is_incoming, HaveShapes};
 
@@ -86,3 +88,26 @@ fn passed(k: u32, d: u32, distance: u64, reach: u64) -> bool
 {
     distance * u64::from(d) < (2 * u64::from(k) + 1) * reach
 }
+
+/// What a dissolve comes to. It lies between its codes, goes to the new one, and back again has the same codes. Each code is the
+/// nearest one. The negatives of two codes give the negative of their code, or one more.
+pub fn mix_laws()
+    ensures between { LiesBetween }
+    ensures toward { GoesToNew }
+    ensures back { IsSameBack }
+    ensures nearest { IsNearest }
+    ensures negative { KeepsNegatives }
+{}
+
+/// What a wipe comes to. A pixel that shows the incoming side keeps showing it. Each shape has a pixel that shows first and one
+/// that shows last. Tables say when the first frame shows nothing, and when the last shows all. In a long wipe it shows all.
+/// The shapes agree if columns and lines are exchanged, or left and right.
+pub fn wipe_laws()
+    ensures keeps { KeepsShowing }
+    ensures way { BeginsAndEnds }
+    ensures empty { BeginsEmpty }
+    ensures full { EndsFull }
+    ensures all { ReachesAll }
+    ensures turned { Turns }
+    ensures flipped { Flips }
+{}
