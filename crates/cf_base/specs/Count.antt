@@ -1,4 +1,6 @@
 -- Counts, which are kept in 64 bits and stay at their last value.
+-- * count: a number that 64 bits hold. It has risen where it grew or stands at 2^64 - 1, and by one where it is one more at
+--   most. A count of faults has risen where a call failed for one, and else stays; one call adds at most one
 use Rattle.std.specs.Prelude.{◌≡◌, ℕ, ◌+◌, ◌-◌, ◌^◌, ◌≤◌, min}
 
 -- a count as 64 bits keep it

@@ -1,4 +1,5 @@
 -- Numbers in a fixed number of decimal digits.
+-- * digits, file name of a frame: the last digits of a number; `r`, three digits, `.`, seven digits, `.dpx`
 use Rattle.std.specs.Prelude.{ℕ, zero, suc, ◌+◌, ◌/◌, ◌%◌, ◌^◌, List, [], ◌∷◌, ◌++◌, codes}
 
 -- the last digits of n in ASCII, that many

@@ -1,4 +1,6 @@
 -- Edit lists.
+-- * well-made list: what holds of every list that is read: at most 10,000 events, lines that rise, numbers within their days,
+--   transitions that follow on the line before
 --     is_black_reel reel      the reel `BL`, which stands for black
 --     record_length event      how many record frames an event has
 --     is_known_wipe code      the wipe codes that this project has

@@ -1,4 +1,5 @@
 -- What a call gave, against what it is to give: any answer may yield to want of memory.
+-- * gives: a result is what a definition gives, or want of memory
 use Rattle.std.specs.Prelude.{◌≡◌, Result, Ok, Err}
 use Rattle.cf_base.specs.declared.fail.Fail.{Fail}
 use Rattle.cf_base.specs.declared.fail.Fail.TheVariants.{Fault, NoMemory}

@@ -1,4 +1,5 @@
 -- A decimal number of a text, in units of 10^-9.
+-- * decimal number: a token's value in units of 10^-9, rounded half away from zero, at most 1000 in size
 --
 -- A token is a sign, a mantissa and an exponent: the sign is a + or - at its front, the exponent is what
 -- follows the first e or E, and the mantissa stands between them. Its size is the digits on both sides of

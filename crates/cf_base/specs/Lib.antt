@@ -4,13 +4,12 @@ pub mod Events
 pub mod Fail
 pub mod FileId
 pub mod Fixed
-pub mod FixedSize
 pub mod Lines
 pub mod MemorySink
-pub mod Padded
 pub mod Rgb
 pub mod Sink
 pub mod Steps
 pub mod Text
 pub mod Timing
 pub mod Tokens
+pub mod inside

@@ -1,4 +1,5 @@
 -- A sink in memory as contracts see it: which of its puts fail, and what they leave.
+-- * sink in memory: which of its puts fail by their number, what they keep of the piece, and what the next put is
 use Rattle.std.specs.Prelude.{◌≡◌, ◌⊎◌, ℕ, ◌+◌, ◌-◌, ◌^◌, min, Bool, cond, ◌==◌, List, ◌++◌, take}
 use Rattle.std.specs.List.{list_any}
 use Rattle.cf_base.specs.Count.{kept}

@@ -1,4 +1,5 @@
 -- The steps of a definition, one after another.
+-- * steps: one after another, each from what the one before gave: the first fault stands; what is there, or else the fault
 --     step >>= next      what comes next, from what the step gave: the first fault stands
 --     required fault value      what is there, or else the fault
 use Rattle.std.specs.Prelude.{Option, Some, None, Result, Ok, Err}

@@ -1,4 +1,5 @@
 -- Texts of printable ASCII.
+-- * path, title, name: 1 to 255 bytes from 20 to 7E hexadecimal; 0 to 199 of them; 1 to 64 bytes from 21 to 7E
 --     is_path_text, is_title_text, is_name      which bytes are a path, a title, the name of a reel
 --     path_text_of, title_text_of, name_of      the bytes, where they are one
 --     IsPathText, IsTitleText, IsName      that they are one

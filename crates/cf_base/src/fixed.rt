@@ -5,7 +5,7 @@ ghost use Rattle.std.specs.List.{list_all, list_any, position_or_len};
 ghost use Rattle.std.specs.Char.{is_ascii_digit};
 ghost use Rattle.std.specs.Str.Parse.{digits_value, digits_value_after, starts_with_minus, without_leading_sign};
 ghost use Rattle.cf_base.specs.Fixed.{fixed_of, mantissa, exponent, is_exponent_mark, is_point, is_numeral, is_number, whole_part, decimals, nearest, exponent_size, numerator, denominator};
-ghost use Rattle.cf_base.specs.FixedSize.{moved_size};
+ghost use Rattle.cf_base.specs.inside.FixedSize.{moved_size};
 
 use crate::digits::are_digits;
 use thiserror::Error;

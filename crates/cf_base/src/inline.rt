@@ -13,7 +13,7 @@ pub struct Inline<const N: usize> {
 
 impl<const N: usize> Model for Inline<N> {
     ghost use Rattle.std.specs.Prelude.{◌≡◌, ◌≤◌, ◌-◌, ℕ, List, length, take};
-    ghost use Rattle.cf_base.specs.Padded.{IsPadded, padded, padded-take, front_length};
+    ghost use Rattle.cf_base.specs.inside.Padded.{IsPadded, padded, padded-take, front_length};
 
     ghost Value = { List ℕ };
 

@@ -1,4 +1,7 @@
 -- Counting by labels, after SMPTE ST 12-1.
+-- * label counting: `next` adds one frame, carries, and in drop-frame mode passes over the dropped labels; the number of a label
+--   is how many times `next` leads to it from 00:00:00:00 (SMPTE ST 12-1). Laws: no label comes twice, a day's frames lead to 24
+--   hours, no step leads to a label that is passed over, of two labels exactly the earlier one has the lesser number
 --     is_dropped label      drop-frame counting has no frames 00 and 01 at the start of a minute, but for every tenth minute
 --     is_passed_over mode label      counting in this mode passes over the label
 --     IsValid rate mode label      a label of a day

@@ -1,4 +1,5 @@
 -- Labels as texts and as binary-coded decimals.
+-- * label text: the four numbers with their separators, and the first of the four faults that holds
 --     parsed rate mode token      the label that the token spells, or its first fault
 --     spelled mode label      the eleven bytes of a label
 --     bcd_of label      its eight digits, four bits each

@@ -16,7 +16,7 @@ use Rattle.project_job.specs.declared.loads.Front.{Front}
 use Rattle.outcome_line.specs.declared.outcome.Refused.TheVariants.{NoFile, Project, Reels, List as EditList, Timeline, Cube, Job, Frame}
 use Rattle.outcome_line.specs.declared.outcome.Which.{Which}
 use Rattle.outcome_line.specs.declared.outcome.Which.TheVariants as which
-use Rattle.command_answers.specs.Faults.{IfFault}
+use Rattle.command_answers.specs.inside.Faults.{IfFault}
 use Rattle.outcome_line.specs.Output.{line_of}
 use Rattle.project_run.specs.Calls.{LeavesScanFor, Replies}
 use Rattle.project_run.specs.Run.{IsOfRun}

@@ -1,4 +1,6 @@
 -- What the top call answers and puts.
+-- * answer: a reply, or the line of usage or of want of memory before anything was read, put on the sink; after a sink's fault a
+--   prefix of it, and its status; words of no command that makes calls of a kind
 --     SinkState, sink_state, OnSink      what a sink tells at a moment, and its count; and what was made of one
 --     IsUnread      an outcome that was reached before anything was read
 --     IsUncalled Calls words      the words spell no command that makes such calls

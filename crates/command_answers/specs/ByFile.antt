@@ -1,4 +1,8 @@
 -- What the commands of one file share.
+-- * by the file, the job, the folder [ByJob, ByFolder]: what the records of several commands share: right by the one file; right
+--   by the job that a project comes to, with what was loaded and looked at for it; a folder that is fit for that job, and one
+--   that is sound; the record of a command that puts a text of its job, and of one that makes calls on the folder of the reel
+--   alone
 --     ByFile world path IsRight      something is right by the file at the path
 --     IsRightBy      the outcome and the output are those of the file
 --     HasLoadedOne, LooksAtNone      the one file was loaded, and no head was looked at

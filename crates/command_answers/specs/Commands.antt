@@ -1,4 +1,5 @@
 -- What each command means: one row for each, whose record stands in the file of its name.
+-- * commands: the table of these records, one row for each command; each record has a file of its own
 --     meaning_of command      its record
 pub mod Adopt
 pub mod Demo

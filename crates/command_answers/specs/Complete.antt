@@ -1,5 +1,7 @@
 -- Completeness: where nothing stands in the way of a command and no call on what was handed in fails, it is done, or memory
 -- ran out.
+-- * completeness: when nothing stands in the way of a command and what it comes to then, which its record has; that no count of
+--   faults rose; and what is left where scan or disk don't tell
 --     IsAccepted command world folders      nothing stands in its way
 --     HasNotRisen before after      no call failed, by this count
 --     NoCallFailed faults before after      no call failed on this object

@@ -1,6 +1,9 @@
 -- For any accepted job, unchanged scans and any number of workers, at every moment of a run each frame that the ledger, as a
 -- crash then may leave it, acknowledges is byte for byte the per-pixel definition's; no acknowledgement is ever lost; and a run
 -- that answers Done, begun on an empty folder or on what stopped runs of the same job left, leaves the definition's whole reel.
+-- * headline: of a run whose job is accepted, over scans and a disk that tell, and of an adoption whose old folder is sound
+--   besides: begun on an empty folder or on what stopped runs left, at every moment each frame that a crash leaves acknowledged
+--   is the definition's, and what it leaves is such a beginning again; no acknowledgement is lost; once done, the whole reel
 --
 --     RunsJob words told tells world job extent      the words run a project that comes to this job, all of it or a part, over scans
 --         and a disk that tell

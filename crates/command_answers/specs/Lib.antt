@@ -4,8 +4,8 @@ pub mod ByFolder
 pub mod ByJob
 pub mod Commands
 pub mod Complete
-pub mod Faults
 pub mod Headline
 pub mod Meaning
 pub mod Reply
 pub mod States
+pub mod inside

@@ -1,4 +1,7 @@
 -- What a command means: the facts that are stated of each command in one place, in `specs/Commands`.
+-- * meaning: the facts that are stated of each command in one record: when its output is right; what it loads; which heads it
+--   asks for; the calls that it makes, none or those on the folder of the reel among them; what it did to the folders; which
+--   call on a folder failed; when nothing stands in its way; what it comes to then
 --     Meaning      these facts
 --     Calls, no_calls, reel_calls      the calls that a command makes: none, those on the folder of the reel alone
 --     Makes      the fact that it makes them

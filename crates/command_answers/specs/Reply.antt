@@ -1,4 +1,6 @@
 -- What a command that was spelled comes to.
+-- * reply: what a command that was spelled comes to: what its record has of it, with its line, its causes and what it asked of
+--   the scan; the calls on the folders that it makes, and the outcomes that it may come to
 --     CallsDisk, CallsOld command      it makes calls on the folder of the reel, on that of an old reel
 --     IsKindOf command outcome      the outcomes that it may come to
 --     IsReplyOverScan command before after reached output      the command came to this outcome with this output

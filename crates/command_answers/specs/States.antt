@@ -1,4 +1,6 @@
 -- What is told of the objects that a command is handed.
+-- * states: what a scan and the two folders tell at a moment; what was made of them, of which something is so before and after;
+--   and what a house hands in
 --     ScanState, scan_state, OnScan      what a scan tells at a moment, and its counts; and what was made of one
 --     Folders, folders_of, OnFolders      what the two folders tell; and what was made of them
 --     House, house_of      what a house hands in

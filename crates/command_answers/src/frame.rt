@@ -12,7 +12,7 @@ ghost use Rattle.command_answers.specs.States.{OnScan};
 ghost use Rattle.command_words.specs.declared.command.Command.TheVariants as commands;
 ghost use Rattle.scan_source.specs.Answers.{first_bytes};
 ghost use Rattle.dpx_header.specs.Reading.{info_of};
-ghost use Rattle.command_answers.specs.Faults.{IfFault};
+ghost use Rattle.command_answers.specs.inside.Faults.{IfFault};
 
 use cf_base::{Fail, PathText, TitleText};
 use dpx_header::{DpxFault, FrameInfo, OutHead, read_header, write_header};

@@ -2,7 +2,7 @@
 ghost use Rattle.std.specs.Prelude.{◌≡◌, IfOk, IsOkAnd, Err};
 ghost use Rattle.edl_events.specs.Lists.{list_of};
 ghost use Rattle.project_run.specs.Calls.{Replies};
-ghost use Rattle.command_answers.specs.Faults.{IfFault};
+ghost use Rattle.command_answers.specs.inside.Faults.{IfFault};
 ghost use Rattle.command_answers.specs.Reply.{IsReplyOverScan};
 ghost use Rattle.command_answers.specs.States.{OnScan};
 ghost use Rattle.printed_tables.specs.Table.{event_table};

@@ -12,10 +12,12 @@ use Rattle.cf_base.specs.declared.timing.Rate.{Rate}
 use Rattle.cf_base.specs.declared.timing.Rate.TheVariants.{R24, R25, R30}
 use Rattle.frame_range.specs.declared.range.Extent.{Extent}
 use Rattle.frame_range.specs.declared.range.Extent.TheVariants.{Whole, Part}
-use Rattle.command_words.specs.Commands.{Gives, HasCounts, IsCount, IsDigit, IsFewDigits, IsNoCommand, IsPartWord, IsPath, IsRow, Spells, is_slash, rate_word}
+use Rattle.command_words.specs.Commands.{Gives, HasCounts, IsCount, IsFewDigits, IsNoCommand, IsPartWord, IsPath, IsRow, Spells, is_slash, rate_word}
+use Rattle.command_words.specs.inside.Commands.{IsDigit}
 use Rattle.frame_range.specs.Parts.{IsExtent}
 use Rattle.std.specs.List.{after_first, before_first}
-use Rattle.command_words.specs.Lines.{HasCount, HasNoLine, LineText, MakesLine, simple_command, text_of_line}
+use Rattle.command_words.specs.Lines.{HasCount, LineText, MakesLine, simple_command}
+use Rattle.command_words.specs.inside.Lines.{HasNoLine, text_of_line}
 use Rattle.command_words.specs.declared.command.Command.{Command}
 use Rattle.command_words.specs.declared.command.Command.TheVariants as commands
 use Rattle.command_words.specs.declared.line.Line.{Line}

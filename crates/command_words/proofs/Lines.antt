@@ -16,7 +16,8 @@ use Rattle.clap.specs.declared.error.kind.ErrorKind.TheVariants.{OutOfMemory}
 use Rattle.clap.specs.declared.parser.matches.Found.{Found}
 use Rattle.clap.specs.declared.parser.matches.MatchedArg.{MatchedArg}
 use Rattle.clap.proofs.WalkLemmas.{find_row}
-use Rattle.command_words.specs.Lines.{HasCount, HasNoLine, IsLine, IsNumber, LineText, MakesLine, ReadsNumeral, Writes, simple_command, source_of, text_of_line}
+use Rattle.command_words.specs.Lines.{HasCount, IsLine, IsNumber, LineText, MakesLine, Writes, simple_command, source_of}
+use Rattle.command_words.specs.inside.Lines.{HasNoLine, ReadsNumeral, text_of_line}
 use Rattle.command_words.specs.declared.line.Line.{Line}
 
 pub simple : is_simple simple_command ≡ true

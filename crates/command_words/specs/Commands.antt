@@ -1,10 +1,12 @@
 -- The commands, and the words that spell them: this project's own rule.
+-- * command [Laws]: the row of the table of commands that the line is: options on `run` alone, a third word on `list` and `pull`
+--   alone, a path that is one, a rate, a number of one to four digits up to 1000, which for `demo` isn't 0. Laws: words spell
+--   one command at most, and its numbers are in their ranges
 --     Gives line command      the line is a row of the table, which says this command
 --     Spells words command, IsNoCommand words      the words spell this command, or none
 --     HasCounts command      its numbers are in their ranges
-use Rattle.std.specs.Prelude.{◌≡◌, ◌≢◌, ◌≤◌, ◌<◌, ◌==◌, ℕ, Bool, false, List, Option, Some, None, IsSomeAnd, MatchOption, codes, length, slice_get}
+use Rattle.std.specs.Prelude.{◌≡◌, ◌≢◌, ◌≤◌, ◌<◌, ◌==◌, ℕ, Bool, false, List, Option, Some, None, IsSomeAnd, codes, length, slice_get}
 use Rattle.std.specs.List.{after_first, before_first, position_or_len}
-use Rattle.std.specs.Borrow.{Bor}
 use Rattle.std.specs.Str.Parse.{IsNumeral, digits_value}
 use Rattle.clap.specs.Walk.{Text}
 use Rattle.cf_base.specs.Text.{path_text_of}
@@ -24,9 +26,6 @@ rate_word R30 = codes "30"
 
 abbrev pub IsPath : Text → List ℕ → Type 0
 IsPath text path = path_text_of text ≡ Some path
-
-abbrev pub IsDigit : ℕ → Type 0
-IsDigit byte = (48 ≤ byte) × (byte ≤ 57)
 
 abbrev pub HasDemoCount : ℕ → Type 0
 HasDemoCount count = (1 ≤ count) × (count ≤ 1000)
@@ -112,46 +111,3 @@ HasCounts (commands.Demo count) = HasDemoCount count
 HasCounts command = Unit {0}
 
 -- The rest is said of one row of the table: what the line gives by it, or that it gives nothing.
-
-abbrev pub FindsList : LineText → Option Command → Type 0
-FindsList line found = MatchOption found ((file : List ℕ) (rate : Rate) → Gives line (commands.List file rate) → ⊥) (Gives line)
-
-abbrev pub FindsRun : LineText → Option Command → Type 0
-FindsRun line found =
-    MatchOption found ((project : List ℕ) (workers share : ℕ) → Gives line (commands.Run project Whole workers share) → ⊥) (Gives line)
-
-abbrev pub FindsPart : LineText → Option Command → Type 0
-FindsPart line found = MatchOption found
-    ((project : List ℕ) (part parts workers share : ℕ) → Gives line (commands.Run project (Part part parts) workers share) → ⊥)
-    (Gives line)
-
--- the part that a word writes, or that it writes none
-abbrev pub IsExtentWord : Text → Extent → Type 0
-IsExtentWord word Whole = ⊥
-IsExtentWord word (Part part parts) = IsPartWord word part parts
-
-abbrev pub FindsExtent : Text → Option Extent → Type 0
-FindsExtent word found = MatchOption found ((part parts : ℕ) → IsPartWord word part parts → ⊥) (IsExtentWord word)
-
--- what stands on both sides of the first slash, or that there is none
-abbrev pub SplitsAtSlash : Text → Option (Bor Text × Bor Text) → Type 0
-SplitsAtSlash text found = MatchOption found (position_or_len is_slash text ≡ length text)
-    (λ halves. (position_or_len is_slash text < length text) × (halves.0.now ≡ before_first is_slash text)
-    × (halves.1.now ≡ after_first is_slash text))
-
-abbrev pub FindsAdopt : LineText → Option Command → Type 0
-FindsAdopt line found = MatchOption found ((project old : List ℕ) → Gives line (commands.Adopt project old) → ⊥) (Gives line)
-
-abbrev pub FindsPull : LineText → Option Command → Type 0
-FindsPull line found = MatchOption found ((project : List ℕ) (margin : ℕ) → Gives line (commands.Pull project margin) → ⊥) (Gives line)
-
--- the subject of a line that is this word and a path, or a count
-abbrev pub FindsPath : LineText → Text → Option (List ℕ) → Type 0
-FindsPath line word found = MatchOption found
-    ((path : List ℕ) → IsRow line word None → IsPath line.subject path → ⊥)
-    (λ path. IsRow line word None × IsPath line.subject path)
-
-abbrev pub FindsCount : LineText → Text → Option ℕ → Type 0
-FindsCount line word found = MatchOption found
-    ((count : ℕ) → IsRow line word None → IsCount line.subject count → ⊥)
-    (λ count. IsRow line word None × IsCount line.subject count)

@@ -1,8 +1,10 @@
 -- What stands on a command line, as `clap` states it of one simple command.
+-- * line of the words: the words as one simple command, by what `clap` states of it: two words that have to be there, a third,
+--   and the options `--workers` and `--share` with numbers from 1 to 16, 4 and 8 where they aren't given
 --     simple_command      the command: two words that have to be there, a third, and two options
 --     LineText      the words of a line, each in its place
 --     MakesLine words line, HasNoLine words      the words make this line, or none
-use Rattle.std.specs.Prelude.{◌≡◌, ◌<◌, ◌≤◌, ◌^◌, ◌||◌, ℕ, Bool, true, false, List, [], ◌∷◌, Option, Some, None, IsSomeAnd, MatchOption, codes, find, map, option_and_then, option_map, pos}
+use Rattle.std.specs.Prelude.{◌≡◌, ◌≤◌, ◌||◌, ℕ, Bool, true, false, List, [], ◌∷◌, Option, Some, IsSomeAnd, codes, find, map, option_and_then, pos}
 use Rattle.std.specs.Borrow.{Bor}
 use Rattle.std.specs.Str.{bytes_eq}
 use Rattle.std.specs.Str.Parse.{IsNumeral, digits_value, without_leading_plus}
@@ -12,7 +14,6 @@ use Rattle.clap.specs.Walk.{Row, Rule, Text, first_of, one_of}
 use Rattle.clap.specs.declared.builder.value_parser.ValueParser.TheVariants as parsers
 use Rattle.clap.specs.declared.parser.matches.ValueSource.{ValueSource}
 use Rattle.clap.specs.declared.parser.matches.ValueSource.TheVariants.{CommandLine}
-use Rattle.command_words.specs.declared.line.Line.{Line}
 
 -- a word that has to be there
 abbrev pub required_rule : Text → Rule
@@ -58,15 +59,6 @@ Writes n text = IsNumeral 10 (without_leading_plus text)
 abbrev pub IsNumber : ℕ → Text → Type 0
 IsNumber n text = Writes n text × HasCount n
 
--- the number below 65,536 that a text writes, None exactly where it writes none
-abbrev pub ReadsNumeral : Option Text → Option ℕ → Type 0
-ReadsNumeral text (Some n) = IsSomeAnd text (Writes n)
-ReadsNumeral text None = (n : ℕ) → n < 2 ^ 16 → IsSomeAnd text (Writes n) → ⊥
-
--- the same of a number from 1 to 16
-abbrev pub ReadsNumber : Option Text → Option ℕ → Type 0
-ReadsNumber text found = MatchOption found ((n : ℕ) → IsSomeAnd text (IsNumber n) → ⊥) (λ n. IsSomeAnd text (IsNumber n))
-
 abbrev pub from_words : Option ValueSource → Bool
 from_words (Some CommandLine) = true
 from_words _ = false
@@ -87,16 +79,6 @@ pub record LineText : Type 0 where
   -- one of the two options stands on the line
   pub has_options : Bool
 
-abbrev pub text_of_line : Line → LineText
-text_of_line line = record {
-  command = line.command.now;
-  subject = line.subject.now;
-  extra = option_map (λ word. word.now) line.extra;
-  workers = line.workers;
-  share = line.share;
-  has_options = line.has_options;
-}
-
 -- the line has what was found
 pub record IsLine (rows : List Row) (line : LineText) : Type 0 where
   pub command : first_of (codes "command") rows ≡ Some line.command
@@ -110,16 +92,6 @@ pub record IsLine (rows : List Row) (line : LineText) : Type 0 where
 abbrev pub MakesLine : List Text → LineText → Type 0
 MakesLine words line = (fault_of simple_command words ≡ []) × IsLine (matches_of simple_command words) line
 
-abbrev pub HasNoLine : List Text → Type 0
-HasNoLine words = (line : LineText) → MakesLine words line → ⊥
-
 -- what the words of a line say
 abbrev pub texts_of : List (Bor Text) → List Text
 texts_of words = map (λ word. word.now) words
-
--- the line that was found, or that there is none: of the words, and of what `clap` found in them
-abbrev pub FindsLine : List Text → Option Line → Type 0
-FindsLine words found = MatchOption found (HasNoLine words) (λ line. MakesLine words (text_of_line line))
-
-abbrev pub FindsLineIn : List Row → Option Line → Type 0
-FindsLineIn rows found = MatchOption found ((line : LineText) → IsLine rows line → ⊥) (λ line. IsLine rows (text_of_line line))

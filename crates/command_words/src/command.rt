@@ -1,8 +1,9 @@
 //! The commands, and which of them a line gives.
 ghost use Rattle.std.specs.Prelude.{◌≡◌, ◌↔◌, ℕ, List, IfOk, IfSome, IsTrue, MatchOption, None, Some, map, slice_get};
 ghost use Rattle.std.specs.Str.Parse.{AllDigits};
-ghost use Rattle.command_words.specs.Commands.{Gives, HasCounts, IsCount, IsDigit, IsFewDigits, IsNoCommand, IsPartNumber, IsPath, IsRow, Spells, SplitsAtSlash, rate_word, FindsAdopt, FindsCount, FindsExtent, FindsList, FindsPart, FindsPath, FindsPull, FindsRun};
-ghost use Rattle.command_words.specs.Lines.{text_of_line};
+ghost use Rattle.command_words.specs.Commands.{Gives, HasCounts, IsCount, IsFewDigits, IsNoCommand, IsPartNumber, IsPath, IsRow, Spells, rate_word};
+ghost use Rattle.command_words.specs.inside.Commands.{IsDigit, SplitsAtSlash, FindsAdopt, FindsCount, FindsExtent, FindsList, FindsPart, FindsPath, FindsPull, FindsRun};
+ghost use Rattle.command_words.specs.inside.Lines.{text_of_line};
 
 use crate::line::{Line, line_of};
 use cf_base::{Fail, Never, PathText, Rate};

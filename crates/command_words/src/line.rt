@@ -1,7 +1,8 @@
 //! What stands on a command line, whatever the command.
 ghost use Rattle.std.specs.Prelude.{◌≡◌, IfOk, false, option_map};
 ghost use Rattle.clap.specs.Words.{app_of, first_of, found_of, one_of, rows_of, rule_of};
-ghost use Rattle.command_words.specs.Lines.{ReadsNumeral, from_words, number_rule, positional_command, simple_command, stands, FindsLine, FindsLineIn, ReadsNumber, texts_of};
+ghost use Rattle.command_words.specs.Lines.{from_words, number_rule, positional_command, simple_command, stands, texts_of};
+ghost use Rattle.command_words.specs.inside.Lines.{ReadsNumeral, FindsLine, FindsLineIn, ReadsNumber};
 
 use cf_base::{Fail, Never};
 use clap::error::ErrorKind;

@@ -17,7 +17,7 @@ use Rattle.conform_job.specs.Asks.{asks_at, asks_from, asks_of, asks_of_shot, sh
 use Rattle.conform_job.specs.Cuts.{bad_cut}
 use Rattle.conform_job.specs.Ended.{EndAt, HasAsked, head_count, path_count}
 use Rattle.conform_job.specs.Keys.{key_of_ask}
-use Rattle.conform_job.specs.Lines.{IsCutUnless, IsPlacedUnless}
+use Rattle.conform_job.specs.inside.Lines.{IsCutUnless, IsPlacedUnless}
 use Rattle.conform_job.specs.Refusals.{asks_refusal, name_of_ask}
 use Rattle.conform_job.proofs.Growing.{grown_none, grown_both}
 use Rattle.conform_job.proofs.Heads.{heads_same, heads_both}

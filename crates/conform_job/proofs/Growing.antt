@@ -16,7 +16,8 @@ use Rattle.conform_job.specs.declared.parts.JobParts.{JobParts}
 use Rattle.conform_job.specs.declared.parts.JobFault.{JobFault}
 use Rattle.conform_job.specs.declared.frames.Ask.{Ask}
 use Rattle.conform_job.specs.Keys.{is_key, info_at, key_of_ask, keys_of_asks}
-use Rattle.conform_job.specs.Infos.{IsSetTo, HasEachOnce}
+use Rattle.conform_job.specs.Infos.{HasEachOnce}
+use Rattle.conform_job.specs.inside.Infos.{IsSetTo}
 use Rattle.conform_job.specs.Refusals.{Files, file_of_key, file_refusal, key_refusal, ask_refusal, asks_refusal, name_of_ask}
 use Rattle.conform_job.specs.Answers.{IsInfoOf, AreInfosOf, Grows}
 

@@ -11,7 +11,8 @@ use Rattle.conform_job.specs.declared.frames.Named.{Named}
 use Rattle.conform_job.specs.declared.parts.JobParts.{JobParts}
 use Rattle.conform_job.specs.declared.parts.JobFault.{JobFault}
 use Rattle.conform_job.specs.declared.parts.JobFault.TheVariants as fault
-use Rattle.conform_job.specs.Answers.{IsStep, IsJudged, IsInfoOf, IsOfFrame, unless}
+use Rattle.conform_job.specs.Answers.{IsStep, IsInfoOf, IsOfFrame}
+use Rattle.conform_job.specs.inside.Answers.{IsJudged, unless}
 use Rattle.conform_job.specs.Refusals.{file_refusal, file_of_key}
 
 fault_apart : (a b : JobFault) → ◌≡◌ {A = Result FrameInfo JobFault} (Err a) (Err b) → a ≡ b

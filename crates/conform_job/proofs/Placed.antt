@@ -8,7 +8,7 @@ use Rattle.cf_base.specs.declared.event.EventRec.{EventRec}
 use Rattle.cf_base.specs.declared.reel.ReelEntry.{ReelEntry}
 use Rattle.source_reels.specs.Reels.{reel_place, has_name}
 use Rattle.conform_job.specs.Keys.{place_at}
-use Rattle.conform_job.specs.Lines.{places_of}
+use Rattle.conform_job.specs.inside.Lines.{places_of}
 
 mapped_at : {X Y : Type 0} (f : X → Option Y) (xs : List X) (i : ℕ) → i < length xs → get_or (map f xs) i None ≡ option_and_then f (slice_get xs i)
 mapped_at f [] i lt = absurd (omega arith)

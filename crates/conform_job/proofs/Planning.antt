@@ -11,7 +11,7 @@ use Rattle.conform_job.specs.Answers.{IsRefusal, IsOfFrame}
 use Rattle.conform_job.specs.Asks.{asks_of}
 use Rattle.conform_job.specs.Job.{IsByLines}
 use Rattle.conform_job.specs.Cuts.{bad_cut}
-use Rattle.conform_job.specs.Lines.{IsCutUnless, IsPlacedUnless}
+use Rattle.conform_job.specs.inside.Lines.{IsCutUnless, IsPlacedUnless}
 use Rattle.conform_job.specs.Refusals.{Files, first_refusal, told_refusal, unknown_of, asks_refusal}
 
 -- an error is the same in a result of another type, and no value

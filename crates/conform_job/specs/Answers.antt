@@ -7,13 +7,11 @@ use Rattle.dpx_header.specs.declared.info.FrameInfo.{FrameInfo}
 use Rattle.scan_source.specs.Plan.{one_more}
 use Rattle.scan_source.specs.World.{World, file_at}
 use Rattle.source_reels.specs.Seen.{info_of_file}
-use Rattle.source_reels.specs.declared.seen.Seen.{Seen}
-use Rattle.source_reels.specs.declared.seen.Seen.TheVariants as seen
 use Rattle.conform_job.specs.declared.frames.Named.{Named}
 use Rattle.conform_job.specs.declared.frames.Ask.{Ask}
 use Rattle.conform_job.specs.Infos.{HasEachOnce}
 use Rattle.conform_job.specs.Keys.{key_of_ask, keys_of_asks, info_at, is_key}
-use Rattle.conform_job.specs.Refusals.{file_of_key, info_refusal}
+use Rattle.conform_job.specs.Refusals.{file_of_key}
 use Rattle.conform_job.specs.declared.parts.JobParts.{JobParts}
 use Rattle.conform_job.specs.declared.parts.JobFault.{JobFault}
 use Rattle.conform_job.specs.declared.parts.JobFault.TheVariants as fault
@@ -68,20 +66,3 @@ count_after (suc more) count = one_more (count_after more count)
 -- one head for each info that has come, from `few` infos to `many`
 abbrev pub HeadsGrow : ℕ → ℕ → ℕ → ℕ → Type 0
 HeadsGrow before now few many = (few ≤ many) × (now ≡ count_after (many - few) before)
-
--- what is made of a file that was inspected
-abbrev pub IsKept : FrameInfo → ℕ → ℕ → Result FrameInfo JobFault → Type 0
-IsKept info width height (Ok kept) = (kept ≡ info) × (info.width ≡ width) × (info.height ≡ height)
-IsKept info width height (Err why) = Unit {0}
-
--- the value, unless it is refused
-abbrev pub unless : {A : Type 0} → A → Option JobFault → Result A JobFault
-unless a None = Ok a
-unless a (Some why) = Err why
-
-abbrev pub IsJudged : Named → ℕ → ℕ → Seen → Result FrameInfo JobFault → Type 0
-IsJudged n width height (seen.Info info) result = (result ≡ unless info (info_refusal n width height (Ok info)))
-    × IsKept info width height result
-IsJudged n width height (seen.Bad bad) result = result ≡ Err (fault.BadFrame n.line n.reel n.source bad)
-IsJudged n width height seen.Absent result = result ≡ Err (fault.MissingFrame n.line n.reel n.source)
-IsJudged n width height seen.Fault result = result ≡ Err fault.SourceFault

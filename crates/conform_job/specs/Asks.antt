@@ -1,4 +1,5 @@
 -- The source frames that a timeline asks for, in the order of its record frames.
+-- * asks, refusals [Refusals]: the source frames that each record frame asks for, in order; the first that is refused, and why
 --     sides_of shot      the sides of a shot, the old one before the new
 --     asks_at t i      what record frame i asks for, from 0
 --     asks_of t      what all record frames ask for, in order

@@ -1,5 +1,8 @@
 -- The record reels of a job: a project's cuts part its record, and each cut is the first frame of a reel. All of it is this
 -- project's own rule; labels are those of SMPTE ST 12-1.
+-- * cuts, record reels: a cut is a label above the one before it, and the first above the record's first frame, and below the
+--   record's end; the first that isn't is refused. The record reel of a frame is one more than the number of cuts at or below
+--   it; a reel's span goes from its cut to the next one. Law: a reel's span has just the frames of the reel
 --     bad_cut p      the first cut that is refused
 --     record_reel p i      the record reel of record frame i, from 1
 --     reel_span p reel      the record frames of a reel

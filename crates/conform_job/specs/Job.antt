@@ -1,4 +1,6 @@
 -- A job.
+-- * job: its parts, and the picture information of each needed source frame. Of every job it holds that its parts are planned
+--   and nothing of them is refused, that each needed key is of a reel in the table, and that each record frame has what it needs
 --     JobData      what contracts see of it: its parts, and what the file of each needed key says
 --     IsJob p infos      what holds of every job, whatever its scan told
 --     need_at job i      the keys that record frame i needs, with their infos

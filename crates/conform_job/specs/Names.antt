@@ -1,4 +1,6 @@
 -- The name of a job.
+-- * name of a job: the job of a run, and the files of its scans where they are told: what the type of a value names that stands
+--   behind a lock
 --     no_job      what a name means that nothing was picked for
 --     Tells told here      a scan that is handed in tells the files of the name, where these are told
 use Rattle.std.specs.Prelude.{◌≡◌, [], Option, Some, None, IfSome}

@@ -5,7 +5,7 @@ ghost use Rattle.std.specs.List.Sorted.{IsNonDecreasing};
 ghost use Rattle.record_timeline.specs.Accepted.{frame_count};
 ghost use Rattle.conform_job.specs.Cuts.{bad_cut, cut_number, cut_numbers, is_in_turn, record_end, record_reel, reel_count, reel_span, HasFramesOf, IsWithin};
 ghost use Rattle.conform_job.specs.Job.{ArePlanned};
-ghost use Rattle.conform_job.specs.Lines.{IsCutInTurn, IsCutUnless};
+ghost use Rattle.conform_job.specs.inside.Lines.{IsCutInTurn, IsCutUnless};
 
 use crate::{JobFault, JobParts};
 use cf_base::{PathText, Span};

@@ -7,11 +7,13 @@ ghost use Rattle.record_timeline.specs.Shots.{IsSideIn, IsShotIn};
 ghost use Rattle.source_reels.specs.Reels.{path_of_key};
 ghost use Rattle.source_reels.specs.Seen.{IsSeenFrame};
 ghost use Rattle.conform_job.specs.Ended.{EndAt, EndInTurn, path_count};
-ghost use Rattle.conform_job.specs.Answers.{IsStep, IsOfFrame, IsInfoOf, AreInfosOf, Grows, HeadsGrow, IsJudged, count_after};
+ghost use Rattle.conform_job.specs.Answers.{IsStep, IsOfFrame, IsInfoOf, AreInfosOf, Grows, HeadsGrow, count_after};
+ghost use Rattle.conform_job.specs.inside.Answers.{IsJudged};
 ghost use Rattle.conform_job.specs.Asks.{asks_of, asks_of_side, asks_of_shot, shot_of_frame};
-ghost use Rattle.conform_job.specs.Infos.{IsSetTo, HasEachOnce};
+ghost use Rattle.conform_job.specs.Infos.{HasEachOnce};
+ghost use Rattle.conform_job.specs.inside.Infos.{IsSetTo};
 ghost use Rattle.conform_job.specs.Keys.{info_at, key_at, key_of_ask};
-ghost use Rattle.conform_job.specs.Lines.{places_of};
+ghost use Rattle.conform_job.specs.inside.Lines.{places_of};
 ghost use Rattle.conform_job.specs.Refusals.{asks_refusal, frames_refusal, key_refusal, name_of_ask};
 ghost use Rattle.scan_source.specs.Leaves.{LeavesScan};
 

@@ -1,7 +1,8 @@
 //! What the files of source frames say, by key.
 ghost use Rattle.std.specs.Prelude.{◌≡◌, ◌+◌, [], None, length, OnOk, OnErr};
 ghost use Rattle.conform_job.specs.Keys.{info_at};
-ghost use Rattle.conform_job.specs.Infos.{IsSetTo, HasEachOnce};
+ghost use Rattle.conform_job.specs.Infos.{HasEachOnce};
+ghost use Rattle.conform_job.specs.inside.Infos.{IsSetTo};
 
 use cf_base::Key;
 use dpx_header::FrameInfo;

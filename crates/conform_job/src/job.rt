@@ -8,10 +8,10 @@ ghost use Rattle.conform_job.specs.Answers.{IsStep, Grows, HeadsGrow};
 ghost use Rattle.conform_job.specs.Asks.{asks_of, shot_of_frame};
 ghost use Rattle.conform_job.specs.Cuts.{record_reel, reel_count, reel_span, HasFramesOf, IsWithin};
 ghost use Rattle.conform_job.specs.Ended.{HasAsked};
-ghost use Rattle.conform_job.specs.Found.{IsFound};
+ghost use Rattle.conform_job.specs.inside.Found.{IsFound};
 ghost use Rattle.conform_job.specs.Infos.{HasEachOnce};
 ghost use Rattle.conform_job.specs.Job.{ArePlanned, IsByLines, IsNeeded, file_of};
-ghost use Rattle.conform_job.specs.Lines.{ArePlaces, IsPlacedUnless};
+ghost use Rattle.conform_job.specs.inside.Lines.{ArePlaces, IsPlacedUnless};
 ghost use Rattle.conform_job.specs.Refusals.{first_refusal, told_refusal};
 ghost use Rattle.scan_source.specs.Leaves.{LeavesScan};
 
@@ -43,7 +43,7 @@ pub struct Job {
 
 impl Model for Job {
     ghost use Rattle.conform_job.specs.Job.{JobData};
-    ghost use Rattle.conform_job.specs.Lines.{KeepsJob};
+    ghost use Rattle.conform_job.specs.inside.Lines.{KeepsJob};
 
     ghost Value = { JobData };
 

@@ -1,7 +1,7 @@
 //! The places of the events' reels in the table.
 ghost use Rattle.std.specs.Prelude.{◌≡◌, IfOk, IfErr};
 ghost use Rattle.conform_job.specs.Refusals.{is_unknown, unknown_of};
-ghost use Rattle.conform_job.specs.Lines.{ArePlaces, IsPlacedUnless};
+ghost use Rattle.conform_job.specs.inside.Lines.{ArePlaces, IsPlacedUnless};
 
 use crate::JobFault;
 use cf_base::EventRec;

@@ -2,7 +2,7 @@
 ghost use Rattle.std.specs.Prelude.{◌≡◌};
 ghost use Rattle.record_timeline.specs.Shots.{IsSideIn, IsShotIn};
 ghost use Rattle.conform_job.specs.Job.{need_of_side, need_of_shot};
-ghost use Rattle.conform_job.specs.Lines.{places_of};
+ghost use Rattle.conform_job.specs.inside.Lines.{places_of};
 
 use crate::JobParts;
 use crate::frames::{Ask, key_of};

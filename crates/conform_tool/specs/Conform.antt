@@ -1,15 +1,15 @@
 -- What the top call answers to the words of a run with several workers.
+-- * top call: the words of a run with several workers, and the answer to them over all scans; all other words are answered as
+--   above
 --     IsAlone words      the words are no such run
 --     IsFirst scans scan      the scan is the first of them
 --     AnsweredByCrew      the answer to them, over all scans
-use Rattle.std.specs.Prelude.{◌≡◌, ◌≢◌, ◌⊎◌, ℕ, ◌≤◌, List, slice_get, Option, Some, None}
+use Rattle.std.specs.Prelude.{◌≡◌, ◌≢◌, ◌⊎◌, ℕ, ◌≤◌, List, slice_get, Option, Some}
 use Rattle.cf_base.specs.Count.{HasRisen}
 use Rattle.scan_source.specs.World.{World}
 use Rattle.frame_range.specs.declared.range.Extent.{Extent}
 use Rattle.command_words.specs.Commands.{Spells}
-use Rattle.command_words.specs.declared.command.Command.{Command}
 use Rattle.command_words.specs.declared.command.Command.TheVariants as commands
-use Rattle.conform_tool.specs.declared.top.CrewRun.{CrewRun}
 use Rattle.outcome_line.specs.Output.{line_of}
 use Rattle.outcome_line.specs.declared.outcome.Outcome.{Outcome}
 use Rattle.outcome_line.specs.declared.outcome.Outcome.TheVariants.{Done, SourceFault, DiskFault, NoMemory}
@@ -49,9 +49,3 @@ module _ {S : Type 0} (world : S → Option World) (faults loads : S → ℕ) (s
     pub put : IsPut sink sink_after reached output result
     pub crewed : IsCausedByCrew path extent workers share scans scans_after disk disk_after reached output
         ⊎ WereUnread scans scans_after disk disk_after reached output
-
--- the run with several workers that a command is, or that it is none
-abbrev pub IsCrewOf : Option Command → Option CrewRun → Type 0
-IsCrewOf found (Some crew) = (found ≡ Some (commands.Run crew.project crew.extent crew.workers crew.share)) × (2 ≤ crew.workers)
-IsCrewOf found None = (path : List ℕ) (extent : Extent) (workers share : ℕ) → found ≡ Some (commands.Run path extent workers share)
-    → workers ≤ 1

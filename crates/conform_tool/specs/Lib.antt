@@ -1,1 +1,2 @@
 pub mod Conform
+pub mod inside

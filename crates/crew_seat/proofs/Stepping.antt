@@ -20,7 +20,8 @@ use Rattle.shared_station.specs.StationSteps.{why_by}
 use Rattle.conform_job.specs.Answers.{count_after}
 use Rattle.frame_fetch.specs.Scanned.{HasFetched, IsScanned}
 use Rattle.crew_seat.specs.Stepped.{HasStepped, HasWorked}
-use Rattle.crew_seat.specs.Worked.{HasCauses, HasMarked}
+use Rattle.crew_seat.specs.Worked.{HasCauses}
+use Rattle.crew_seat.specs.inside.Worked.{HasMarked}
 use Rattle.crew_seat.specs.declared.seat.Seat.{Seat}
 use Rattle.frame_fetch.proofs.Scanning.{loads_along, scanned_as, scanned_itself}
 use Rattle.crew_seat.proofs.Working.{parts_along, causes_none}

@@ -3,7 +3,8 @@ use Rattle.std.proofs.Common.{ℕ, Bool, ◌∙◌, arith}
 use Rattle.std.specs.Prelude.{Option}
 use Rattle.scan_source.specs.World.{World}
 use Rattle.shared_station.specs.Marks.{Tallies}
-use Rattle.crew_seat.specs.Worked.{HasCauses, KeepsParts, KeepsSources}
+use Rattle.crew_seat.specs.Worked.{HasCauses, KeepsParts}
+use Rattle.crew_seat.specs.inside.Worked.{KeepsSources}
 
 pub parts_along : (a b c : Tallies) → KeepsParts a b → KeepsParts b c → KeepsParts a c
 parts_along a b c first second = record {

@@ -1,3 +1,4 @@
 pub mod Seats
 pub mod Stepped
 pub mod Worked
+pub mod inside

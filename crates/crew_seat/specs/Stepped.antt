@@ -1,12 +1,10 @@
 -- What a run does to the seats of its workers. All of it is this project's own rule.
 --     HasStepped     steps that were made from a seat
 --     IsFresh        a seat that was just made
---     IsReady        a worker may begin from it
 --     HasWorked      a worker's whole part of a run
 --     WasCounted     what a seat has then to hand in
 use Rattle.std.specs.Prelude.{◌≡◌, ℕ, ◌+◌, ◌≤◌, Bool, true, false, ◌||◌, Option}
 use Rattle.scan_source.specs.World.{World}
-use Rattle.conform_job.specs.Names.{Tells}
 use Rattle.frame_share.specs.Units.{fresh as unasked}
 use Rattle.shared_station.specs.Marks.{fresh}
 use Rattle.frame_fetch.specs.Scanned.{IsScanned}
@@ -35,13 +33,6 @@ module _ {S N C A B D E F : Type 0} where
     pub units : seat.units ≡ unasked
     pub none : seat.loads ≡ 0
     pub unfailed : seat.has_failed ≡ false
-
-  -- a worker may begin: its scan tells the job's files, and nothing was loaded or asked for
-  pub record IsReady (told : Option World) (world : S → Option World) (seat : Seat S N C A B D E F) : Type 0 where
-    pub tells : Tells told (world seat.scan)
-    pub none : seat.loads ≡ 0
-    pub unfailed : seat.has_failed ≡ false
-    pub closed : seat.units.pending ≡ 0
 
   -- What a worker did from its start on: so many loads at most, each counted as a miss, and the cause of each stop for a source
   -- file among them. The scan is the same loan.

@@ -10,7 +10,7 @@ ghost use Rattle.frame_fetch.specs.Ends.{IsUnrendered};
 ghost use Rattle.shared_station.specs.Leaving.{HasLeft};
 ghost use Rattle.shared_station.specs.StationSteps.{MayStop};
 ghost use Rattle.crew_seat.specs.Stepped.{HasStepped, HasWorked};
-ghost use Rattle.crew_seat.specs.Worked.{HasMarked};
+ghost use Rattle.crew_seat.specs.inside.Worked.{HasMarked};
 
 use crate::shared_frames::SharedFrames;
 use crate::sharing::make_shared;

@@ -1,7 +1,8 @@
 //! The source frames that the workers of a crew share: an ask and a put are each one step under the share's lock.
 ghost use Rattle.std.specs.Prelude.{◌≡◌, ◌≢◌};
 ghost use Rattle.std.specs.Arc.{arc_value};
-ghost use Rattle.frame_share.specs.Answers.{HasKey, IsAskedBy, IsPutBy};
+ghost use Rattle.frame_share.specs.Answers.{IsAskedBy, IsPutBy};
+ghost use Rattle.frame_share.specs.inside.Answers.{HasKey};
 
 use crate::turns::Turns;
 use cf_base::Key;

@@ -8,7 +8,7 @@ use Rattle.cube_reader.specs.declared.keywords.Keyword.TheVariants.{CubeSize}
 use Rattle.cube_reader.specs.declared.reading.Reading.{Reading}
 use Rattle.cube_reader.specs.Table.{Table, IsTable}
 use Rattle.cube_reader.specs.Text.{Line, lines_in, ended, table_of, cube_of}
-use Rattle.cube_reader.specs.Steps.{end_step, Knows, IsReading}
+use Rattle.cube_reader.specs.inside.Steps.{end_step, Knows, IsReading}
 use Rattle.cube_reader.proofs.FaultLaws.{end_fault_is}
 use Rattle.cube_reader.proofs.ReadLaws.{none_faulty}
 use Rattle.cube_reader.proofs.TableLaws.{is_table}

@@ -10,7 +10,7 @@ use Rattle.cube_reader.specs.declared.keywords.Keyword.{Keyword}
 use Rattle.cube_reader.specs.declared.keywords.Keyword.TheVariants.{Title, LineSize, CubeSize, DomainMin, DomainMax, LineRange, CubeRange}
 use Rattle.cube_reader.specs.declared.state.State.{State}
 use Rattle.cube_reader.specs.Text.{Line, word, arguments, is_passed_over, is_data, is_known, says, is_range_line, are_numbers, numbers, is_far, is_size, bounds_fault, line_fault, end_fault}
-use Rattle.cube_reader.specs.Steps.{judged, bounds, spelling, has_stood, sized, bounded, known_step, keyword_step, knows_size, are_ordered, is_full_state, data_step, end_step, Knows}
+use Rattle.cube_reader.specs.inside.Steps.{judged, bounds, spelling, has_stood, sized, bounded, known_step, keyword_step, knows_size, are_ordered, is_full_state, data_step, end_step, Knows}
 use Rattle.cube_reader.proofs.MoreLaws.{any_count}
 use Rattle.cube_reader.proofs.KeywordLaws.{known, unknown}
 use Rattle.cube_reader.proofs.KnowsLaws.{size_known}

@@ -8,7 +8,7 @@ use Rattle.cube_reader.specs.declared.keywords.Keyword.{Keyword}
 use Rattle.cube_reader.specs.declared.keywords.Keyword.TheVariants.{Title, LineSize, CubeSize, DomainMin, DomainMax, LineRange, CubeRange}
 use Rattle.cube_reader.specs.declared.keywords.Keywords.{Keywords}
 use Rattle.cube_reader.specs.Text.{Line, word, is_passed_over, is_data, is_known, is_size_line, low_set, high_set}
-use Rattle.cube_reader.specs.Steps.{spelling, is_word, names, has_stood, noted}
+use Rattle.cube_reader.specs.inside.Steps.{spelling, is_word, names, has_stood, noted}
 use Rattle.cube_reader.proofs.WordLaws.{never_some}
 
 -- a keyword begins as no number does

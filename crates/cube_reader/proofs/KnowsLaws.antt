@@ -16,7 +16,7 @@ use Rattle.cube_reader.specs.declared.keywords.Keyword.TheVariants.{Title, LineS
 use Rattle.cube_reader.specs.declared.state.State.{State}
 use Rattle.cube_reader.specs.Table.{IsBound, units, entry_count, greatest_size}
 use Rattle.cube_reader.specs.Text.{Line, word, arguments, is_data, is_size_line, has_size, are_numbers, numbers, is_far, is_size, on_all, low_set, high_set, size_of, low_of, high_of, clamped}
-use Rattle.cube_reader.specs.Steps.{judged, bounds, size_in, spelling, is_word, has_stood, names, changed, sized, bounded, known_step, keyword_step, knows_size, are_ordered, is_full_state, data_step, entries_of, IsSound, Knows}
+use Rattle.cube_reader.specs.inside.Steps.{judged, bounds, size_in, spelling, is_word, has_stood, names, changed, sized, bounded, known_step, keyword_step, knows_size, are_ordered, is_full_state, data_step, entries_of, IsSound, Knows}
 use Rattle.cube_reader.proofs.MoreLaws.{any_more, any_either, none_left, filter_one, count_more, last_more}
 use Rattle.cube_reader.proofs.WordLaws.{numbers_length}
 use Rattle.cube_reader.proofs.KeywordLaws.{no_data, no_word, no_size_set, no_low_set, no_high_set, has_noted}

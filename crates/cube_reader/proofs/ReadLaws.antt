@@ -14,7 +14,7 @@ use Rattle.cube_reader.specs.declared.fault.CubeKind.TheVariants.{Keyword as Bad
 use Rattle.cube_reader.specs.declared.keywords.Keyword.{Keyword}
 use Rattle.cube_reader.specs.declared.state.State.{State}
 use Rattle.cube_reader.specs.Text.{Line, word, arguments, is_passed_over, is_data, clamped, line_fault, faults_of, at_line}
-use Rattle.cube_reader.specs.Steps.{values, spelling, keyword_step, data_step, Knows, entries_of, IsReading, After, ReadsAll, refused_at}
+use Rattle.cube_reader.specs.inside.Steps.{values, spelling, keyword_step, data_step, Knows, entries_of, IsReading, After, ReadsAll, refused_at}
 use Rattle.cube_reader.proofs.MoreLaws.{one_more, count_most}
 use Rattle.cube_reader.proofs.WordLaws.{values_none, values_some}
 use Rattle.cube_reader.proofs.KeywordLaws.{passed_no_word, passed_no_data}

@@ -17,7 +17,7 @@ use Rattle.cube_reader.specs.declared.keywords.Keyword.TheVariants.{CubeSize}
 use Rattle.cube_reader.specs.declared.state.State.{State}
 use Rattle.cube_reader.specs.Table.{Table, IsTable, units, entry_count}
 use Rattle.cube_reader.specs.Text.{Line, word, arguments, lines_in, is_passed_over, is_data, is_under, are_numbers, numbers, clamped, line_fault, end_fault, at_line, faults_of, ended, settled, table_of, AcceptsTables}
-use Rattle.cube_reader.specs.Steps.{spelling, keyword_step, knows_size, is_full_state, data_step, end_step, Knows}
+use Rattle.cube_reader.specs.inside.Steps.{spelling, keyword_step, knows_size, is_full_state, data_step, end_step, Knows}
 use Rattle.cube_reader.proofs.MoreLaws.{one_more, length_filter}
 use Rattle.cube_reader.proofs.KeywordLaws.{keyword_cases, passed_no_word, passed_no_data}
 use Rattle.cube_reader.proofs.KnowsLaws.{knows_passed, knows_data, data_more, knows_keyword, knows_start, start}

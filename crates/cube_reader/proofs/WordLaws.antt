@@ -9,7 +9,7 @@ use Rattle.cf_base.specs.declared.fixed.Fixed.{Fixed}
 use Rattle.cf_base.specs.declared.fixed.FixedFault.{FixedFault}
 use Rattle.cf_base.specs.Fixed.{fixed_of}
 use Rattle.cube_reader.specs.Text.{are_numbers, numbers}
-use Rattle.cube_reader.specs.Steps.{first_number, values}
+use Rattle.cube_reader.specs.inside.Steps.{first_number, values}
 
 pub one_less : (a b : ℕ) → eqb (suc a) (suc b) ≡ eqb a b
 one_less a b = elim (cases_Bool (eqb a b)) [

@@ -1,4 +1,4 @@
 pub mod Table
 pub mod Entry
 pub mod Text
-pub mod Steps
+pub mod inside

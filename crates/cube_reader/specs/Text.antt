@@ -1,4 +1,7 @@
 -- What a cube text stands for, or why it is refused.
+-- * cube of a text [Table, Entry]: what each line is, what the lines before it have set, and the first line with a fault; else
+--   the size, the bounds of each channel and the values of each data line. Law: each text that is accepted is a table of the
+--   right size with its bounds in order and its values from 0 to 1
 --
 -- A line is its tokens; lines are numbered from 1. Each rule is asked of a line and of all the lines
 -- before it. The first line with a fault is refused, and then the end of the text.
@@ -45,9 +48,6 @@ is_passed_over line = length line == 0 || slice_index (word line) 0 == 35
 -- it begins as a number does
 abbrev pub is_data : Line → Bool
 is_data line = let c = slice_index (word line) 0 in is_ascii_digit c || c == 43 || c == 45 || c == 46
-
-abbrev pub is_keyword : Line → Bool
-is_keyword line = not (is_passed_over line || is_data line)
 
 abbrev pub says : String → Line → Bool
 says keyword line = bytes_eq (word line) (codes keyword)

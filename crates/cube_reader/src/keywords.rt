@@ -1,6 +1,6 @@
 //! The keywords of a cube text (Adobe Cube LUT 1.0), and two of this project's own leniency: the ranges.
 ghost use Rattle.std.specs.Prelude.{◌≡◌, IfNone, IfSome};
-ghost use Rattle.cube_reader.specs.Steps.{spelling, has_stood, noted};
+ghost use Rattle.cube_reader.specs.inside.Steps.{spelling, has_stood, noted};
 
 /// What a keyword line sets.
 #[derive(Clone, Copy, Debug, PartialEq, Eq)]

@@ -3,7 +3,7 @@ ghost use Rattle.std.specs.Prelude.{◌≡◌, ◌≤◌, length, [], ◌∷◌,
 ghost use Rattle.cf_base.specs.Tokens.{IsGap};
 ghost use Rattle.cube_reader.specs.Table.{greatest_size};
 ghost use Rattle.cube_reader.specs.Text.{tokens_of, lines_in, is_passed_over, is_data};
-ghost use Rattle.cube_reader.specs.Steps.{ReadsAll, ReadsLine, refused_at, words_from};
+ghost use Rattle.cube_reader.specs.inside.Steps.{ReadsAll, ReadsLine, refused_at, words_from};
 
 use crate::fault::{CubeFault, CubeKind};
 use crate::keywords::keyword_of;

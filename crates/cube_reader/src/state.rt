@@ -3,7 +3,7 @@ ghost use Rattle.std.specs.Prelude.{◌≡◌, ◌≤◌, ◌<◌, length, map};
 ghost use Rattle.cf_base.specs.Tokens.{IsGap};
 ghost use Rattle.cube_reader.specs.Table.{entry_count, greatest_size};
 ghost use Rattle.cube_reader.specs.Text.{is_under, clamped};
-ghost use Rattle.cube_reader.specs.Steps.{words_from, new_state, keyword_step, known_step, knows_size, are_ordered, is_full_state, data_step, end_step, sized};
+ghost use Rattle.cube_reader.specs.inside.Steps.{words_from, new_state, keyword_step, known_step, knows_size, are_ordered, is_full_state, data_step, end_step, sized};
 
 use crate::fault::CubeKind;
 use crate::keywords::{Keyword, Keywords};

@@ -2,7 +2,7 @@
 ghost use Rattle.std.specs.Prelude.{◌≡◌, ◌≤◌, length, drop, IfNone, IfSome, None, Some};
 ghost use Rattle.cf_base.specs.Tokens.{IsGap};
 ghost use Rattle.cube_reader.specs.Text.{is_far};
-ghost use Rattle.cube_reader.specs.Steps.{words_from, first_number, values, bounds, small_number, size_in};
+ghost use Rattle.cube_reader.specs.inside.Steps.{words_from, first_number, values, bounds, small_number, size_in};
 
 use crate::fault::CubeKind;
 use cf_base::{Fixed, are_digits, digits_value, read_fixed, token_from};

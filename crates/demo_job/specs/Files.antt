@@ -1,4 +1,5 @@
 -- The files of the demonstration job: the project, the list, then the source frames, reel after reel.
+-- * files of the demonstration [Texts, Pictures, Counts]: the project, the list and the source frames of the job of N events
 use Rattle.std.specs.Prelude.{ℕ, ◌+◌, List, ◌∷◌, ◌++◌, map, codes, Vec}
 use Rattle.std.specs.declared.alloc.Global.{Global}
 use Rattle.std.specs.List.{flat_map, range_with_len}

@@ -1,4 +1,6 @@
 -- The demonstration of a number of events: what it prints, by the files of its job alone. All of it is this project's own rule.
+-- * `demo`: the frames of that job, and SHA-256 of the files of all its frames, one after another; or the job's refusal, or want
+--   of memory
 --     demo_world events      the files of the job
 --     reel_bytes job files      the files of a job's frames, one after another
 --     demo_text frames acknowledged digest      what is printed

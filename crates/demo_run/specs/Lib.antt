@@ -1,3 +1,2 @@
 pub mod Demo
-pub mod Scan
-pub mod Whole
+pub mod inside

@@ -5,7 +5,7 @@ ghost use Rattle.scan_source.specs.World.{World};
 ghost use Rattle.reel_disk.specs.Disk.{view_of};
 ghost use Rattle.reel_disk.specs.MemoryDisk.{history_in};
 ghost use Rattle.reel_writer.specs.Reel.{frames_of};
-ghost use Rattle.demo_run.specs.Whole.{IsReelDigest, IsWholeOn};
+ghost use Rattle.demo_run.specs.inside.Whole.{IsReelDigest, IsWholeOn};
 
 use cf_base::{Fail, FileId, Never};
 use conform_job::Job;

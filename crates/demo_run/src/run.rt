@@ -4,7 +4,7 @@ ghost use Rattle.conform_job.specs.Answers.{AreInfosOf};
 ghost use Rattle.reel_disk.specs.Disk.{IsNewDisk};
 ghost use Rattle.reel_disk.specs.MemoryDisk.{history_in, faults_in};
 ghost use Rattle.reel_writer.specs.Reel.{frames_of};
-ghost use Rattle.demo_run.specs.Whole.{IsWholeOn};
+ghost use Rattle.demo_run.specs.inside.Whole.{IsWholeOn};
 
 use crate::scans::UnfailingScans;
 use cf_base::{Fail, Never};

@@ -1,6 +1,6 @@
 //! Source files in memory that are always there to be read.
 ghost use Rattle.std.specs.Prelude.{◌≡◌, Some, []};
-ghost use Rattle.demo_run.specs.Scan.{fails_of};
+ghost use Rattle.demo_run.specs.inside.Scan.{fails_of};
 
 use cf_base::PathText;
 use scan_source::{Head, Loaded, MemoryScans, Scans};

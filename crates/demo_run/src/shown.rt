@@ -3,7 +3,7 @@ ghost use Rattle.std.specs.Prelude.{◌≡◌, ◌≤◌, IfOk, IfSome, MatchRes
 ghost use Rattle.conform_job.specs.Answers.{AreInfosOf};
 ghost use Rattle.scan_source.specs.World.{file_at};
 ghost use Rattle.demo_run.specs.Demo.{demo_world, demo_text, IsShown, IsInstead};
-ghost use Rattle.demo_run.specs.Whole.{IsReelText};
+ghost use Rattle.demo_run.specs.inside.Whole.{IsReelText};
 
 use crate::digest::digest_of;
 use crate::run::run;

@@ -1,5 +1,7 @@
 -- A header as it is read (SMPTE 268M, file information and image information headers).
 -- `number size bytes` is the number in the first `size` bytes, in the byte order of the file.
+-- * picture information of a header: the fields by offset and size in the file's byte order, and the first of the thirteen cases
+--   that holds
 use Rattle.std.specs.Prelude.{ℕ, ◌%◌, Bool, true, false, not, ◌==◌, ◌||◌, nat_lt, if◌then◌else◌, List, [], ◌∷◌, drop, slice_index, Result, Ok, Err}
 use Rattle.byteorder.specs.Endian.{big_number, little_number}
 use Rattle.dpx_header.specs.Frame.{need_of}

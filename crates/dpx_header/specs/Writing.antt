@@ -1,5 +1,7 @@
 -- A header as it is written (SMPTE 268M): 2048 bytes, all 00 but for a table of fields. Numbers are big-endian. Which
 -- fields are written, and what they say, is this project's own rule.
+-- * written header [ReadBack]: a table of fields, each an offset and its bytes, laid over 2048 zeros. Laws: each field stands at
+--   its offset, none reaches into another, all other bytes are 00, and what is written is read back
 use Rattle.std.specs.Prelude.{◌≡◌, ◌⊎◌, ℕ, ◌+◌, ◌-◌, ◌*◌, ◌<◌, ◌≤◌, ◌&&◌, nat_le, Bool, false, List, [], ◌∷◌, ◌++◌, All, length, take, drop, replicate, Option, None, Some, codes}
 use Rattle.std.specs.List.{splice}
 use Rattle.byteorder.specs.Endian.{big_bytes}

@@ -1,4 +1,6 @@
 -- The pixels of a file (SMPTE 268M: 10-bit RGB, filled to 32-bit words by method A).
+-- * pixel word: R in bits 31 to 22, G in 21 to 12, B in 11 to 2; the word of pixel (x, y) stands at `start + y*(4*width + pad) +
+--   4*x`; the codes of a word by channel, and the word of a colour
 use Rattle.std.specs.Prelude.{◌≡◌, ℕ, ◌+◌, ◌-◌, ◌*◌, ◌/◌, ◌%◌, ◌^◌, ◌<◌, Bool, true, false, List, [], ◌∷◌, map, drop, slice_index}
 use Rattle.std.specs.List.{flat_map, range_with_len}
 use Rattle.byteorder.specs.Endian.{big_number, little_number}

@@ -38,9 +38,10 @@ use Rattle.edl_events.specs.Places.{Line, lines_in, record_mode, places}
 use Rattle.edl_events.specs.Motion.{motion_speed, is_owner, is_motion, speed_at}
 use Rattle.edl_events.specs.Pictures.{numbered, label_number, times_of}
 use Rattle.edl_events.specs.Lists.{fault_at, fault_by, first_round, second_round, has_event, events_of, refusal, settled, list_from}
-use Rattle.edl_events.specs.Made.{AreTimes, IsInDay, AcceptsWellMade}
-use Rattle.edl_events.specs.Steps.{picture_from, step_of, plain_step, event_step}
-use Rattle.edl_events.specs.Reads.{Reads, IsPlain, line_of, with_speed_of}
+use Rattle.edl_events.specs.Made.{AcceptsWellMade}
+use Rattle.edl_events.specs.inside.Made.{AreTimes, IsInDay}
+use Rattle.edl_events.specs.inside.Steps.{picture_from, step_of, plain_step, event_step}
+use Rattle.edl_events.specs.inside.Reads.{Reads, IsPlain, line_of, with_speed_of}
 use Rattle.edl_events.proofs.PictureLaws.{let_in}
 use Rattle.edl_events.proofs.StepLaws.{step_fault, fault_is}
 use Rattle.edl_events.proofs.ReadLaws.{reads_more, reads_motion}

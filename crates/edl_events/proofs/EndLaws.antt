@@ -18,8 +18,8 @@ use Rattle.edl_events.specs.declared.steps.State.{State}
 use Rattle.edl_events.specs.Places.{Line, is_event, is_picture, mode_after, record_mode}
 use Rattle.edl_events.specs.Motion.{speed_at}
 use Rattle.edl_events.specs.Lists.{fault_at, first_round, refusal, events_of, event_by}
-use Rattle.edl_events.specs.Bare.{bare_at, bare_by}
-use Rattle.edl_events.specs.Reads.{Records, Reads, set_speed, with_speed_of}
+use Rattle.edl_events.specs.inside.Bare.{bare_at, bare_by}
+use Rattle.edl_events.specs.inside.Reads.{Records, Reads, set_speed, with_speed_of}
 use Rattle.cf_base.specs.declared.lines.Span.{Span}
 use Rattle.cf_base.specs.declared.event.Transition.{Transition}
 use Rattle.edl_events.specs.Pictures.{picture_at, picture_with, last_out}

@@ -17,8 +17,8 @@ use Rattle.edl_events.specs.declared.table.Count.{Count}
 use Rattle.edl_events.specs.declared.table.Table.{Table}
 use Rattle.edl_events.specs.Places.{Line, Head, head_of_kind, passes_at}
 use Rattle.edl_events.specs.Motion.{is_motion, has_reel, moves_reel, motions_from, run_after, owner_after, speed_at}
-use Rattle.edl_events.specs.Table.{IsTable, goes_on, count_of, place_of, kept_count, kept_place, with_place, with_motion, one_more as one_more_32}
-use Rattle.edl_events.specs.Reads.{Follows, IsPlain, IsAdded, noted}
+use Rattle.edl_events.specs.inside.Table.{IsTable, goes_on, count_of, place_of, kept_count, kept_place, with_place, with_motion, one_more as one_more_32}
+use Rattle.edl_events.specs.inside.Reads.{Follows, IsPlain, IsAdded, noted}
 use Rattle.edl_events.proofs.StateLaws.{one_more}
 use Rattle.edl_events.proofs.TableLaws.{owner_is, table_still, table_more, few_more}
 use Rattle.edl_events.proofs.SpeedLaws.{speed_same, speed_more}

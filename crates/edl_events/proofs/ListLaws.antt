@@ -21,7 +21,7 @@ use Rattle.edl_events.specs.declared.ListRefusal.{ListRefusal}
 use Rattle.edl_events.specs.declared.ListKind.TheVariants as fault
 use Rattle.edl_events.specs.Places.{Line, lines_in, record_mode}
 use Rattle.edl_events.specs.Lists.{list_of, list_from, first_round, second_round, has_event, events_of, refusal, settled}
-use Rattle.edl_events.specs.Reads.{Reads, IsReading, with_speed_of, spoken}
+use Rattle.edl_events.specs.inside.Reads.{Reads, IsReading, with_speed_of, spoken}
 use Rattle.edl_events.proofs.EndLaws.{mode_end, round_end, events_end}
 
 any_in : {X : Type 0} (p : X → Bool) (xs : List X) → list_any p xs ≡ true → (k : ℕ) × (x : X) × (k < length xs) × (get_or xs k x ≡ x) × (p x ≡ true)

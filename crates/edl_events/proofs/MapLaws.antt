@@ -12,7 +12,7 @@ use Rattle.std.specs.Cmp.Lexicographic.{slice_cmp}
 use Rattle.std.proofs.lemmas.Bool.Decides.{nat_tests}
 use Rattle.std.proofs.lemmas.Map.Text.{is_eq-slice_cmp}
 use Rattle.edl_events.specs.declared.table.Count.{Count}
-use Rattle.edl_events.specs.Table.{goes_on, reel_cmp, seat_cmp, no_count, count_of, place_of, with_line, with_place}
+use Rattle.edl_events.specs.inside.Table.{goes_on, reel_cmp, seat_cmp, no_count, count_of, place_of, with_line, with_place}
 
 same_number : (k n : ℕ) → is_eq (nat_cmp k n) ≡ eqb k n
 same_number k n = grind (arith, nat_tests)

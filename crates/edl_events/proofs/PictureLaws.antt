@@ -16,7 +16,7 @@ use Rattle.edl_events.specs.declared.ListKind.{ListKind}
 use Rattle.edl_events.specs.declared.ListKind.TheVariants as fault
 use Rattle.edl_events.specs.declared.steps.Times.{Times}
 use Rattle.edl_events.specs.Pictures.{unless, times_of, transition_fits, leads, is_at, picture_with}
-use Rattle.edl_events.specs.Reads.{set_speed}
+use Rattle.edl_events.specs.inside.Reads.{set_speed}
 
 abbrev pub with_speed : Option ℤ → Result EventRec ListKind → Result EventRec ListKind
 with_speed speed (Ok e) = Ok (set_speed speed e)

@@ -14,7 +14,7 @@ use Rattle.edl_events.specs.declared.ListKind.TheVariants as fault
 use Rattle.edl_events.specs.declared.steps.State.{State}
 use Rattle.edl_events.specs.declared.steps.Times.{Times}
 use Rattle.edl_events.specs.Pictures.{unless, times_of, is_at, leads, transition_fits}
-use Rattle.edl_events.specs.Steps.{event_of, picture_from}
+use Rattle.edl_events.specs.inside.Steps.{event_of, picture_from}
 
 -- what is asked of the times, and what is asked then
 abbrev fitted : State → ℕ → List ℕ → Transition → Times → Result EventRec ListKind

@@ -24,15 +24,15 @@ use Rattle.edl_events.specs.Places.{Line, record_mode}
 use Rattle.edl_events.specs.Motion.{owner_after}
 use Rattle.edl_events.specs.Lists.{fault_at, first_round, refusal}
 use Rattle.edl_events.specs.Pictures.{label_number}
-use Rattle.edl_events.specs.Bare.{bare_at, bare_events}
-use Rattle.edl_events.specs.Steps.{picture_from, step_of, event_step, plain_step}
-use Rattle.edl_events.specs.Made.{IsInDay}
+use Rattle.edl_events.specs.inside.Bare.{bare_at, bare_events}
+use Rattle.edl_events.specs.inside.Steps.{picture_from, step_of, event_step, plain_step}
+use Rattle.edl_events.specs.inside.Made.{IsInDay}
 use Rattle.cf_base.specs.declared.fail.Fail.{Fail}
 use Rattle.cf_base.specs.declared.fail.Fail.TheVariants.{Fault, NoMemory}
 use Rattle.cf_base.specs.Steps.{◌>>=◌}
 use Rattle.cf_base.proofs.TimingLaws.{counts_of}
-use Rattle.edl_events.specs.Rounds.{FirstRound, refused_at}
-use Rattle.edl_events.specs.Reads.{Makes, Reads, IsPlain, IsReading, After}
+use Rattle.edl_events.specs.inside.Rounds.{FirstRound, refused_at}
+use Rattle.edl_events.specs.inside.Reads.{Makes, Reads, IsPlain, IsReading, After}
 use Rattle.cf_base.proofs.FirstLaws.{first_from}
 use Rattle.edl_events.proofs.StateLaws.{one_more, given_more}
 use Rattle.edl_events.proofs.PictureLaws.{let_in}

@@ -12,7 +12,7 @@ use Rattle.std.proofs.Math.Seq.{drop-append_seam}
 use Rattle.edl_events.specs.declared.table.Count.{Count}
 use Rattle.edl_events.specs.Places.{Line, Head, head_of_kind, is_event, passes_at}
 use Rattle.edl_events.specs.Motion.{has_reel, moves_reel, motions_from, owner_after, run_after}
-use Rattle.edl_events.specs.Table.{AllBelow, run_number, goes_on, run_of, no_count, kept_count, kept_place, one_more, with_line, with_place, IsTable}
+use Rattle.edl_events.specs.inside.Table.{AllBelow, run_number, goes_on, run_of, no_count, kept_count, kept_place, one_more, with_line, with_place, IsTable}
 use Rattle.edl_events.proofs.OneMore.{slice_get_here}
 use Rattle.edl_events.proofs.StateLaws.{count_more}
 use Rattle.edl_events.proofs.RunLaws.{filter_front, run_same, number_same, run_more, number_more}

@@ -1,5 +1,7 @@
 -- Edit lists after CMX 3600: the events of a text, or its first refusal. The definition is this file with Pictures, Motion and
 -- Places. Made says that lists are well made, and the other files of this folder have the words of private clauses.
+-- * events of a text: the first faulty line with its first fault; else the first event whose lengths differ; else that there is
+--   none; else the events
 --     fault_at rate lines i line      the first fault of the line at i by itself and those before it
 --     list_of rate text      the list of a text, or its refusal
 use Rattle.std.specs.Prelude.{ℕ, ◌+◌, ◌||◌, Bool, not, ◌==◌, nat_lt, if◌then◌else◌, List, length, take, slice_get, Option, Some, None, Result, Ok, Err, is_some}

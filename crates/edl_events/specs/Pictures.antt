@@ -1,4 +1,5 @@
 -- Picture lines: their labels and numbers, and the first fault of each.
+-- * picture event: the labels of a line and its faults in their order
 --     picture_with rate mode record_ last count ..      the event of a picture line, or its first fault, from what the lines before it say
 --     picture_at rate lines i line number reel transition      that of the picture line at i
 use Rattle.std.specs.Prelude.{ℕ, ℤ, ◌+◌, ◌-◌, ◌&&◌, Bool, true, false, nat_eq, nat_lt, nat_le, List, [], ◌∷◌, take, slice_get, slice_range, Option, Some, None, Result, Ok, Err, option_and_then, unwrap_or}

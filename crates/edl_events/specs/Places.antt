@@ -1,5 +1,6 @@
 -- The lines of an edit list and what holds at each. A line is named by its place in the list of lines, from 0.
 -- What holds at a line is said of the list of the lines before it, so it doesn't depend on the lines behind.
+-- * mode in force, record mode: that of the last FCM line before; that in force at the first event line
 --     Line, lines_in text      a line's bytes with what reading gives for them
 --     mode_after before      the mode in force at a line, from the lines before it: that of the last FCM line, NonDrop if there is none
 --     record_mode lines      the mode in force at the first event line

@@ -7,8 +7,8 @@ ghost use Rattle.std.specs.Option.{option_to_list};
 ghost use Rattle.edl_lines.specs.Within.{IsIn, IsSpanIn};
 ghost use Rattle.cf_base.specs.Timing.{CanCount};
 ghost use Rattle.edl_events.specs.Places.{lines_in, head_of_kind};
-ghost use Rattle.edl_events.specs.Rounds.{FirstRound, refused_at};
-ghost use Rattle.edl_events.specs.Reads.{ReadsLine, IsPlain, IsAdded, noted, spoken, line_of};
+ghost use Rattle.edl_events.specs.inside.Rounds.{FirstRound, refused_at};
+ghost use Rattle.edl_events.specs.inside.Reads.{ReadsLine, IsPlain, IsAdded, noted, spoken, line_of};
 
 use crate::steps::{State, label_number, next_step};
 use crate::table::Table;

@@ -2,9 +2,9 @@
 ghost use Rattle.std.specs.Prelude.{◌≡◌, ◌≤◌, ◌<◌, length, slice_range, IfOk, IfSome, unwrap_or, Some, ◌-◌};
 ghost use Rattle.cf_base.specs.Timing.{CanCount, can_count, frames_in_day};
 ghost use Rattle.edl_lines.specs.Within.{IsSpanIn, AreSpansIn, IsIn};
-ghost use Rattle.edl_events.specs.Made.{AreTimes};
+ghost use Rattle.edl_events.specs.inside.Made.{AreTimes};
 ghost use Rattle.edl_events.specs.Pictures.{label_number, times_of, is_at, leads, transition_fits};
-ghost use Rattle.edl_events.specs.Steps.{IsInDayOf, picture_from, step_of};
+ghost use Rattle.edl_events.specs.inside.Steps.{IsInDayOf, picture_from, step_of};
 
 use crate::ListKind;
 use cf_base::{EventRec, Mode, Name, Rate, Span, Transition, can_count};

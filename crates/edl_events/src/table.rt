@@ -2,7 +2,7 @@
 //!
 //! A motion line asks for one reel alone, so that a list is read in time that grows with its length, whatever its runs.
 ghost use Rattle.std.specs.Prelude.{◌≡◌, OnOk, Some};
-ghost use Rattle.edl_events.specs.Table.{count_of, place_of, HasCounts, HasPlaces, line_counts, line_places, more_counts, more_places, run_counts, run_places, with_motion};
+ghost use Rattle.edl_events.specs.inside.Table.{count_of, place_of, HasCounts, HasPlaces, line_counts, line_places, more_counts, more_places, run_counts, run_places, with_motion};
 
 use cf_base::Name;
 use std::alloc::AllocError;

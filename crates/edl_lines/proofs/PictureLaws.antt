@@ -13,7 +13,7 @@ use Rattle.edl_lines.specs.declared.LineFault.{LineFault}
 use Rattle.edl_lines.specs.declared.LineFault.TheVariants.{BadTransition, Key}
 use Rattle.edl_lines.specs.Numbers.{decimal}
 use Rattle.edl_lines.specs.Lines.{word, is_wipe, transition_of, token_count, span_of, timed_event, picture_of}
-use Rattle.edl_lines.specs.Shapes.{lasting, shape_of, lasting_event}
+use Rattle.edl_lines.specs.inside.Shapes.{lasting, shape_of, lasting_event}
 
 abbrev lasts : Option (List ℕ) → Shape → Result Transition LineFault
 lasts after s = required BadTransition (option_and_then (decimal 5) after) >>= (λ d. Ok (lasting s d))

@@ -1,5 +1,6 @@
 -- Lines of a CMX 3600 edit decision list: the one kind of a line with its fields, or its one fault. What is a token, which
 -- tokens may follow, and the limits on digits are this project's own rules.
+-- * line reading [Numbers]: the line's tokens decide its kind, by cases of which the first counts
 --     reading line      the first case that holds counts; it speaks of the line's tokens alone
 --     event_of, motion_of, fcm_of      the tokens of an event line, of a motion line, and the words behind `FCM:`
 use Rattle.std.specs.Prelude.{ℕ, ◌+◌, ◌-◌, Bool, true, false, ◌&&◌, ◌||◌, ◌==◌, nat_eq, if◌then◌else◌, List, [], ◌∷◌, length, drop, map, slice_get, slice_index, codes, Option, option_and_then, Result, Ok, Err}

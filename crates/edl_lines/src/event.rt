@@ -4,7 +4,7 @@ ghost use Rattle.std.specs.List.{list_any, list_all};
 ghost use Rattle.cf_base.specs.Tokens.{tokens_from, token_between, IsGap};
 ghost use Rattle.edl_lines.specs.Lines.{event_of, motion_of, picture_of, is_picture, has_picture, has_no_picture, is_other_channel, timed_event};
 ghost use Rattle.edl_lines.specs.Within.{IsIn};
-ghost use Rattle.edl_lines.specs.Shapes.{lasting, shape_of, lasting_event};
+ghost use Rattle.edl_lines.specs.inside.Shapes.{lasting, shape_of, lasting_event};
 
 use crate::numbers::{decimal, speed_of};
 use crate::{LineFault, LineKind};

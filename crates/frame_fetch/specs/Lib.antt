@@ -2,3 +2,4 @@ pub mod Asks
 pub mod Ends
 pub mod Scanned
 pub mod Sharing
+pub mod inside

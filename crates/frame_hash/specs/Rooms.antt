@@ -1,4 +1,5 @@
 -- Files that lie in rooms, and their digests (FIPS 180-4).
+-- * files read ahead: files that lie in rooms, and their digests; of a reel's frames, the folder's file and its digest
 --     IsHashed before after      the same file, with its SHA-256 where one lies there
 --     IsFree size room           no file lies in it, and it has room for that many bytes
 use Rattle.std.specs.Prelude.{◌≡◌, ℕ, ◌<◌, List, None, length, slice_index_or, IfSome}

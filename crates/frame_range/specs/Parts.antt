@@ -1,4 +1,7 @@
 -- Which frames of a job a run is to render: this project's own rule.
+-- * part [Laws]: frames `(k - 1) * n / N` up to `k * n / N` of a job of `n` frames, rounded down, the end left out; the extent
+--   of all frames is the range from 0 to `n`. Laws: the parts of a job share no frame and together have all; part 1 of 1 is the
+--   whole job
 --     part_edge edge parts count      the frame before which so many of the parts end
 --     part_range part parts count      the range of a part
 --     range_of extent count      the range of all frames, or of a part

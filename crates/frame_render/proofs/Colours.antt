@@ -11,7 +11,7 @@ use Rattle.trans_mix.proofs.MixLemmas.{mixed_code-most}
 use Rattle.tetra_look.specs.Look.{channels}
 use Rattle.conform_job.specs.Job.{JobData}
 use Rattle.frame_render.specs.Frame.{black_of}
-use Rattle.frame_render.specs.Lines.{HasColours}
+use Rattle.frame_render.specs.inside.Lines.{HasColours}
 use Rattle.band_kernels.specs.Words.{HasChosen, chosen_word, mixed_word}
 
 -- a word's pixel has the word's codes

@@ -14,7 +14,8 @@ use Rattle.conform_job.specs.Asks.{shot_of_frame}
 use Rattle.conform_job.specs.Job.{JobData, need_of_side, need_of_shot, need_at, info_of_key, IsMet, AreMet}
 use Rattle.conform_job.specs.Keys.{info_at, key_of_ask}
 use Rattle.conform_job.specs.Refusals.{Files}
-use Rattle.frame_render.specs.Frame.{AreSidesOf, KeyWords, words_of_key, side_words, old_words, new_words, words_kept, IsDecoded, HasKeyOf, IsFileOf, file_by, frame_file}
+use Rattle.frame_render.specs.Frame.{AreSidesOf, KeyWords, words_of_key, side_words, old_words, new_words, words_kept, HasKeyOf, IsFileOf, file_by, frame_file}
+use Rattle.frame_render.specs.inside.Frame.{IsDecoded}
 
 none_some : {A : Type 0} (x : A) → ◌≡◌ {A = Option A} None (Some x) → ⊥
 none_some x h = cc

@@ -16,7 +16,7 @@ use Rattle.tetra_look.specs.Words.{look_word}
 use Rattle.record_timeline.specs.declared.Shot.{Shot}
 use Rattle.conform_job.specs.Job.{JobData}
 use Rattle.frame_render.specs.Frame.{black_of, line_of, line_words, picture, seen_word, shot_colour, some_lines}
-use Rattle.frame_render.specs.Lines.{HasColours, lines_from, stride}
+use Rattle.frame_render.specs.inside.Lines.{HasColours, lines_from, stride}
 
 -- words that stand in their places make a line
 pub line_is : (job : JobData) (colour : ℕ → List ℕ) (out : List ℕ) → length out ≡ job.parts.project.width

@@ -1,6 +1,11 @@
 -- One frame of the reel, pixel by pixel: what each pixel shows, and the bytes of the frame's file.
 -- The header is that of SMPTE 268M as dpx_header writes it; what a record frame shows is this
 -- project's own rule.
+-- * pixel of a record frame: black for a gap; the side's pixel; for a dissolve the mix of two sides' pixels; for a wipe the new
+--   side's where it shows and the old side's elsewhere; then the look. A side's pixel is decoded by its file's own header
+-- * frame file: the written header with the frame's record reel, its position from the first frame of that reel, the number of
+--   the reel's frames, and the record frame's label as its timecode; then the words of the picture line by line; the source
+--   frames that a record frame needs, and a frame rendered of them
 --     words_of_key job files key      the pixel words of a key's file, by the file's own header
 --     shot_colour job shot old new x y      what a shot shows at a pixel, before the look
 --     file_by job i old new      the file of record frame i: its header, then its picture
@@ -170,10 +175,6 @@ pub record KeyWords : Type 0 where
   pub key : Key
   pub words : List ℕ
 
--- a side's words, where there are any, are one for each pixel
-abbrev pub HasWords : JobData → Option (List ℕ) → Type 0
-HasWords job words = IfSome words (λ ws. length ws ≡ pixel_count job)
-
 -- the first bytes of a key's file, which has this header
 abbrev pub IsFrontOf : JobData → Files → Key → FrameInfo → List ℕ → Type 0
 IsFrontOf job files key info bytes =
@@ -195,10 +196,6 @@ HasKeyOf need decoded =
 
 abbrev pub words_kept : Option KeyWords → Option (List ℕ)
 words_kept decoded = option_map (λ (d : KeyWords). d.words) decoded
-
--- what was decoded is the key's file
-abbrev pub IsDecoded : JobData → Files → Option KeyWords → Type 0
-IsDecoded job files decoded = IfSome decoded (λ d. d.words ≡ words_of_key job files d.key)
 
 -- record frame i is one of the job's, and these are the source frames that it needs
 pub record AreSidesOf (job : JobData) (i : ℕ) (old new : Option KeyWords) : Type 0 where

@@ -6,7 +6,8 @@ ghost use Rattle.dpx_header.specs.Writing.{IsOutHead, header_of};
 ghost use Rattle.record_timeline.specs.Accepted.{frame_count};
 ghost use Rattle.conform_job.specs.Job.{ArePlanned};
 ghost use Rattle.scan_source.specs.World.{file_at};
-ghost use Rattle.frame_render.specs.Frame.{AreSidesOf, HasWords, IsDecoded, IsRenderedOf, file_by, frame_size, out_head, timecode_of, words_kept};
+ghost use Rattle.frame_render.specs.Frame.{AreSidesOf, IsRenderedOf, file_by, frame_size, out_head, timecode_of, words_kept};
+ghost use Rattle.frame_render.specs.inside.Frame.{HasWords, IsDecoded};
 
 use crate::picture::{render_bands, render_parts};
 use crate::{Decoded, FrameBuf, Rendered};

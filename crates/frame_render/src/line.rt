@@ -5,8 +5,9 @@ ghost use Rattle.std.specs.Option.{option_copied};
 ghost use Rattle.cf_base.specs.Rgb.{codes_of};
 ghost use Rattle.record_timeline.specs.Shots.{IsShotIn, Lasts};
 ghost use Rattle.conform_job.specs.Job.{ArePlanned};
-ghost use Rattle.frame_render.specs.Frame.{HasWords, black_of, line_of, line_words, seen_word, side_colour};
-ghost use Rattle.frame_render.specs.Lines.{HasColours, joined_colour};
+ghost use Rattle.frame_render.specs.Frame.{black_of, line_of, line_words, seen_word, side_colour};
+ghost use Rattle.frame_render.specs.inside.Frame.{HasWords};
+ghost use Rattle.frame_render.specs.inside.Lines.{HasColours, joined_colour};
 
 use band_kernels::{blend_band, copy_band, fill_band, look_band, seen_band, wipe_band};
 use cf_base::{Rgb, Transition};

@@ -4,8 +4,9 @@ ghost use Rattle.std.specs.Option.{option_copied};
 ghost use Rattle.byteorder.specs.Endian.{big_bytes};
 ghost use Rattle.record_timeline.specs.Shots.{IsShotIn};
 ghost use Rattle.conform_job.specs.Job.{ArePlanned};
-ghost use Rattle.frame_render.specs.Frame.{HasWords, black_of, line_words, picture, pixel_count};
-ghost use Rattle.frame_render.specs.Lines.{HasColours, StandsAt, lines_from, stride};
+ghost use Rattle.frame_render.specs.Frame.{black_of, line_words, picture, pixel_count};
+ghost use Rattle.frame_render.specs.inside.Frame.{HasWords};
+ghost use Rattle.frame_render.specs.inside.Lines.{HasColours, StandsAt, lines_from, stride};
 
 use crate::line::fill_line;
 use conform_job::Job;

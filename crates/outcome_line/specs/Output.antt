@@ -1,4 +1,5 @@
 -- The statuses of outcomes, and the lines that are put for them: this project's own rule.
+-- * output of an outcome: statuses, and the line of each outcome
 --     status_of outcome      the status that the program ends with
 --     line_of outcome      its line; Done and a fault of the sink have none
 --     IsMade outcome      its line is made in memory

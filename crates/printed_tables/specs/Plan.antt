@@ -1,5 +1,7 @@
 -- The plan of a job, as it is printed: what each record frame shows, and from which source frames. The text is this project's
 -- own rule.
+-- * plan of a job: the line of each record frame, and their number; where the record is cut, a line before each reel's first
+--   frame
 --     plan_of parts      one line for each record frame, and the line of their number; where the record is cut, a line before
 --       each reel's first frame
 use Rattle.std.specs.Prelude.{ℕ, ◌+◌, ◌&&◌, ◌==◌, nat_lt, Bool, if◌then◌else◌, length, List, [], ◌∷◌, ◌++◌, codes, decimal, slice_get, unwrap_or}

@@ -1,4 +1,5 @@
 -- The pull list of a job, as it is printed: which ranges of source frames a room fetches. The text is this project's own rule.
+-- * text of a pull list: the line of each range, with its labels in the mode of its reel, and both totals
 --     IsLabelled rate entries range      the range holds frames, and their labels can be counted
 --     pull_of rate entries ranges      one line for each range, and the line of both numbers
 use Rattle.std.specs.Prelude.{◌≡◌, ℕ, ◌-◌, ◌<◌, ◌≤◌, ◌==◌, if◌then◌else◌, List, [], ◌∷◌, ◌++◌, length, codes, decimal, slice_get, Some}

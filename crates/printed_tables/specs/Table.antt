@@ -1,4 +1,5 @@
 -- The event table of an edit list. The text is this project's own rule.
+-- * event table: the line of the rate, the line of each event, and their number
 --     event_table rate list      the line of the rate, one line for each event, and the line of their number
 use Rattle.std.specs.Prelude.{ℕ, List, [], ◌∷◌, ◌++◌, length, codes, decimal, Option, None, Some}
 use Rattle.std.specs.Fmt.{signed_decimal}

@@ -1,4 +1,5 @@
 -- Lines of printed text.
+-- * spaced line: words with single spaces between them, and the end of the line
 --     ended text      a text and the end of its line
 --     spaced words, spaced_line words      words with single spaces between them, and the same with the end of the line
 use Rattle.std.specs.Prelude.{ℕ, List, [], ◌∷◌, ◌++◌}

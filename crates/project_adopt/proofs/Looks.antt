@@ -16,7 +16,7 @@ use Rattle.outcome_line.specs.declared.outcome.Refused.{Refused}
 use Rattle.outcome_line.specs.declared.outcome.Refused.TheVariants as refused
 use Rattle.project_job.specs.Jobs.{FileComesTo, job_of, list_in, look_in, parts_of, unless_job, unless_refused}
 use Rattle.reconform.specs.Adopt.{HaveOneLook}
-use Rattle.project_adopt.specs.Adopt.{IsJobOver}
+use Rattle.project_adopt.specs.inside.Adopt.{IsJobOver}
 
 ok_same : {A E : Type 0} {a b : A} → ◌≡◌ {A = Result A E} (Ok a) (Ok b) → a ≡ b
 ok_same e = cc

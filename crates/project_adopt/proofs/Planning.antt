@@ -10,7 +10,8 @@ use Rattle.outcome_line.specs.declared.outcome.Outcome.TheVariants as outcome
 use Rattle.project_job.specs.Jobs.{HasPlanned, IsOfJob, cube_count}
 use Rattle.project_run.specs.Calls.{DiskState}
 use Rattle.project_run.proofs.Runs.{of_job}
-use Rattle.project_adopt.specs.Adopt.{GoesOn, IsAdoptReply, IsAdoption, IsJobOver, IsOfAdopt, IsOldSound, IsPromised, of_old_project}
+use Rattle.project_adopt.specs.Adopt.{GoesOn, IsAdoptReply, IsAdoption, IsOfAdopt, IsOldSound, IsPromised, of_old_project}
+use Rattle.project_adopt.specs.inside.Adopt.{IsJobOver}
 use Rattle.project_adopt.proofs.Composing.{run_adopts}
 
 -- what was planned is the job of a project

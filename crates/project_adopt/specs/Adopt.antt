@@ -1,5 +1,10 @@
 -- The command `adopt`: the reel of a project's job in the reel folder, with frames of an old project's reel taken over and the
 -- rest rendered. All of it is this project's own rule.
+-- * `adopt`: the project came to a job, and then the old one: frames of the old folder were taken over, and the rest was run as
+--   by `run`, with the crash promise of both together; or one of the two came to no job, and both folders are as they were. No
+--   moment changed the old folder
+-- * sound old folder: each frame that the old folder acknowledges is the old job's, over these source files: the premise of the
+--   part of the crash promise that speaks of them
 --     IsAdoptReply      the project came to a job, or to none
 --     GoesOn      then so did the old one, or to none
 --     HasAdopted      both came to a job: frames were taken over, the rest was run, and the crash promise of both together
@@ -22,7 +27,6 @@ use Rattle.reconform.specs.declared.adopting.AdoptFault.TheVariants as fault
 use Rattle.reel_writer.specs.Changes.{IsOwnFile, MayWrite}
 use Rattle.single_run.specs.Run.{AreAllAcked, HasWhole}
 use Rattle.single_run.specs.declared.report.Report.{Report}
-use Rattle.frame_fetch.specs.declared.run_end.RunEnd.{RunEnd}
 use Rattle.printed_text.specs.Text.{spaced_line}
 use Rattle.outcome_line.specs.declared.outcome.Outcome.{Outcome}
 use Rattle.outcome_line.specs.declared.outcome.Outcome.TheVariants as outcome
@@ -30,7 +34,7 @@ use Rattle.project_job.specs.Jobs.{ComesTo, cube_count}
 use Rattle.project_run.specs.Calls.{DiskState, OnDisk}
 use Rattle.frame_range.specs.Parts.{range_of}
 use Rattle.frame_range.specs.declared.range.Extent.TheVariants.{Whole}
-use Rattle.project_run.specs.Run.{IsJobRun, IsOfRun, IsUnplanned, outcome_of_end}
+use Rattle.project_run.specs.Run.{IsJobRun, IsOfRun, IsUnplanned}
 
 -- the frames of the reel, those that were acknowledged at the opening, those that were taken over, and the rendered ones
 abbrev pub adopt_text : Adopted → Report → List ℕ
@@ -62,12 +66,6 @@ IsOldSound old world files = IsSound old.parts.digest (frames_of old) (reel_of o
 abbrev pub IsOldSoundIn : Option World → JobData → Files → Type 0
 IsOldSoundIn told old files = IfSome told (λ world. IsOldSound old world files)
 
--- What a run that ended so comes to behind an adoption: the outcome of its end, or want of memory for the report.
-pub record ReportsAdoption (job : JobData) (done : Adopted) (how : RunEnd) (report : Report) (reached : Outcome)
-    (output : List ℕ) : Type 0 where
-  pub reached_is : (reached ≡ outcome_of_end job.parts.reels how) ⊎ (reached ≡ outcome.NoMemory)
-  pub form : reached ≡ outcome.Done → output ≡ adopt_text done report
-
 -- how many decoded source frames a run of the command shares
 abbrev pub share_count : ℕ
 share_count = 8
@@ -91,10 +89,6 @@ abbrev pub OnDisks : {D : Type 0} {A : Type 1} → Bool → (D → History) → 
     → (DiskState → DiskState → DiskState → DiskState → A) → A
 OnDisks tells history faults old old_after disk disk_after Made =
     OnDisk tells history faults disk disk_after (OnDisk tells history faults old old_after Made)
-
--- this is so of the outcome that a call came to, also of Done
-abbrev pub Ends : {A : Type 0} → Result A Outcome → (Outcome → Type 0) → Type 0
-Ends result Was = MatchResult result (λ text. Was outcome.Done) Was
 
 -- The crash promise. At every moment each frame that a crash leaves acknowledged is the definition's, and no acknowledgement
 -- is lost; at Done the folder has the whole reel.
@@ -186,7 +180,3 @@ IsOfAdopt (outcome.OldRefused refusal) = Unit {0}
 IsOfAdopt (outcome.OldOtherJob kept wanted) = Unit {0}
 IsOfAdopt (outcome.OldBadLedger len) = Unit {0}
 IsOfAdopt other = IsOfRun other
-
--- the job is that of a project over these source files
-abbrev pub IsJobOver : Option World → JobData → Type 0
-IsJobOver told job = IfSome told (λ world. (path : List ℕ) × ComesTo (file_at world) path (Ok job.parts))

@@ -1,1 +1,2 @@
 pub mod Adopt
+pub mod inside

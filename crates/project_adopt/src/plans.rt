@@ -4,7 +4,8 @@ ghost use Rattle.conform_job.specs.Answers.{AreInfosOf};
 ghost use Rattle.scan_source.specs.Leaves.{LeavesScan};
 ghost use Rattle.project_run.specs.Calls.{IsLeftAlone, LeavesScanFor, Replies, OverScan};
 ghost use Rattle.reconform.specs.Adopt.{LeavesDisks};
-ghost use Rattle.project_adopt.specs.Adopt.{GoesOn, IsAdoptReply, IsJobOver, IsOfAdopt, OnDisks};
+ghost use Rattle.project_adopt.specs.Adopt.{GoesOn, IsAdoptReply, IsOfAdopt, OnDisks};
+ghost use Rattle.project_adopt.specs.inside.Adopt.{IsJobOver};
 
 use crate::reels::adopt_jobs;
 use crate::report::of_old_project;

@@ -8,7 +8,8 @@ ghost use Rattle.reel_writer.specs.Leaves.{LeavesDisk};
 ghost use Rattle.project_run.specs.Run.{IsOfRun};
 ghost use Rattle.reconform.specs.Adopt.{CanServe, LeavesDisks};
 ghost use Rattle.reel_disk.specs.Disk.{view_of};
-ghost use Rattle.project_adopt.specs.Adopt.{Ends, IsAdoption, IsJobOver, IsOfAdopt, IsOldSoundIn, IsPromised, IsRest, OnDisks};
+ghost use Rattle.project_adopt.specs.Adopt.{IsAdoption, IsOfAdopt, IsOldSoundIn, IsPromised, IsRest, OnDisks};
+ghost use Rattle.project_adopt.specs.inside.Adopt.{Ends, IsJobOver};
 
 use crate::report::{outcome_of_fault, reply_of};
 use conform_job::{Job, Work};

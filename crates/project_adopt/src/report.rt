@@ -1,7 +1,8 @@
 //! What an adoption and the run behind it come to: a report, or an outcome.
 ghost use Rattle.std.specs.Prelude.{◌≡◌, ◌↔◌, Err, IfOk, MatchResult};
 ghost use Rattle.project_run.specs.Run.{IsKnown, IsOfRun};
-ghost use Rattle.project_adopt.specs.Adopt.{ReportsAdoption, adopt_text, of_old_project, outcome_of_fault};
+ghost use Rattle.project_adopt.specs.Adopt.{adopt_text, of_old_project, outcome_of_fault};
+ghost use Rattle.project_adopt.specs.inside.Adopt.{ReportsAdoption};
 ghost use Rattle.project_run.specs.Calls.{Replies};
 
 use conform_job::Job;

@@ -1,5 +1,7 @@
 -- The command `run` with several workers: the reel of a project's job, rendered into the reel folder by a crew. All of it is
 -- this project's own rule.
+-- * `run` with several workers: the same by a crew: its steps, how it ended by them, and what was done with each scan; or it
+--   came to none, and the first scan is handed back as it was lent
 --     told_by      what the scans tell, which is the same of all
 --     RanItsJobByCrew      the project came to a job, and a crew ran it in the folder
 --     IsUnplannedByCrew      it came to none, and the folder is as it was

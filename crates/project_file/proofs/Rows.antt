@@ -6,7 +6,8 @@ use Rattle.cf_base.specs.Rgb.{codes_of}
 use Rattle.toml.specs.Data.{array, boolean, integer, item, member, no_items, no_members, string, table, Data, Members}
 use Rattle.toml.specs.Parse.{parse_document}
 use Rattle.toml.proofs.OnLiterals.{toml_on_literals}
-use Rattle.project_file.specs.Keys.{fault, seen_as}
+use Rattle.project_file.specs.Keys.{fault}
+use Rattle.project_file.specs.inside.Keys.{seen_as}
 use Rattle.project_file.specs.Projects.{black_at, cuts_at, label_number, mode_at, place, project_of, rate_at, reel_of, top, usual_black, width_in}
 use Rattle.project_file.specs.declared.fault.ProjectKind.TheVariants.{MissingKey, OutOfRange, UnknownKey, WrongType}
 

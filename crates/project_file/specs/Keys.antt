@@ -2,11 +2,9 @@
 --     needed place read, optional default read      a key that has to be there, and one that has a default
 --     text_at, flag_at, whole_at, list_at      what is read of its value
 -- Each step gives the value, or the fault at the key's place; the first fault stands.
-use Rattle.std.specs.Prelude.{◌≡◌, ◌&&◌, if◌then◌else◌, ℕ, ℤ, pos, negsuc, Bool, true, List, Option, Some, None, Result, Ok, Err, is_some, suc}
+use Rattle.std.specs.Prelude.{◌&&◌, if◌then◌else◌, ℕ, ℤ, pos, negsuc, Bool, true, List, Option, Some, None, Result, Ok, Err, is_some, suc}
 use Rattle.cf_base.specs.Text.{is_within}
-use Rattle.cf_base.specs.declared.fail.Fail.{Fail}
-use Rattle.cf_base.specs.declared.fail.Fail.TheVariants.{Fault, NoMemory}
-use Rattle.cf_base.specs.Steps.{◌>>=◌, required}
+use Rattle.cf_base.specs.Steps.{required}
 use Rattle.toml.specs.Data.{Data, Items, Members, as_array, as_bool, as_integer, as_str, as_table, item, member, no_items, no_members}
 use Rattle.project_file.specs.declared.fault.Place.{Place}
 use Rattle.project_file.specs.declared.fault.ProjectFault.{ProjectFault}
@@ -15,17 +13,6 @@ use Rattle.project_file.specs.declared.fault.ProjectKind.TheVariants.{MissingKey
 
 abbrev pub fault : ProjectKind → Place → ProjectFault
 fault kind place = record { kind = kind; key = place.key; reel = place.reel }
-
--- the same of what is seen of a value
-abbrev pub seen_as : {A B : Type 0} → (A → B) → Result A ProjectFault → Result B ProjectFault
-seen_as view (Ok x) = Ok (view x)
-seen_as view (Err e) = Err e
-
--- what was given, or want of memory
-abbrev pub GivesSeen : {A B : Type 0} → (A → B) → Result A (Fail ProjectFault) → Result B ProjectFault → Type 0
-GivesSeen view (Ok x) want = want ≡ Ok (view x)
-GivesSeen view (Err (Fault e)) want = want ≡ Err e
-GivesSeen view (Err NoMemory) want = Unit {0}
 
 abbrev pub needed : {A : Type 0} → Place → (Data → Result A ProjectFault) → Option Data → Result A ProjectFault
 needed place read None = Err (fault MissingKey place)

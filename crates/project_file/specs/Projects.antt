@@ -1,4 +1,5 @@
 -- What a project file says. All rules here are this project's own; TOML is as the crate `toml` states it.
+-- * project of a text [Keys]: the keys in their order with their faults, over what `toml` states of the text
 --     title_in .. cube_in      the keys at the top, 1 to 8, in the order in which they are checked
 --     reels_in, reel_of      key 9, and a reel's keys: 10, 11, 13, 12, 14, 15
 --     cuts_in      key 16, the cuts of the record, which is checked after key 9
@@ -23,7 +24,7 @@ use Rattle.cf_base.specs.declared.timing.Rate.{Rate}
 use Rattle.cf_base.specs.declared.timing.Rate.TheVariants.{R24, R25, R30}
 use Rattle.cf_base.specs.declared.timing.Mode.{Mode}
 use Rattle.cf_base.specs.declared.timing.Mode.TheVariants.{NonDrop, Drop}
-use Rattle.cf_base.specs.Steps.{◌>>=◌, required}
+use Rattle.cf_base.specs.Steps.{required}
 use Rattle.cf_timecode.specs.declared.Label.{Label}
 use Rattle.cf_timecode.specs.declared.TcFault.{TcFault}
 use Rattle.cf_timecode.specs.Counting.{number_of}
@@ -261,11 +262,6 @@ IsRead text ms = (length text ≤ 1048576) × IsUtf8 text × (parse_document tex
 -- the bytes are too many, or the text of no table
 abbrev pub IsUnread : List ℕ → Type 0
 IsUnread text = (1048576 < length text) ⊎ (IsUtf8 text → parse_document text ≡ None)
-
--- a text that isn't read, or want of memory
-abbrev pub IsTextFault : List ℕ → Fail ProjectFault → Type 0
-IsTextFault text (Fault e) = IsUnread text × (e ≡ fault Text (top 0))
-IsTextFault text NoMemory = Unit {0}
 
 -- a text that isn't read comes to its fault, and one that is read to what its table comes to
 abbrev pub Means : List ℕ → Result Project ProjectFault → Type 0

@@ -1,7 +1,8 @@
 //! The cuts of a project file, which part its record into reels.
 ghost use Rattle.std.specs.Prelude.{◌≡◌, ◌≤◌, IfOk, length};
 ghost use Rattle.toml.specs.View.{items_view, table_view, view};
-ghost use Rattle.project_file.specs.Keys.{all_items, is_text, seen_as, GivesSeen};
+ghost use Rattle.project_file.specs.Keys.{all_items, is_text};
+ghost use Rattle.project_file.specs.inside.Keys.{seen_as, GivesSeen};
 ghost use Rattle.project_file.specs.Projects.{cut_texts_at, cuts_at, cuts_in, paths_of};
 
 use crate::fault::{Place, ProjectFault, ProjectKind};

@@ -3,7 +3,8 @@ ghost use Rattle.std.specs.Prelude.{IfOk, IfErr, length};
 ghost use Rattle.toml.specs.View.{table_view};
 ghost use Rattle.cf_base.specs.Fail.{Gives};
 ghost use Rattle.project_file.specs.Keys.{fault};
-ghost use Rattle.project_file.specs.Projects.{Answers, IsInRange, IsRead, IsTextFault, project_of};
+ghost use Rattle.project_file.specs.Projects.{Answers, IsInRange, IsRead, project_of};
+ghost use Rattle.project_file.specs.inside.Projects.{IsTextFault};
 
 use crate::Project;
 use crate::cuts::{CutRows, cuts_in};

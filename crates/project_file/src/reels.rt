@@ -5,7 +5,8 @@ ghost use Rattle.toml.specs.View.{items_view, table_view, view};
 ghost use Rattle.toml.specs.Data.{get_member};
 ghost use Rattle.cf_base.specs.Timing.{CanCount, frames_in_day};
 ghost use Rattle.cf_base.specs.declared.timing.Mode.TheVariants.{NonDrop};
-ghost use Rattle.project_file.specs.Keys.{all_items, is_table, needed, optional, seen_as, text_at, whole_at, GivesSeen};
+ghost use Rattle.project_file.specs.Keys.{all_items, is_table, needed, optional, text_at, whole_at};
+ghost use Rattle.project_file.specs.inside.Keys.{seen_as, GivesSeen};
 ghost use Rattle.project_file.specs.Projects.{mode_of, mode_at, label_number, prefix_of, reel_at, reel_name_of};
 ghost use Rattle.project_file.specs.Projects.{reel_of, reels_at, reels_from, reels_in, IsReelInRange};
 

@@ -13,8 +13,10 @@ use Rattle.outcome_line.specs.declared.outcome.Outcome.TheVariants as outcomes
 use Rattle.outcome_line.specs.declared.outcome.Refused.{Refused}
 use Rattle.outcome_line.specs.declared.outcome.Refused.TheVariants as refused
 use Rattle.outcome_line.specs.declared.outcome.Which.{Which}
-use Rattle.project_job.specs.Asked.{loads_of, ComesBehind, FileHasParts, FileNames, HasInspectedFor, HasLoadedBehind, HasLoadedFor, IsOfTexts, WereInspected, WereJudged}
-use Rattle.project_job.specs.Jobs.{MeansFile, cube_count, outcome_of_fault, parts_of}
+use Rattle.project_job.specs.Asked.{loads_of, FileHasParts, FileNames, HasInspectedFor, HasLoadedFor, WereInspected, WereJudged}
+use Rattle.project_job.specs.inside.Asked.{ComesBehind, HasLoadedBehind, IsOfTexts}
+use Rattle.project_job.specs.Jobs.{cube_count, parts_of}
+use Rattle.project_job.specs.inside.Jobs.{MeansFile, outcome_of_fault}
 use Rattle.project_job.specs.Load.{IsOfLoad}
 use Rattle.project_job.specs.declared.project.ProjectText.{ProjectText}
 use Rattle.project_job.proofs.Projects.{told_one, told_two}

@@ -28,7 +28,8 @@ use Rattle.source_reels.specs.Reels.{table_of, IsTabled}
 use Rattle.tetra_look.specs.Look.{Lattice, lattice_of}
 use Rattle.scan_source.specs.World.{World, file_at}
 use Rattle.conform_job.specs.Refusals.{Files, first_refusal}
-use Rattle.project_job.specs.Jobs.{list_in, look_in, look_of_text, cube_in, list_and_text, look_and_text, itself, unless_refused, parts_of, outcome_of_fault, MeansFile, FileHasPlanned, HasPlanned, Reaches, AreLoaded, cube_count}
+use Rattle.project_job.specs.Jobs.{list_in, look_in, look_of_text, cube_in, unless_refused, parts_of, FileHasPlanned, HasPlanned, AreLoaded, cube_count}
+use Rattle.project_job.specs.inside.Jobs.{list_and_text, look_and_text, itself, outcome_of_fault, MeansFile, Reaches}
 use Rattle.project_job.specs.Load.{IsFront, IsMissing}
 use Rattle.project_job.specs.declared.loads.Front.{Front}
 use Rattle.project_job.specs.declared.project.ListText.{ListText}

@@ -1,4 +1,7 @@
 -- What was asked of the scan where a project is refused: the files up to the one that has the fault, and no more.
+-- * cost of a refusal [conform_job/specs/Ended.antt]: how many files are loaded before it: the project, the list, and the cube
+--   if one is named, up to the one that is refused; no head is asked for before the frames of a job are judged, and then one of
+--   each frame up to the refused one, which the refusal names
 --     loads_of refusal cube      how many files are loaded before the refusal, of a project that names this cube
 --     HasLoadedFor told path before after reached      so many were loaded, where a refusal was reached
 --     HasInspectedFor told path before after reached      and no head was asked for, but those of a job's frames up to the refused one
@@ -38,10 +41,6 @@ loads_of (refused.Frame fault) cube = 0
 abbrev pub IfRefused : Outcome → (Refused → Type 0) → Type 0
 IfRefused reached holds = (refusal : Refused) → reached ≡ outcome.Refused refusal → holds refusal
 
--- a refusal is one that comes behind so many loads, whatever the project names
-abbrev pub ComesBehind : ℕ → Outcome → Type 0
-ComesBehind count reached = IfRefused reached (λ refusal. (cube : Option (List ℕ)) → loads_of refusal cube ≡ count)
-
 -- the project of this file, if it is one, names this cube
 abbrev pub FileNames : Option (List ℕ) → Option (List ℕ) → Type 0
 FileNames None cube = Unit {0}
@@ -55,11 +54,6 @@ pub record WereLoaded (told : Option World) (path : List ℕ) (before after : �
 
 abbrev pub HasLoadedFor : Option World → List ℕ → (before after : ℕ) → Outcome → Type 0
 HasLoadedFor told path before after reached = IfRefused reached (WereLoaded told path before after)
-
--- the same behind the project's own load, which was made of this count
-abbrev pub HasLoadedBehind : Option (List ℕ) → (before after : ℕ) → Outcome → Type 0
-HasLoadedBehind cube before after reached =
-    IfRefused reached (λ refusal. (first : ℕ) → before ≡ count_after 1 first → after ≡ count_after (loads_of refusal cube) first)
 
 -- the project at the path has these parts
 abbrev pub FileHasParts : Files → Option (List ℕ) → JobParts → Type 0
@@ -76,10 +70,6 @@ pub record WereJudged (told : Option World) (path : List ℕ) (before after : �
 abbrev pub WereInspected : Option World → List ℕ → (before after : ℕ) → Refused → Type 0
 WereInspected told path before after (refused.Job fault) = WereJudged told path before after fault
 WereInspected told path before after other = after ≡ before
-
--- it is no refusal of a job's frames: those are judged behind the texts
-abbrev pub IsOfTexts : Outcome → Type 0
-IsOfTexts reached = (fault : JobFault) → reached ≡ outcome.Refused (refused.Job fault) → ⊥
 
 abbrev pub HasInspectedFor : Option World → List ℕ → (before after : ℕ) → Outcome → Type 0
 HasInspectedFor told path before after reached = IfRefused reached (WereInspected told path before after)

@@ -1,19 +1,17 @@
 -- The job of a project: its texts in the order in which they are read, and the first refusal. All of it is this project's own
 -- rule.
+-- * job of a project [Laws]: its texts in the order in which they are read, and the first refusal, as one list of steps; else
+--   the parts of its job; reels that are counted in modes that the rate has. Law: a project comes to one of them alone
 --     job_of files text read      what the job of a project comes to, whose text was read so: its parts, or the first refusal
 --     ComesTo files path answer      what the project at a path comes to
---     Reaches have result wanted      what a step of it gave, against what it is to give
-use Rattle.std.specs.Prelude.{◌≡◌, ◌≤◌, ℕ, List, Vec, Option, Some, None, IsSomeAnd, Result, Ok, Err}
+use Rattle.std.specs.Prelude.{◌≡◌, ◌≤◌, ℕ, List, Option, Some, None, Result, Ok, Err}
 use Rattle.std.specs.List.{All}
-use Rattle.std.specs.Option.{option_map}
-use Rattle.std.specs.declared.alloc.Global.{Global}
 use Rattle.cf_base.specs.declared.event.EventList.{EventList}
 use Rattle.conform_job.specs.Digest.{digest_of}
 use Rattle.conform_job.specs.Refusals.{Files, first_refusal}
 use Rattle.conform_job.specs.Answers.{count_after}
 use Rattle.conform_job.specs.Job.{JobData}
 use Rattle.conform_job.specs.declared.parts.JobFault.{JobFault}
-use Rattle.conform_job.specs.declared.parts.JobFault.TheVariants as fault
 use Rattle.conform_job.specs.declared.parts.JobParts.{JobParts}
 use Rattle.cube_reader.specs.Text.{cube_of}
 use Rattle.edl_events.specs.Lists.{list_of}
@@ -21,7 +19,6 @@ use Rattle.cf_base.specs.Timing.{CanCount, frames_in_day}
 use Rattle.cf_base.specs.declared.reel.ReelEntry.{ReelEntry}
 use Rattle.cf_base.specs.declared.timing.Mode.{Mode}
 use Rattle.cf_base.specs.declared.timing.Rate.{Rate}
-use Rattle.cf_base.specs.Steps.{◌>>=◌}
 use Rattle.project_file.specs.Projects.{Means}
 use Rattle.project_file.specs.declared.Project.{Project}
 use Rattle.project_file.specs.declared.fault.ProjectFault.{ProjectFault}
@@ -31,9 +28,6 @@ use Rattle.tetra_look.specs.Look.{Lattice, lattice_of}
 use Rattle.outcome_line.specs.declared.outcome.Outcome.{Outcome}
 use Rattle.outcome_line.specs.declared.outcome.Outcome.TheVariants as outcome
 use Rattle.outcome_line.specs.declared.outcome.Refused.{Refused}
-use Rattle.project_job.specs.declared.project.ListText.{ListText}
-use Rattle.project_job.specs.declared.project.LookText.{LookText}
-use Rattle.project_job.specs.declared.project.ProjectText.{ProjectText}
 use Rattle.outcome_line.specs.declared.outcome.Refused.TheVariants as refused
 use Rattle.outcome_line.specs.declared.outcome.Which.{Which}
 use Rattle.outcome_line.specs.declared.outcome.Which.TheVariants as which
@@ -101,33 +95,6 @@ FileComesTo files (Some text) answer = (read : Result Project ProjectFault) × M
 abbrev pub ComesTo : Files → List ℕ → Result JobParts Refused → Type 0
 ComesTo files path answer = FileComesTo files (files path) answer
 
--- A value or a refusal is the one that is wanted; a fault of the scan and want of memory may come at any place.
-abbrev pub Reaches : {A B : Type 0} → (A → B) → Result A Outcome → Result B Refused → Type 0
-Reaches have (Ok a) wanted = wanted ≡ Ok (have a)
-Reaches have (Err (outcome.Refused refusal)) wanted = wanted ≡ Err refusal
-Reaches have (Err outcome.SourceFault) wanted = Unit {0}
-Reaches have (Err outcome.NoMemory) wanted = Unit {0}
-Reaches have (Err other) wanted = ⊥
-
--- what is had of each step
-abbrev pub itself : {A : Type 0} → A → A
-itself a = a
-
-abbrev pub list_and_text : ListText → List ℕ × EventList
-list_and_text read = (read.text.items, read.list)
-
-abbrev pub look_and_text : LookText → Option (List ℕ) × Option Lattice
-look_and_text read = (option_map (λ (text : Vec ℕ Global). text.items) read.text, read.look)
-
--- what was had of the file of a project: its text and the project, or why not
-abbrev pub MeansFile : Option (List ℕ) → Result ProjectText Outcome → Type 0
-MeansFile file (Ok read) = (file ≡ Some read.text.items) × Means read.text.items (Ok read.project)
-MeansFile file (Err (outcome.Refused (refused.NoFile absent))) = (absent ≡ which.Project) × (file ≡ None)
-MeansFile file (Err (outcome.Refused (refused.Project fault))) = IsSomeAnd file (λ text. Means text (Err fault))
-MeansFile file (Err outcome.SourceFault) = Unit {0}
-MeansFile file (Err outcome.NoMemory) = Unit {0}
-MeansFile file (Err other) = ⊥
-
 -- what was had of the project of a file: its job, or why not
 abbrev pub FileHasPlanned : Files → Option (List ℕ) → Result JobData Outcome → Type 0
 FileHasPlanned files file (Ok job) = FileComesTo files file (Ok job.parts)
@@ -138,12 +105,6 @@ FileHasPlanned files file (Err other) = ⊥
 
 abbrev pub HasPlanned : Files → List ℕ → Result JobData Outcome → Type 0
 HasPlanned files path result = FileHasPlanned files (files path) result
-
--- what a job's refusal comes to
-abbrev pub outcome_of_fault : JobFault → Outcome
-outcome_of_fault fault.SourceFault = outcome.SourceFault
-outcome_of_fault fault.NoMemory = outcome.NoMemory
-outcome_of_fault other = outcome.Refused (refused.Job other)
 
 -- each reel is counted in a mode that the rate has
 abbrev pub AreCounted : Rate → List ReelEntry → Type 0

@@ -2,3 +2,4 @@ pub mod Asked
 pub mod Jobs
 pub mod Laws
 pub mod Load
+pub mod inside

@@ -1,4 +1,5 @@
 -- What a load of a file comes to.
+-- * front of a file: its length and as many of its first bytes as are asked for, or why there are none
 use Rattle.std.specs.Prelude.{◌≡◌, ℕ, List, length, take, Option, None, IsSomeAnd, Result, MatchResult}
 use Rattle.project_job.specs.declared.loads.Front.{Front}
 use Rattle.outcome_line.specs.declared.outcome.Outcome.{Outcome}

@@ -9,8 +9,10 @@ ghost use Rattle.conform_job.specs.Answers.{count_after, Grows, HeadsGrow};
 ghost use Rattle.conform_job.specs.Asks.{asks_of};
 ghost use Rattle.conform_job.specs.Infos.{HasEachOnce};
 ghost use Rattle.conform_job.specs.Job.{ArePlanned};
-ghost use Rattle.project_job.specs.Asked.{ComesBehind, HasInspectedFor, HasLoadedBehind, HasLoadedFor, IsOfTexts};
-ghost use Rattle.project_job.specs.Jobs.{list_in, cube_in, look_in, look_of_text, parts_of, itself, list_and_text, look_and_text, outcome_of_fault, Reaches, HasPlanned, MeansFile, unless_refused, IsOfJob, cube_count, AreCounted, AreLoaded};
+ghost use Rattle.project_job.specs.Asked.{HasInspectedFor, HasLoadedFor};
+ghost use Rattle.project_job.specs.inside.Asked.{ComesBehind, HasLoadedBehind, IsOfTexts};
+ghost use Rattle.project_job.specs.Jobs.{list_in, cube_in, look_in, look_of_text, parts_of, HasPlanned, unless_refused, IsOfJob, cube_count, AreCounted, AreLoaded};
+ghost use Rattle.project_job.specs.inside.Jobs.{itself, list_and_text, look_and_text, outcome_of_fault, Reaches, MeansFile};
 ghost use Rattle.scan_source.specs.Leaves.{LeavesScan};
 ghost use Rattle.outcome_line.specs.declared.outcome.Refused.TheVariants as refused;
 

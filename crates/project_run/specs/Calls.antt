@@ -1,5 +1,8 @@
 -- What a call of a command comes to, and what it makes of the scan and of the disk that it is lent. All of it is this project's
 -- own rule.
+-- * what a call came to [project_adopt/specs/Adopt.antt]: its output where it is done, or an outcome with its line; what it made
+--   of a folder, of which something is so before the call and after it, or of both folders of an adoption; what a refusal leaves
+--   alone; what a command of a project leaves of the scan and of the folder
 --     Replies result IsReply      what it came to is such a reply
 --     DiskState, disk_state      what a disk tells at a moment, and its count of faults
 --     OnDisk, OverScan      what it made of a disk, and over which scan

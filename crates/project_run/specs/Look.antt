@@ -1,5 +1,7 @@
 -- A command that looks at the reel folder of a project: `status`, `verify` and `qc`, which never change it, and `sheet`, which
 -- writes a file behind its look. All of it is this project's own rule.
+-- * look: the project came to a job, and its folder was looked at; or it came to none, as for `run`. What the ledger has was
+--   found to be so, or it can't be had; no moment changed the folder
 --     IsLookReply      the project came to a job, and the folder was looked at, or it came to none
 --     HasFound      the ledger was looked at, and of what it has this was found
 --     HasSeen      the same, and the folder was never changed

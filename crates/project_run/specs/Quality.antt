@@ -1,4 +1,5 @@
 -- The command `qc`: counts over the file of each frame that the reel folder acknowledges. All of it is this project's own rule.
+-- * `qc`: the quality table of what the ledger has, over the files of the folder
 --     IsQcReply      the project came to a job, and the folder's frames were counted, or it came to none
 use Rattle.std.specs.Prelude.{◌≡◌, ℕ, true, List, Option}
 use Rattle.scan_source.specs.World.{World}

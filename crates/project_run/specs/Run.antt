@@ -1,5 +1,8 @@
 -- The commands `run` and `part`: the reel of a project's job, or a part of it, rendered into the reel folder. All of it is this
 -- project's own rule. `run` is the extent of all frames.
+-- * `run`, `part`: the project came to a job, which was run in the folder, all of it or a part, at each moment by the crash
+--   promise, which a crew's run has in the same words; or it came to none, and the folder is as it was, with the files loaded up
+--   to the refused one
 --     IsSafeRun      what every run of a job keeps, on one thread or by a crew
 --     RanItsJob      the project came to a job, and the job was run in the folder
 --     IsUnplanned      it came to none, and the folder is as it was

@@ -1,5 +1,7 @@
 -- The command `sheet`: a contact sheet of the frames that the reel folder acknowledges, written beside them. All of it is this
 -- project's own rule.
+-- * `sheet`: the ledger was looked at, and the sheet of what it has was written, whole and so that a crash keeps it, with every
+--   other file as it was at each moment; or the ledger can't be had, and nothing was written
 --     IsSheetReply      the project came to a job, and the sheet of its folder was made, or it came to none
 use Rattle.std.specs.Prelude.{◌≡◌, ℕ, ◌≤◌, true, List, [], ◌∷◌, ◌++◌, codes, decimal, length, Option, Some, IsErr}
 use Rattle.cf_base.specs.declared.file.FileId.TheVariants as file

@@ -1,4 +1,6 @@
 -- The command `status`: how many frames of a project's reel the reel folder acknowledges. All of it is this project's own rule.
+-- * `status`: the project came to a job, and its number is that of the frames that the folder acknowledges, which no moment
+--   changed; or it came to none, as for `run`
 --     IsStatusReply      the project came to a job, and the folder was looked at, or it came to none
 use Rattle.std.specs.Prelude.{◌≡◌, ◌⊎◌, ℕ, true, List, [], ◌∷◌, ◌++◌, codes, decimal, Option, Result, Ok, Err}
 use Rattle.scan_source.specs.World.{World}

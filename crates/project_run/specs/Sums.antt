@@ -1,5 +1,7 @@
 -- The command `sums`: a line for each frame that the reel folder acknowledges and of which the ledger keeps the SHA-256. No frame
 -- is read. All of it is this project's own rule; the text is what `sha256sum -c` and BagIt's manifests take.
+-- * `sums`: a line for each frame that is acknowledged and has a record: the digest in hexadecimal digits, two blanks, the name
+--   of its file
 --     IsSumsReply      the project came to a job, and the folder was looked at, or it came to none
 use Rattle.std.specs.Prelude.{◌≡◌, ◌⊎◌, ℕ, List, [], ◌∷◌, ◌++◌, codes, Option, Some, None}
 use Rattle.std.specs.List.{flat_map, range_with_len}

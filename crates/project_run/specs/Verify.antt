@@ -1,5 +1,6 @@
 -- The command `verify`: whether the file of each frame that the reel folder acknowledges is still the one of which the ledger
 -- keeps the SHA-256. All of it is this project's own rule.
+-- * `verify`: the first damaged frame of what the ledger has, or how many files were compared
 --     IsVerifyReply      the project came to a job, and the folder was checked, or it came to none
 use Rattle.std.specs.Prelude.{◌≡◌, ◌≢◌, ◌⊎◌, ℕ, true, List, [], ◌∷◌, ◌++◌, codes, decimal, count_by, Option, Result, Ok, Err}
 use Rattle.scan_source.specs.World.{World}

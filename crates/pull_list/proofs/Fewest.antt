@@ -4,7 +4,7 @@ use Rattle.std.specs.Prelude.{◌⊎◌}
 use Rattle.pull_list.specs.declared.range.PullRange.{PullRange}
 use Rattle.pull_list.specs.Laws.{FewestRanges}
 use Rattle.pull_list.specs.Pull.{Holds, HoldsIn}
-use Rattle.pull_list.specs.Spans.{IsFrom}
+use Rattle.pull_list.specs.inside.Spans.{IsFrom}
 use Rattle.pull_list.proofs.Order.{AreApart, apart_of, behind, end_free, from_here, from_lower, from_on, from_trans, past_of}
 
 -- one of the ranges holds the frame, and the rest are one fewer

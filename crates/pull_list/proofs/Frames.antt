@@ -15,7 +15,7 @@ use Rattle.source_reels.specs.Laws.{FindsFaults}
 use Rattle.source_reels.specs.Reels.{reels_fault}
 use Rattle.pull_list.specs.declared.range.PullRange.{PullRange}
 use Rattle.pull_list.specs.Pull.{AreRangesOf, HasFrame, Holds, HoldsIn, IsInDay, IsPullList, IsWanted}
-use Rattle.pull_list.specs.Spans.{HasKey, span_at, span_in, span_of}
+use Rattle.pull_list.specs.inside.Spans.{HasKey, span_at, span_in, span_of}
 use Rattle.pull_list.proofs.Needed.{all_keyed}
 
 -- ---- keys

@@ -5,7 +5,7 @@ use Rattle.std.proofs.lemmas.Bool.{cases_lt}
 use Rattle.std.proofs.lemmas.Bool.Decides.{nat_tests}
 use Rattle.pull_list.specs.declared.range.PullRange.{PullRange}
 use Rattle.pull_list.specs.Pull.{Holds, HoldsIn, AreRangesOf}
-use Rattle.pull_list.specs.Spans.{IsFrom, AreSorted, touches, joined}
+use Rattle.pull_list.specs.inside.Spans.{IsFrom, AreSorted, touches, joined}
 use Rattle.pull_list.proofs.Order.{AreApart, apart_order, apart_some, from_trans, past_of}
 
 -- what becomes of a range that the spans behind it may still join

@@ -27,7 +27,7 @@ use Rattle.conform_job.specs.Keys.{info_at, key_at, key_of_ask, keys_of_asks, pl
 use Rattle.conform_job.specs.declared.frames.Ask.{Ask}
 use Rattle.conform_job.specs.declared.parts.JobParts.{JobParts}
 use Rattle.pull_list.specs.declared.range.PullRange.{PullRange}
-use Rattle.pull_list.specs.Spans.{HasKey, span_at, spans_of_side}
+use Rattle.pull_list.specs.inside.Spans.{HasKey, span_at, spans_of_side}
 
 -- ---- a key is of a frame that its reel has
 

@@ -6,7 +6,7 @@ use Rattle.std.proofs.lemmas.List.Elements.{All-cons, All-head, All-tail, All-ni
 use Rattle.std.proofs.lemmas.List.Kept.{AllPairs-cons}
 use Rattle.pull_list.specs.declared.range.PullRange.{PullRange}
 use Rattle.pull_list.specs.Pull.{HoldsIn, IsBefore}
-use Rattle.pull_list.specs.Spans.{IsFrom}
+use Rattle.pull_list.specs.inside.Spans.{IsFrom}
 
 pub from_start : (reel x : ℕ) → IsFrom 0 0 reel x
 from_start reel x = elim (cases_lt 0 reel) [ inl lt ↦ inl lt | inr ge ↦ inr (omega (arith, ge), omega arith) ]

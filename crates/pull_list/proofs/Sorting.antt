@@ -8,7 +8,7 @@ use Rattle.std.proofs.lemmas.List.Elements.{All-cons, All-head, All-tail, All-ni
 use Rattle.std.proofs.lemmas.List.Sorted.{All-permutation, IsPermutation-sym}
 use Rattle.pull_list.specs.declared.range.PullRange.{PullRange}
 use Rattle.pull_list.specs.Pull.{Holds, HoldsIn, AreRangesOf}
-use Rattle.pull_list.specs.Spans.{IsFrom, AreSorted, IsSpan, place_of}
+use Rattle.pull_list.specs.inside.Spans.{IsFrom, AreSorted, IsSpan, place_of}
 use Rattle.pull_list.proofs.Order.{from_start}
 
 module _ (reel x : ℕ) where

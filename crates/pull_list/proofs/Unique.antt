@@ -5,7 +5,7 @@ use Rattle.std.proofs.lemmas.Bool.{cases_lt}
 use Rattle.pull_list.specs.declared.range.PullRange.{PullRange}
 use Rattle.pull_list.specs.Laws.{OnePullList}
 use Rattle.pull_list.specs.Pull.{HoldsIn}
-use Rattle.pull_list.specs.Spans.{IsFrom}
+use Rattle.pull_list.specs.inside.Spans.{IsFrom}
 use Rattle.pull_list.proofs.Order.{AreApart, apart_of, behind, end_free, first_on, from_both, from_here, from_on, from_trans}
 
 -- two ends: the lower one would be held by the other list

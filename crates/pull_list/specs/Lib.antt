@@ -1,3 +1,3 @@
 pub mod Laws
 pub mod Pull
-pub mod Spans
+pub mod inside

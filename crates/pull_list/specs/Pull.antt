@@ -1,5 +1,9 @@
 -- The pull list of a job: the source frames that a room needs from the vault, with a margin on both sides, in ranges. All of it
 -- is this project's own rule.
+-- * wanted frame: one of the reel's, at most the margin away from a frame of that reel that a record frame needs
+-- * pull list [Laws]: ranges that each hold a frame, by reel and start, where each starts above the end of the one before it in
+--   its reel, and which hold just the wanted frames. Laws: a job has one for a margin, and no list of ranges with the same
+--   frames is shorter
 --     IsWanted p margin reel x      frame x of the reel at a place of the table is one of the reel's, and near a needed one
 --     IsPullList p margin ranges      the ranges of just these frames
 use Rattle.std.specs.Prelude.{◌≡◌, ◌⊎◌, ◌↔◌, ℕ, ◌+◌, ◌<◌, ◌≤◌, List, [], ◌∷◌, Some, slice_get}

@@ -1,7 +1,7 @@
 //! Spans that are sorted, and joined where they touch.
 ghost use Rattle.std.specs.Prelude.{◌≡◌, All, IfOk};
 ghost use Rattle.pull_list.specs.Pull.{AreRangesOf, HoldsIn};
-ghost use Rattle.pull_list.specs.Spans.{AreSorted, IsSpan, joined, touches};
+ghost use Rattle.pull_list.specs.inside.Spans.{AreSorted, IsSpan, joined, touches};
 
 use crate::range::{PullRange, place_of};
 use std::alloc::{AllocError, Global};

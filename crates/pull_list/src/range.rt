@@ -1,7 +1,7 @@
 //! Ranges of source frames, and their list.
 ghost use Rattle.std.specs.Prelude.{◌≡◌, ◌+◌, ◌≤◌, ◌<◌, None};
 ghost use Rattle.source_reels.specs.Reels.{reels_fault};
-ghost use Rattle.pull_list.specs.Spans.{HasKey, IsSpan, place_of, span_at, span_in};
+ghost use Rattle.pull_list.specs.inside.Spans.{HasKey, IsSpan, place_of, span_at, span_in};
 
 use cf_base::{Items, Key, ReelEntry};
 use source_reels::reel_laws;

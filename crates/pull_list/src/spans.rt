@@ -3,7 +3,7 @@ ghost use Rattle.std.specs.Prelude.{◌≡◌, ◌<◌, ◌≤◌, ◌++◌, All
 ghost use Rattle.record_timeline.specs.Accepted.{frame_count};
 ghost use Rattle.conform_job.specs.Asks.{asks_of};
 ghost use Rattle.source_reels.specs.Reels.{reels_fault};
-ghost use Rattle.pull_list.specs.Spans.{HasKey, IsSpan, spans_at, spans_of_asks, spans_of_side};
+ghost use Rattle.pull_list.specs.inside.Spans.{HasKey, IsSpan, spans_at, spans_of_asks, spans_of_side};
 
 use crate::range::{PullRange, span_at};
 use cf_base::{Key, ReelEntry};

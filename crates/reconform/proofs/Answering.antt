@@ -13,7 +13,8 @@ use Rattle.reel_writer.specs.View.{ReelView}
 use Rattle.reconform.specs.declared.adopting.Adopted.{Adopted}
 use Rattle.reconform.specs.declared.adopting.AdoptFault.{AdoptFault}
 use Rattle.reconform.specs.declared.adopting.AdoptFault.TheVariants.{OldOtherJob, OldBadLedger, OtherJob, BadLedger, DiskFault, NoMemory}
-use Rattle.reconform.specs.Adopt.{HasAnswered, AsOpened, IsOfOld, IsStop, WasOpenedWith, IsWhyUnadopted, by_old, by_new}
+use Rattle.reconform.specs.Adopt.{HasAnswered, IsOfOld, WasOpenedWith, IsWhyUnadopted}
+use Rattle.reconform.specs.inside.Adopt.{AsOpened, IsStop, by_old, by_new}
 use Rattle.reconform.specs.Donor.{HasIntactDonor}
 
 module _ (new old : JobData) (tells : Bool) (h mid after : History) (still : tells ≡ true → IsStill h mid) (before done : History) where

@@ -8,7 +8,7 @@ use Rattle.std.specs.BTreeMap.{BTreeMap, is_at}
 use Rattle.std.proofs.lemmas.Bool.{cases_lt, false≢true}
 use Rattle.conform_job.specs.Job.{JobData}
 use Rattle.reconform.specs.declared.plan.FramePlan.{FramePlan}
-use Rattle.reconform.specs.Donor.{IsLeast, AreLeast, donor_in, plan_cmp}
+use Rattle.reconform.specs.inside.Donor.{IsLeast, AreLeast, donor_in, plan_cmp}
 use Rattle.reconform.specs.Plan.{plan_at}
 use Rattle.reconform.proofs.PlanOrder.{same_plan, self_plan}
 

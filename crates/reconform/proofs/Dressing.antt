@@ -14,9 +14,10 @@ use Rattle.frame_render.specs.Frame.{IsFileOf, frame_file, frame_size}
 use Rattle.reel_disk.specs.Disk.{Files}
 use Rattle.resume_ledger.specs.Look.{ViewState, hash_at}
 use Rattle.reel_writer.specs.Reel.{frames_of}
-use Rattle.reconform.specs.Ahead.{IsKept, HoldsFrame, CanFinish}
-use Rattle.reconform.specs.Donor.{HasIntactDonor, IsLeast, IsOfHash, donor_in}
-use Rattle.reconform.specs.Parts.{HasDonors, WasLookedAt}
+use Rattle.reconform.specs.inside.Ahead.{IsKept, HoldsFrame, CanFinish}
+use Rattle.reconform.specs.Donor.{HasIntactDonor, IsOfHash}
+use Rattle.reconform.specs.inside.Donor.{IsLeast, donor_in}
+use Rattle.reconform.specs.inside.Parts.{HasDonors, WasLookedAt}
 use Rattle.reconform.specs.Plan.{AreAlike, plan_at}
 use Rattle.reconform.specs.declared.plan.FramePlan.{FramePlan}
 use Rattle.reconform.proofs.Serving.{has_donor, least_here, served_pixels}

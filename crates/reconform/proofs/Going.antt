@@ -16,13 +16,13 @@ use Rattle.resume_ledger.specs.declared.layout.Version.TheVariants.{One, Two}
 use Rattle.resume_ledger.specs.Look.{ViewState, IsViewOf}
 use Rattle.resume_ledger.specs.Sound.{IsSound}
 use Rattle.resume_ledger.proofs.Versions.{agrees_shown}
-use Rattle.reel_writer.specs.Changes.{IsRunFile}
+use Rattle.reel_writer.specs.inside.Changes.{IsRunFile}
 use Rattle.reel_writer.specs.Reel.{frames_of, reel_of, HasAcked, IsReelRun, IsWrittenFile, KeepsReel}
 use Rattle.reel_writer.specs.View.{ReelView, IsReelOf}
 use Rattle.reel_writer.proofs.ReelLaws.{reel_run_along, reel_run_itself}
 use Rattle.reel_writer.proofs.Writing.{kept_itself, run_file, run_file_before}
 use Rattle.reconform.specs.Adopt.{CanServe, IsCaused, LeavesBoth}
-use Rattle.reconform.specs.Parts.{IsPart, WasLookedAt}
+use Rattle.reconform.specs.inside.Parts.{IsPart, WasLookedAt}
 use Rattle.reconform.specs.declared.adopting.Adopted.{Adopted}
 use Rattle.reconform.specs.declared.adopting.AdoptFault.{AdoptFault}
 use Rattle.reconform.specs.declared.adopting.AdoptFault.TheVariants.{DiskFault}

@@ -16,7 +16,7 @@ use Rattle.reconform.specs.declared.plan.PlanSide.TheVariants.{Black, Frame}
 use Rattle.reconform.specs.contracts.plan.PlanSideOrd.TheImpl.{cmp-value}
 use Rattle.reconform.specs.declared.plan.FramePlan.{FramePlan}
 use Rattle.reconform.specs.declared.plan.FramePlan.TheVariants.{Solid, One, Two}
-use Rattle.reconform.specs.Donor.{plan_cmp}
+use Rattle.reconform.specs.inside.Donor.{plan_cmp}
 
 abbrev side_cmp : PlanSide → PlanSide → Ordering
 side_cmp = cmp-value.it

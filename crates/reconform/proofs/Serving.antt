@@ -14,10 +14,12 @@ use Rattle.reel_writer.specs.Reel.{frames_of}
 use Rattle.reel_writer.specs.View.{ReelView, after_finish, after_fault}
 use Rattle.reconform.specs.declared.adopting.AdoptFault.TheVariants.{NoMemory}
 use Rattle.reconform.specs.declared.plan.FramePlan.{FramePlan}
-use Rattle.reconform.specs.Adopt.{CanServe, IsSameReel, IsServed, AreServed}
-use Rattle.reconform.specs.Donor.{IsDonor, IsIntact, HasIntactDonor, IsLeast, AreLeast, donor_in}
+use Rattle.reconform.specs.Adopt.{CanServe}
+use Rattle.reconform.specs.inside.Adopt.{IsSameReel, IsServed, AreServed}
+use Rattle.reconform.specs.Donor.{IsDonor, IsIntact, HasIntactDonor}
+use Rattle.reconform.specs.inside.Donor.{IsLeast, AreLeast, donor_in}
 use Rattle.reconform.specs.Laws.{HasTitle}
-use Rattle.reconform.specs.Parts.{HasAdopted, HasServed}
+use Rattle.reconform.specs.inside.Parts.{HasAdopted, HasServed}
 use Rattle.reconform.specs.Plan.{AreAlike, plan_at}
 use Rattle.reconform.proofs.Going.{both_itself, part_itself, still_itself}
 use Rattle.reconform.proofs.Painting.{equal_plans}

@@ -1,9 +1,12 @@
 -- What an adoption promises. All of it is this project's own rule.
+-- * adoption: what the old folder has to be where the source files are told; which frames are acknowledged at the end: those
+--   that the opening kept, and those with an intact donor; why there was none, the old folder's refusal first; what the call
+--   leaves of both disks: how they are lent, and their counts, where a fault has its cause
 --     CanServe      what the old folder has to be, where the source files are told
 --     WasAdopted      which frames are acknowledged at the end, and how many of them were adopted
 --     IsWhyUnadopted      why there was no adoption
 --     LeavesDisks      what a call leaves of the two disks, whatever it comes to
-use Rattle.std.specs.Prelude.{◌≡◌, ◌≢◌, ◌⊎◌, ◌↔◌, ℕ, ◌+◌, ◌<◌, ◌≤◌, Bool, true, false, List, count_by, length, slice_index_or, Result, Ok, Err}
+use Rattle.std.specs.Prelude.{◌≡◌, ◌≢◌, ◌⊎◌, ◌↔◌, ℕ, ◌+◌, ◌<◌, ◌≤◌, Bool, true, false, List, count_by, slice_index_or, Result, Ok, Err}
 use Rattle.cf_base.specs.Count.{HasRisen}
 use Rattle.scan_source.specs.World.{World, file_at}
 use Rattle.conform_job.specs.Job.{JobData}
@@ -13,11 +16,8 @@ use Rattle.resume_ledger.specs.Attach.{IsOtherJob, IsBadLedger}
 use Rattle.resume_ledger.specs.Ledger.{IsFit, AreFlagsOf}
 use Rattle.resume_ledger.specs.Look.{ViewState, IsViewOf}
 use Rattle.resume_ledger.specs.Sound.{IsSound}
-use Rattle.resume_ledger.specs.declared.attach.OpenFault.{OpenFault}
-use Rattle.resume_ledger.specs.declared.attach.OpenFault.TheVariants as fault
 use Rattle.reel_writer.specs.Changes.{HasKept}
 use Rattle.reel_writer.specs.Reel.{frames_of, reel_of}
-use Rattle.reel_writer.specs.View.{ReelView}
 use Rattle.reconform.specs.Donor.{HasIntactDonor}
 use Rattle.reconform.specs.declared.adopting.Adopted.{Adopted}
 use Rattle.reconform.specs.declared.adopting.AdoptFault.{AdoptFault}
@@ -102,64 +102,4 @@ pub record LeavesBoth {D E : Type 0} (old_faults : D → ℕ) (old_loans : D →
 abbrev pub LeavesDisks : {D : Type 0} → (D → ℕ) → (D → List Loan) → (Failed : Type 0) → (old old_after disk disk_after : D) → Type 0
 LeavesDisks faults loans Failed old old_after disk disk_after = LeavesBoth faults loans faults loans Failed old old_after disk disk_after
 
--- what keeps the old folder from being looked at, and the new one from being opened
-abbrev pub by_old : OpenFault → AdoptFault
-by_old (fault.OtherJob kept wanted) = OldOtherJob kept wanted
-by_old (fault.BadLedger len) = OldBadLedger len
-by_old fault.DiskFault = DiskFault
-by_old fault.NoMemory = NoMemory
-
-abbrev pub by_new : OpenFault → AdoptFault
-by_new (fault.OtherJob kept wanted) = OtherJob kept wanted
-by_new (fault.BadLedger len) = BadLedger len
-by_new fault.DiskFault = DiskFault
-by_new fault.NoMemory = NoMemory
-
--- what ends an adoption once both folders are open
-abbrev pub IsStop : AdoptFault → Type 0
-IsStop fault = (fault ≡ DiskFault) ⊎ (fault ≡ NoMemory)
-
 -- The rest is said of the frames as they are taken in order.
-
--- a frame that has no intact donor stays as it was, and one that has one is acknowledged
-abbrev pub IsServed : JobData → JobData → ViewState → Files → ℕ → (before after : List Bool) → Type 0
-IsServed new old view files i before after = (k : ℕ)
-    → (slice_index_or after k false ≡ true) ↔ ((slice_index_or before k false ≡ true) ⊎ ((k ≡ i) × HasIntactDonor new old view files k))
-
--- of the first frames
-abbrev pub AreServed : JobData → JobData → ViewState → Files → ℕ → (before after : List Bool) → Type 0
-AreServed new old view files count before after = (k : ℕ)
-    → (slice_index_or after k false ≡ true) ↔ ((slice_index_or before k false ≡ true) ⊎ ((k < count) × HasIntactDonor new old view files k))
-
--- all frames of a reel
-abbrev pub IsReelServed : {D : Type 0} → JobData → JobData → ViewState → Files → (before after : ReelView D) → Type 0
-IsReelServed new old view files before after =
-    AreServed new old view files (frames_of new) before.ledger.gates after.ledger.gates
-
--- what stays as it was in a reel while it takes over frames: which were acknowledged, among the rest
-pub record IsSameReel {D : Type 0} (before after : ReelView D) : Type 0 where
-  pub kept : after.kept ≡ before.kept
-  pub size : length after.ledger.gates ≡ length before.ledger.gates
-  pub grows : (k : ℕ) → slice_index_or before.ledger.gates k false ≡ true
-      → slice_index_or after.ledger.gates k false ≡ true
-
--- what an adoption into an opened folder did, or why it ended
-pub record HasServed {D : Type 0} (new old : JobData) (old_tells tells : Bool) (view : ViewState) (files : Files)
-    (opened : ReelView D) (after : Files) (done : Adopted) : Type 0 where
-  pub acked : List Bool
-  pub exit : tells ≡ true → AreFlagsOf new.parts.digest (frames_of new) after acked
-  pub fit : tells ≡ true → IsFit new.parts.digest (frames_of new) after
-  pub exactly : old_tells ≡ true → AreServed new old view files (frames_of new) opened.ledger.gates acked
-  pub kept_is : done.kept ≡ opened.kept
-  pub adopted_is : done.kept + done.adopted ≡ count_by (λ gate. gate) acked
-
-abbrev pub AsOpened : {D : Type 0} → JobData → JobData → (old_tells tells : Bool) → ViewState → Files → ReelView D → Files
-    → Result Adopted AdoptFault → Type 0
-AsOpened new old old_tells tells view files opened after (Ok done) = HasServed new old old_tells tells view files opened after done
-AsOpened new old old_tells tells view files opened after (Err fault) = IsStop fault
-
--- the same of what an adoption answers: its result and the disk
-abbrev pub AsOpenedFor : {E : Type 0} → JobData → JobData → Bool → ViewState → History → Bool → (E → History) → ReelView E
-    → Result Adopted AdoptFault × E → Type 0
-AsOpenedFor new old old_tells view held tells history opened answer =
-    AsOpened new old old_tells tells view (view_of held) opened (view_of (history answer.1)) answer.0

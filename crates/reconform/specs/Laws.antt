@@ -1,4 +1,6 @@
 -- What a plan is good for.
+-- * equal plans look alike: a law: frames of one plan in alike jobs with one look over the same files have equal bytes from 2048
+--   on
 --     EqualPlansLookAlike      frames of one plan in alike jobs with one look over one world have equal pixels
 use Rattle.std.specs.Prelude.{◌≡◌, ℕ, ◌≤◌, List, length, drop}
 use Rattle.conform_job.specs.Job.{JobData}

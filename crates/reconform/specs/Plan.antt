@@ -1,5 +1,8 @@
 -- What a frame shows, without what it is called: two frames of one plan in alike jobs look the same. All of it is this
 -- project's own rule.
+-- * frame plan: what a frame shows, without what it is called: black; one source frame, by its path; or frame `k` of a
+--   transition of `d` frames between two sides, each black or a path, by a wipe's code or a dissolve. A cut shows the new side
+-- * alike: two jobs of one size, one black and one cube path, or none in both
 --     plan_at job i      the plan of record frame i, from 0
 --     AreAlike a b      the jobs have one size, one black and one cube
 use Rattle.std.specs.Prelude.{◌≡◌, ℕ, List, Option, Some, None, option_and_then}

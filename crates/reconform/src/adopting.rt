@@ -7,8 +7,9 @@ ghost use Rattle.resume_ledger.specs.Sound.{WritesOnly};
 ghost use Rattle.reel_writer.specs.Changes.{IsOwnFile, MayWrite};
 ghost use Rattle.reel_writer.specs.Reel.{frames_of, HasFrameFiles, IsReelRun, IsSoundReel};
 ghost use Rattle.scan_source.specs.World.{World};
-ghost use Rattle.reconform.specs.Adopt.{AsOpenedFor, CanServe, HasAnswered, IsOfOld, LeavesBoth, LeavesDisks, by_new, by_old};
-ghost use Rattle.reconform.specs.Parts.{IsPart, IsSafeAdoption, WasLookedAt};
+ghost use Rattle.reconform.specs.Adopt.{CanServe, HasAnswered, IsOfOld, LeavesBoth, LeavesDisks};
+ghost use Rattle.reconform.specs.inside.Adopt.{AsOpenedFor, by_new, by_old};
+ghost use Rattle.reconform.specs.inside.Parts.{IsPart, IsSafeAdoption, WasLookedAt};
 
 use crate::frames::adopt_alike;
 use conform_job::{Job, Work};

@@ -6,9 +6,9 @@ ghost use Rattle.frame_render.specs.Frame.{frame_size};
 ghost use Rattle.reel_disk.specs.Disk.{view_of, IsStill};
 ghost use Rattle.reel_writer.specs.Leaves.{LeavesDisk};
 ghost use Rattle.reel_writer.specs.Reel.{frames_of};
-ghost use Rattle.reconform.specs.Ahead.{AreReady, HoldsDonor, HoldsFrame, IsKept};
-ghost use Rattle.reconform.specs.Donor.{donor_in};
-ghost use Rattle.reconform.specs.Parts.{CanTake, HasDonors};
+ghost use Rattle.reconform.specs.inside.Ahead.{AreReady, HoldsDonor, HoldsFrame, IsKept};
+ghost use Rattle.reconform.specs.inside.Donor.{donor_in};
+ghost use Rattle.reconform.specs.inside.Parts.{CanTake, HasDonors};
 ghost use Rattle.reconform.specs.Plan.{plan_at};
 ghost use Rattle.sha2.specs.Sha256.{sha256};
 

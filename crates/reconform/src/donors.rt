@@ -2,7 +2,7 @@
 ghost use Rattle.std.specs.Prelude.{◌≡◌, ◌+◌, ◌<◌, [], length, Some, OnOk, IfOk};
 ghost use Rattle.std.specs.BTreeMap.{get, Updates};
 ghost use Rattle.reel_writer.specs.Reel.{frames_of};
-ghost use Rattle.reconform.specs.Donor.{AreLeast, donor_in, AddsDonor};
+ghost use Rattle.reconform.specs.inside.Donor.{AreLeast, donor_in, AddsDonor};
 ghost use Rattle.reconform.specs.declared.plan.FramePlan.{FramePlan};
 
 use crate::plan::{FramePlan, plan_at};

@@ -8,10 +8,11 @@ ghost use Rattle.scan_source.specs.World.{file_at};
 ghost use Rattle.reel_disk.specs.Disk.{view_of, IsStill};
 ghost use Rattle.reel_writer.specs.Leaves.{LeavesDisk};
 ghost use Rattle.reel_writer.specs.Reel.{frames_of};
-ghost use Rattle.reconform.specs.Adopt.{IsSameReel, LeavesBoth};
-ghost use Rattle.reconform.specs.Ahead.{AreReady};
+ghost use Rattle.reconform.specs.Adopt.{LeavesBoth};
+ghost use Rattle.reconform.specs.inside.Adopt.{IsSameReel};
+ghost use Rattle.reconform.specs.inside.Ahead.{AreReady};
 ghost use Rattle.reconform.specs.Donor.{HasIntactDonor};
-ghost use Rattle.reconform.specs.Parts.{CanTake, HasAdopted, HasServed, IsPart, WasLookedAt};
+ghost use Rattle.reconform.specs.inside.Parts.{CanTake, HasAdopted, HasServed, IsPart, WasLookedAt};
 
 use crate::adopting::AdoptFault;
 use crate::ahead::{are_free, free_place, place_of};

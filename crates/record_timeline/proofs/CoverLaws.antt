@@ -13,7 +13,7 @@ use Rattle.record_timeline.specs.declared.spans.RecordSpan.{RecordSpan}
 use Rattle.record_timeline.specs.Accepted.{first_overlap}
 use Rattle.record_timeline.specs.Laws.{Covers, FindsCover}
 use Rattle.record_timeline.specs.Shots.{covers, covering}
-use Rattle.record_timeline.specs.Spans.{IsSortedSpans}
+use Rattle.record_timeline.specs.inside.Spans.{IsSortedSpans}
 use Rattle.record_timeline.proofs.OverlapLaws.{option_cases, one_covers}
 use Rattle.record_timeline.proofs.SpanLaws.{Owns, all_own, is_there}
 

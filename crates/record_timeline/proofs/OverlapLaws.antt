@@ -11,7 +11,7 @@ use Rattle.record_timeline.specs.declared.TimelineFault.{TimelineFault}
 use Rattle.record_timeline.specs.declared.TimelineFault.TheVariants.{Overlap, TooLongReel}
 use Rattle.record_timeline.specs.Accepted.{share, overlap_at, first_overlap}
 use Rattle.record_timeline.specs.Laws.{Meet, SharingIsMeeting, NoneMeet, FindsMeetings, NamesFirstMeeting, OneCovers}
-use Rattle.record_timeline.specs.Spans.{NoOverlapBefore}
+use Rattle.record_timeline.specs.inside.Spans.{NoOverlapBefore}
 
 pub option_cases : {Y : Type 0} (o : Option Y) → (o ≡ None) ⊎ ((y : Y) × (o ≡ Some y))
 option_cases None = inl refl

@@ -9,7 +9,7 @@ use Rattle.cf_base.specs.declared.event.EventRec.{EventRec}
 use Rattle.cf_base.proofs.FirstLaws.{ComesFrom, all_come_from, all_are_there}
 use Rattle.record_timeline.specs.declared.spans.RecordSpan.{RecordSpan}
 use Rattle.record_timeline.specs.Accepted.{share}
-use Rattle.record_timeline.specs.Spans.{span_by, IsSortedSpans, ApartBelow, AreApart, NoOverlapBefore}
+use Rattle.record_timeline.specs.inside.Spans.{span_by, IsSortedSpans, ApartBelow, AreApart, NoOverlapBefore}
 use Rattle.record_timeline.proofs.OverlapLaws.{no_overlap_at}
 
 -- a span is that of the event at its place

@@ -1,4 +1,6 @@
 -- Which lists have a timeline. All rules here are this project's own.
+-- * overlap, reel length [Parts]: the first line that shares a record frame with an earlier one, and the earliest such line;
+--   from the least record in of a line of positive length to the greatest record out
 --     share e f      whether two lines have a record frame in common
 --     first_overlap events      the first line, in list order, that shares a record frame with an earlier one, and the earliest such one
 --     first_frame events, end_frame events      the least record in of a line of positive length, and the greatest record out

@@ -1,4 +1,8 @@
 -- What the definitions come to, in words of record frames.
+-- * laws of the timeline: to share is to have a record frame in common; nothing is refused exactly where no two lines meet; at
+--   most one line covers a frame. The reel holds each covered frame, and its first one is covered; so is its last, unless a line
+--   without record frames ends it. Where its last one is covered, no smaller range holds each covered frame. A frame shows the
+--   line that covers it, and a gap exactly where none does
 --     Covers e n      record frame n is one of the line's
 --     Meet e f      the lines have a record frame in common
 --     IsCovered events n      record frame n is one of a line of the list

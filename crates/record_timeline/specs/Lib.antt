@@ -2,4 +2,4 @@ pub mod Accepted
 pub mod Laws
 pub mod Parts
 pub mod Shots
-pub mod Spans
+pub mod inside

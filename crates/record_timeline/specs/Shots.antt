@@ -1,4 +1,6 @@
 -- What a record frame shows. The rule of motion is this project's own; record and source numbers are as CMX 3600 has them.
+-- * cover, side, shot: the line that covers a record frame; what a line shows there, also past its out point; gap, one side, or
+--   two in a transition
 --     covering events n      the place in the list of the line that covers frame n; an accepted list has at most one
 --     side_of rate place e n      what a line shows at frame n, also past its out point
 --     shot_of rate events n      the shot of frame n

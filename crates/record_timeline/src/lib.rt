@@ -68,7 +68,7 @@ pub struct Timeline {
 
 impl Model for Timeline {
     ghost use Rattle.record_timeline.specs.Accepted.{RecordReel};
-    ghost use Rattle.record_timeline.specs.Spans.{IsTimeline};
+    ghost use Rattle.record_timeline.specs.inside.Spans.{IsTimeline};
 
     ghost Value = { RecordReel };
 

@@ -6,7 +6,7 @@ ghost use Rattle.cf_base.specs.declared.event.EventRec.{EventRec};
 ghost use Rattle.record_timeline.specs.declared.TimelineFault.TheVariants.{Overlap};
 ghost use Rattle.record_timeline.specs.Accepted.{share, first_overlap, first_frame, end_frame};
 ghost use Rattle.record_timeline.specs.Shots.{covering};
-ghost use Rattle.record_timeline.specs.Spans.{span_by, spans_of, IsSortedSpans, AreApart, NoOverlapBefore};
+ghost use Rattle.record_timeline.specs.inside.Spans.{span_by, spans_of, IsSortedSpans, AreApart, NoOverlapBefore};
 
 use crate::TimelineFault;
 use cf_base::EventRec;

@@ -12,7 +12,8 @@ use Rattle.std.proofs.lemmas.Map.Lookups.{exact_unsigned, exact_pairs}
 use Rattle.cf_base.specs.declared.file.FileId.{FileId}
 use Rattle.cf_base.specs.declared.file.FileId.TheVariants.{Seal, Body, Seal2, Body2, Sheet, Frame}
 use Rattle.cf_base.specs.contracts.file.FileIdOrd.TheImpl as file_id_order
-use Rattle.reel_disk.specs.Memory.{find_in, content_of}
+use Rattle.reel_disk.specs.Memory.{content_of}
+use Rattle.reel_disk.specs.inside.Memory.{find_in}
 
 is_equal : (o : Ordering) → is_eq o ≡ true → o ≡ Equal
 is_equal Less is = let e : false ≡ true = is in cc

@@ -3,7 +3,8 @@ use Rattle.std.proofs.Common.{◌≡◌, ◌⊎◌, inl, inr, ℕ, zero, suc, �
 use Rattle.std.specs.Prelude.{Option, Some, None, slice_get}
 use Rattle.std.proofs.lemmas.List.{take-append-drop, drop-drop, append_assoc}
 use Rattle.reel_disk.specs.Disk.{overwritten}
-use Rattle.reel_disk.specs.Memory.{laid_over, put_back, byte_of}
+use Rattle.reel_disk.specs.Memory.{laid_over, put_back}
+use Rattle.reel_disk.specs.inside.Memory.{byte_of}
 
 -- over a list behind a first part
 laid_over-behind : (a b c : List ℕ) → laid_over (a ++ b) (length a) c ≡ a ++ laid_over b 0 c

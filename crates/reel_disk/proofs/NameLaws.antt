@@ -5,7 +5,8 @@ use Rattle.std.proofs.Math.Nat.{div-div-eq-div-mul, pow-suc}
 use Rattle.cf_base.specs.Digits.{digits, frame_file_name}
 use Rattle.cf_base.specs.declared.file.FileId.{FileId}
 use Rattle.cf_base.specs.declared.file.FileId.TheVariants.{Seal, Body, Seal2, Body2, Sheet, Frame}
-use Rattle.reel_disk.specs.Names.{HasName, file_name}
+use Rattle.reel_disk.specs.Names.{file_name}
+use Rattle.reel_disk.specs.inside.Names.{HasName}
 
 -- what is left of a number by one digit more
 left : (n w : ℕ) → n / 10 ^ w / 10 ≡ n / 10 ^ suc w

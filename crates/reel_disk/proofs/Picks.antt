@@ -10,7 +10,7 @@ use Rattle.cf_base.proofs.FileIdLaws.{same_id_self, same_id_other}
 use Rattle.reel_disk.specs.declared.disk.Place.{Place}
 use Rattle.reel_disk.specs.declared.disk.Place.TheVariants.{Whole, Range}
 use Rattle.reel_disk.specs.Disk.{IsLoose, IsLooseAt}
-use Rattle.reel_disk.specs.Memory.{is_whole_of, has_byte, is_whole_loose, is_byte_loose}
+use Rattle.reel_disk.specs.inside.Memory.{is_whole_of, has_byte, is_whole_loose, is_byte_loose}
 
 -- a test that holds of one of the places
 any_here : (test : Place → Bool) (places : List Place) (p : Place) → IsLoose places p → test p ≡ true → list_any test places ≡ true

@@ -9,7 +9,8 @@ use Rattle.reel_disk.specs.declared.disk.Place.TheVariants.{Whole}
 use Rattle.reel_disk.specs.declared.store.Step.{Step}
 use Rattle.reel_disk.specs.Disk.{Files, Moment, History, view_of, loose_of, IsLoose, IsLooseAt}
 use Rattle.reel_disk.specs.Crash.{byte_at, IsLastFirm, IsEarlier, IsTurned, IsPicked}
-use Rattle.reel_disk.specs.Memory.{undo, undo_all, loose_before, view_before, history_from, byte_of, is_whole_loose, is_byte_loose}
+use Rattle.reel_disk.specs.Memory.{undo, undo_all, loose_before, view_before, history_from}
+use Rattle.reel_disk.specs.inside.Memory.{byte_of, is_whole_loose, is_byte_loose}
 use Rattle.reel_disk.proofs.Steps.{view_is, loose_is}
 use Rattle.reel_disk.proofs.Picks.{whole_loose_is, whole_loose_not, byte_loose_is, byte_loose_not}
 

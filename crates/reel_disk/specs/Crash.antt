@@ -1,9 +1,9 @@
 -- What a crash leaves of a disk, by the number that picks one of the images.
+-- * crash: what each pick leaves of a file
 use Rattle.std.specs.Prelude.{◌≡◌, ◌⊎◌, ℕ, zero, suc, ◌-◌, ◌/◌, ◌<◌, ◌≤◌, List, length, take, slice_index, Option, Some, None}
 use Rattle.cf_base.specs.declared.file.FileId.{FileId}
 use Rattle.reel_disk.specs.declared.disk.Place.TheVariants.{Whole}
 use Rattle.reel_disk.specs.Disk.{Files, History, view_of, loose_of, IsLoose, IsLooseAt}
-use Rattle.reel_disk.specs.Memory.{byte_of}
 
 -- the byte of a file at this place, and 0 where it has none
 abbrev pub byte_at : Option (List ℕ) → ℕ → ℕ
@@ -19,10 +19,6 @@ pub record IsLastFirm (h : History) (id : FileId) (k m : ℕ) : Type 0 where
 -- the byte as it was before it became loose
 abbrev pub IsEarlier : History → FileId → ℕ → ℕ → Type 0
 IsEarlier h id k byte = (m : ℕ) × IsLastFirm h id k m × (byte ≡ byte_at ((h.past m).view id) k)
-
--- the same, or that the file had none there
-abbrev pub WasFirm : History → FileId → ℕ → Option ℕ → Type 0
-WasFirm h id k byte = (m : ℕ) × IsLastFirm h id k m × (byte ≡ byte_of ((h.past m).view id) k)
 
 -- the byte as it is, turned over where it is loose
 abbrev pub IsTurned : History → FileId → ℕ → ℕ → Type 0

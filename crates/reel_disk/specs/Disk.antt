@@ -1,4 +1,6 @@
 -- What a disk holds, what a crash may leave of it, and what each call does to both. All of it is this project's own rule.
+-- * disk: the view, the loose places, every moment until now; the images are all files that agree with the view outside the
+--   loose places; what each call does to both
 use Rattle.std.specs.Prelude.{◌≡◌, ◌≢◌, ◌⊎◌, ℕ, ◌+◌, ◌-◌, ◌<◌, ◌≤◌, min, List, [], ◌∷◌, ◌++◌, length, take, drop, slice_index, Option, Some, None}
 use Rattle.std.proofs.Common.{inl, inr}
 use Rattle.cf_base.specs.declared.file.FileId.{FileId}
@@ -63,10 +65,6 @@ view_of h = (moment_of h).view
 -- what is loose now
 abbrev pub loose_of : History → List Place
 loose_of h = (moment_of h).loose
-
--- a crash at some moment from t until now may leave these files
-abbrev pub MayBeLeft : History → ℕ → Files → Type 0
-MayBeLeft h t files = (m : ℕ) × (t ≤ m) × (m ≤ h.now) × IsImage (h.past m) files
 
 -- Time went on from one history to the other: none of the past changed, and each moment on the way was `between`.
 pub record Passes (old new : History) (between : Moment) : Type 0 where

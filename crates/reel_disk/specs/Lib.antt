@@ -6,3 +6,4 @@ pub mod MemoryDisk
 pub mod Names
 pub mod Runs
 pub mod Start
+pub mod inside

@@ -1,4 +1,6 @@
 -- How a disk is lent. All of it is this project's own rule.
+-- * loan: the name of a loan, and where that lies which is lent; a disk has one for each time that it is lent, the outermost
+--   first, and keeps them in each call
 use Rattle.std.specs.Prelude.{ℕ}
 
 -- a loan: its name, and where that lies which is lent

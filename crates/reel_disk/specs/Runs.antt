@@ -1,4 +1,5 @@
 -- What holds at each moment of a run of calls.
+-- * runs of calls: leaves only, never forgets, narrows, loosens, spares: what holds at each moment
 use Rattle.std.specs.Prelude.{◌≡◌, ℕ, ◌≤◌}
 use Rattle.cf_base.specs.declared.file.FileId.{FileId}
 use Rattle.reel_disk.specs.declared.disk.Place.{Place}

@@ -1,8 +1,10 @@
 //! What a crash leaves of a disk in memory.
 ghost use Rattle.std.specs.Prelude.{◌≡◌, ℕ, ◌-◌, List, Option, Some, None, IfOk, OnOk};
 ghost use Rattle.reel_disk.specs.Disk.{Files, SameBut, IsLooseAt, view_of};
-ghost use Rattle.reel_disk.specs.Crash.{IsEach, IsEarlier, IsTurned, IsPicked, IsCrash, WasFirm};
-ghost use Rattle.reel_disk.specs.Memory.{IsLeft, history_of, history_from, find_file, content_of, put_back, loose_before, view_before, is_whole_of, has_byte, is_whole_loose, is_byte_loose, byte_of};
+ghost use Rattle.reel_disk.specs.Crash.{IsEach, IsEarlier, IsTurned, IsPicked, IsCrash};
+ghost use Rattle.reel_disk.specs.inside.Crash.{WasFirm};
+ghost use Rattle.reel_disk.specs.Memory.{history_of, history_from, find_file, content_of, put_back, loose_before, view_before};
+ghost use Rattle.reel_disk.specs.inside.Memory.{IsLeft, is_whole_of, has_byte, is_whole_loose, is_byte_loose, byte_of};
 
 use crate::Place;
 use crate::store::{Step, Store, bytes_of, put};

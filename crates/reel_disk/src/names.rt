@@ -1,6 +1,7 @@
 //! The names of the files of a reel folder.
 ghost use Rattle.std.specs.Prelude.{◌≡◌, IfSome};
-ghost use Rattle.reel_disk.specs.Names.{HasName, file_name};
+ghost use Rattle.reel_disk.specs.Names.{file_name};
+ghost use Rattle.reel_disk.specs.inside.Names.{HasName};
 
 use arrayvec::ArrayString;
 use cf_base::{FileId, frame_file_name};

@@ -1,4 +1,5 @@
 //! The name of a disk on which a run began: what it held, and how it is lent.
+//! * name of a start: what a disk held when a run began, and how it is lent
 use std::marker::Brand;
 
 /// Names what a disk held when a run began, where the disk tells it, and the loans by which the disk is lent. A value that

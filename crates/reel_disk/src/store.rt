@@ -1,7 +1,8 @@
 //! The files of a disk in memory, its loose places, and each step so far with what it takes to go back.
 ghost use Rattle.std.specs.Prelude.{◌≡◌, ◌+◌, ◌-◌, ◌<◌, ◌≤◌, length, take, drop, min, ◌++◌, ◌∷◌, [], OnOk, OnErr, IfOk, MatchOption, Some, None, vec_len, vec_capacity, filter, not};
 ghost use Rattle.reel_disk.specs.Disk.{view_of, HasFailedAt, HasLength, HasWrittenAt, HasWrittenWhole, SameBut, IsStill, IsSynced, IsInFile, with_range, overwritten};
-ghost use Rattle.reel_disk.specs.Memory.{GivesBack, HasRoom, IsSameStore, history_of, find_file, file_of_place, content_of, stored};
+ghost use Rattle.reel_disk.specs.Memory.{history_of, find_file, content_of};
+ghost use Rattle.reel_disk.specs.inside.Memory.{GivesBack, HasRoom, IsSameStore, file_of_place, stored};
 ghost use Rattle.cf_base.specs.FileId.{same_id};
 ghost use Rattle.reel_disk.specs.declared.disk.Did.TheVariants.{Done};
 ghost use Rattle.reel_disk.specs.declared.disk.Length.TheVariants.{There};

@@ -11,7 +11,7 @@ use Rattle.std.proofs.Math.Nat.{mul-le-mul}
 use Rattle.std.proofs.lemmas.Nat.{div-mul-add, div_below, mod-mul-add, mul-add-lt, same_from_place}
 use Rattle.cf_base.proofs.RangeLaws.{range_from_more, range_more}
 use Rattle.conform_job.specs.Job.{JobData}
-use Rattle.reel_qc.specs.Boxes.{AreSums, HasSums, HasPicture, HasRoomAt, IsBoxAt, mean_at, run_start}
+use Rattle.reel_qc.specs.inside.Boxes.{AreSums, HasSums, HasPicture, HasRoomAt, IsBoxAt, mean_at, run_start}
 use Rattle.reel_qc.specs.Counts.{blue_of, green_of, red_of}
 use Rattle.reel_qc.specs.Sheet.{box_colour, box_pixels, boxes_of, rounded_mean}
 use Rattle.reel_qc.specs.declared.boxes.Boxes.{Boxes}

@@ -11,7 +11,7 @@ use Rattle.conform_job.specs.Job.{JobData, file_of}
 use Rattle.frame_render.specs.Frame.{pixel_count}
 use Rattle.reel_disk.specs.Disk.{Files}
 use Rattle.resume_ledger.specs.Look.{ViewState}
-use Rattle.reel_qc.specs.Boxes.{HasPicture, HasPictures, HasSums, IsCell}
+use Rattle.reel_qc.specs.inside.Boxes.{HasPicture, HasPictures, HasSums, IsCell}
 use Rattle.reel_qc.specs.Sheet.{boxes_of, cell_picture, whole_picture}
 use Rattle.reel_qc.specs.Words.{frame_words}
 use Rattle.reel_qc.specs.declared.boxes.Boxes.{Boxes}

@@ -25,7 +25,7 @@ use Rattle.resume_ledger.specs.Ledger.{IsLedgerFile}
 use Rattle.resume_ledger.specs.Look.{ViewState}
 use Rattle.resume_ledger.proofs.Versions.{acks_as, fit_as}
 use Rattle.reel_writer.specs.Reel.{HasAcked, IsSoundReel, frames_of}
-use Rattle.reel_qc.specs.Boxes.{AreCells, HasDrawn, HasPictures, IsDrawn, pictured_line}
+use Rattle.reel_qc.specs.inside.Boxes.{AreCells, HasDrawn, HasPictures, IsDrawn, pictured_line}
 use Rattle.reel_qc.specs.Sheet.{box_colour, cell_frames, cell_height, cell_width, line_colours, picture_at, sheet_colours, sheet_height, sheet_rows, sheet_width, toned, toned_bytes}
 use Rattle.reel_qc.specs.Tones.{IsToneTable}
 use Rattle.reel_qc.specs.declared.boxes.Boxes.{Boxes}

@@ -1,5 +1,7 @@
 -- What is counted over a picture's words (10-bit RGB, filled by method A: R in bits 31 to 22, G in 21 to 12, B in 11 to 2).
-use Rattle.std.specs.Prelude.{◌≡◌, ℕ, ◌+◌, ◌*◌, ◌/◌, ◌%◌, ◌^◌, ◌≤◌, Bool, List, drop, length, map, max, min, nat_le, slice_index, take}
+-- * counts: of the words of a picture: those whose greatest code is 1020 or more (high), those whose least code is 3 or less
+--   (low), all three codes of all of them added up (sum)
+use Rattle.std.specs.Prelude.{◌≡◌, ℕ, ◌+◌, ◌/◌, ◌%◌, ◌^◌, ◌≤◌, Bool, List, length, map, max, min, nat_le, slice_index}
 use Rattle.std.specs.List.{count_by, sum_by}
 use Rattle.reel_qc.specs.declared.probe.ProbeKind.{ProbeKind}
 use Rattle.reel_qc.specs.declared.probe.ProbeKind.TheVariants.{High, Low, Sum}
@@ -48,11 +50,3 @@ counts_of kinds words = map (λ kind. count_of kind words) kinds
 pub record HasAdded (added old new : List ℕ) : Type 0 where
   pub size : length new ≡ length old
   pub each : (k : ℕ) → slice_index new k ≡ (slice_index old k + slice_index added k) % 2 ^ 64
-
--- the n-th of the blocks of 16,384 words, of which the last may be shorter
-abbrev pub block_of : List ℕ → ℕ → List ℕ
-block_of words n = take 16384 (drop (n * 16384) words)
-
--- the counts of the blocks, one after another, each by all kinds
-abbrev pub cell_of : List ProbeKind → List ℕ → ℕ → ℕ
-cell_of kinds words i = slice_index (counts_of kinds (block_of words (i / length kinds))) (i % length kinds)

@@ -1,6 +1,6 @@
-pub mod Boxes
 pub mod Counts
 pub mod Sheet
 pub mod Table
 pub mod Tones
 pub mod Words
+pub mod inside

@@ -1,4 +1,7 @@
 -- The contact sheet: a small picture of each event's first frame, eight side by side. All of it is this project's own rule.
+-- * contact sheet: a cell for each event with record frames, as many as fit into 4096 lines, eight in a row; a pixel for each
+--   box of 16 by 16 of the event's first frame, with the rounded mean of each channel, and the tone's code for it; black where
+--   that frame isn't acknowledged or its file is short, and in a place without a cell; its file, and the greatest code of it
 --     cell_frames job      the record frame of each cell, in list order
 --     sheet_colour job view files x y      the mean colour at column x and line y, before the tone
 --     sheet_file tone job view files      the file: its header (SMPTE 268M), then its words
@@ -100,9 +103,6 @@ sheet_colour job view files x y =
 -- a line from the left, those of a row of cells, and all lines from the top
 abbrev pub line_colours : JobData → ViewState → Files → ℕ → List (List ℕ)
 line_colours job view files y = map (λ x. sheet_colour job view files x y) (range_with_len 0 (sheet_width job))
-
-abbrev pub row_colours : JobData → ViewState → Files → ℕ → List (List ℕ)
-row_colours job view files row = flat_map (line_colours job view files) (range_with_len (row * cell_height job) (cell_height job))
 
 abbrev pub sheet_colours : JobData → ViewState → Files → List (List ℕ)
 sheet_colours job view files = flat_map (line_colours job view files) (range_with_len 0 (sheet_height job))

@@ -1,18 +1,19 @@
 -- The quality table: a line for each acknowledged frame, with the counts over its file. The text is this project's own rule.
+-- * quality table: the line of the kinds; for each acknowledged frame, in order, its number and the count of each kind over its
+--   file; how many lines these are
 --     quality_table kinds job view files      the table of what a view acknowledges, over these files
 --     defined_table kinds job world view      the same over the definition's files
 --     IsTable kinds view text      a table of some words for each of these frames: what is known over a disk that doesn't tell
-use Rattle.std.specs.Prelude.{◌≡◌, ℕ, ◌^◌, ◌<◌, ◌≤◌, Bool, true, false, Vec, List, [], ◌∷◌, ◌++◌, length, map, filter, slice_index, slice_index_or, codes, decimal, Some}
+use Rattle.std.specs.Prelude.{◌≡◌, ℕ, false, List, [], ◌∷◌, ◌++◌, length, map, filter, slice_index_or, codes, decimal, Some}
 use Rattle.std.specs.List.{flat_map, range_with_len}
 use Rattle.conform_job.specs.Job.{JobData, file_of}
 use Rattle.printed_text.specs.Text.{spaced_line}
-use Rattle.std.specs.declared.alloc.Global.{Global}
-use Rattle.reel_disk.specs.Disk.{Files, History, view_of}
+use Rattle.reel_disk.specs.Disk.{Files}
 use Rattle.scan_source.specs.World.{World, file_at}
 use Rattle.frame_render.specs.Frame.{frame_file}
 use Rattle.resume_ledger.specs.Look.{ViewState, IsViewOf}
 use Rattle.reel_writer.specs.Reel.{frames_of, IsSoundReel}
-use Rattle.reel_qc.specs.Counts.{HasAdded, count_of, counts_of}
+use Rattle.reel_qc.specs.Counts.{count_of}
 use Rattle.reel_qc.specs.Words.{frame_words}
 use Rattle.reel_qc.specs.declared.probe.ProbeKind.{ProbeKind}
 use Rattle.reel_qc.specs.declared.probe.ProbeKind.TheVariants.{High, Low, Sum}
@@ -69,35 +70,3 @@ pub record IsTable (kinds : List ProbeKind) (view : ViewState) (text : List ℕ)
   pub form : text ≡ table_of kinds rows
 
 -- The rest is said of a part of the table.
-
--- The counts of some words, at most so many, are added to these. Where the files are told, they are the words of the files.
-pub record AddsCounts (kinds : List ProbeKind) (Told : Type 0) (exact : List ℕ) (most : ℕ) (old new : List ℕ) : Type 0 where
-  pub words : List ℕ
-  pub told : Told → words ≡ exact
-  pub few : length words ≤ most
-  pub small : (k : ℕ) → slice_index words k < 2 ^ 32
-  pub added : HasAdded (counts_of kinds words) old new
-
--- The counts are those of some words. Where the files are told, they are these words.
-pub record HasCounted (kinds : List ProbeKind) (Told : Type 0) (exact counts : List ℕ) : Type 0 where
-  pub words : List ℕ
-  pub told : Told → words ≡ exact
-  pub counts_are : counts ≡ counts_of kinds words
-
--- The lines of those frames, some number of them, stand behind the text. Where the files are told, they are those of the files.
-pub record HasRows (kinds : List ProbeKind) (job : JobData) (Told : Type 0) (files : Files) (frames : List ℕ)
-    (old new : List ℕ) (number : ℕ) : Type 0 where
-  pub rows : List Row
-  pub frames_are : map (λ (row : Row). row.frame) rows ≡ frames
-  pub rows_are : Told → rows ≡ map (row_of job files) frames
-  pub text : new ≡ old ++ flat_map (row_line kinds) rows
-  pub number_is : number ≡ length rows
-
--- the lines of all frames that a view acknowledges, and that of one frame where it does, by what the disk tells
-abbrev pub AddsRows : List ProbeKind → JobData → ViewState → Bool → History → (old new : Vec ℕ Global) → ℕ → Type 0
-AddsRows kinds job view tells history old new number =
-    HasRows kinds job (tells ≡ true) (view_of history) (acked_frames view) old.items new.items number
-
-abbrev pub AddsRow : List ProbeKind → JobData → ViewState → ℕ → Bool → History → (old new : Vec ℕ Global) → ℕ → Type 0
-AddsRow kinds job view i tells history old new number =
-    HasRows kinds job (tells ≡ true) (view_of history) (acked_of view (i ∷ [])) old.items new.items number

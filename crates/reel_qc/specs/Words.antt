@@ -1,4 +1,6 @@
 -- The words of a frame's file (SMPTE 268M: 10-bit RGB in words of four bytes, from byte 2048 on).
+-- * words of a frame's file: its big-endian words from byte 2048 on, as many as are whole and at most as many as the frame has
+--   pixels; none without a file
 --     frame_words job file      its words, as many as are whole and at most as many as the frame has pixels; none without a file
 use Rattle.std.specs.Prelude.{ℕ, ◌+◌, ◌-◌, ◌*◌, ◌/◌, min, List, [], length, drop, map, Option, Some, None}
 use Rattle.std.specs.List.{range_with_len}

@@ -1,5 +1,6 @@
 //! The counts of several probes over many words, block by block, by one thread or by several.
-ghost use Rattle.reel_qc.specs.Counts.{HasAdded, block_of, cell_of, count_of, counts_of};
+ghost use Rattle.reel_qc.specs.Counts.{HasAdded, count_of, counts_of};
+ghost use Rattle.reel_qc.specs.inside.Counts.{block_of, cell_of};
 ghost use Rattle.std.specs.Prelude.{◌≡◌, ℕ, ◌+◌, ◌*◌, ◌/◌, ◌%◌, ◌<◌, ◌≤◌, OnOk, drop, length, map, slice_index, take};
 
 use crate::probe::Probe;

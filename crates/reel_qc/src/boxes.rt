@@ -2,7 +2,7 @@
 ghost use Rattle.std.specs.Prelude.{◌≡◌, ◌+◌, ◌*◌, ◌/◌, ◌<◌, ◌≤◌, ℕ, List, Option, Some, set, length, slice_index, IfOk};
 ghost use Rattle.std.specs.List.{sum_by};
 ghost use Rattle.cf_base.specs.Rgb.{codes_of};
-ghost use Rattle.reel_qc.specs.Boxes.{HasPicture, HasRoomAt, HasSums, IsBoxAt, mean_at, run_start};
+ghost use Rattle.reel_qc.specs.inside.Boxes.{HasPicture, HasRoomAt, HasSums, IsBoxAt, mean_at, run_start};
 ghost use Rattle.reel_qc.specs.Counts.{blue_of, green_of, red_of};
 ghost use Rattle.reel_qc.specs.Sheet.{boxes_of, box_colour, cell_height, cell_width, rounded_mean};
 

@@ -6,7 +6,7 @@ ghost use Rattle.record_timeline.specs.Accepted.{first_frame, frame_count};
 ghost use Rattle.cf_base.specs.Count.{HasCause};
 ghost use Rattle.reel_disk.specs.Disk.{view_of, IsStill};
 ghost use Rattle.reel_writer.specs.Reel.{frames_of};
-ghost use Rattle.reel_qc.specs.Boxes.{HasPicture, IsCell, HasRow};
+ghost use Rattle.reel_qc.specs.inside.Boxes.{HasPicture, IsCell, HasRow};
 ghost use Rattle.reel_qc.specs.Sheet.{cell_frames, cell_picture, first_frames, frames_in, most_cells, place_picture, whole_picture};
 
 use crate::boxes::{Boxes, boxes_of};

@@ -4,7 +4,7 @@ ghost use Rattle.cf_base.specs.Count.{HasCause};
 ghost use Rattle.conform_job.specs.Job.{file_of};
 ghost use Rattle.reel_disk.specs.Disk.{view_of, IsStill};
 ghost use Rattle.reel_writer.specs.Reel.{frames_of};
-ghost use Rattle.reel_qc.specs.Table.{AddsCounts, HasCounted};
+ghost use Rattle.reel_qc.specs.inside.Table.{AddsCounts, HasCounted};
 ghost use Rattle.reel_qc.specs.Words.{frame_words, words_in};
 
 use crate::counter::Counter;

@@ -2,7 +2,7 @@
 ghost use Rattle.std.specs.Prelude.{◌≡◌, ◌++◌, ◌+◌, ◌*◌, ◌/◌, ◌%◌, ◌<◌, ◌≤◌, ℕ, List, Option, length, max, slice_index, OnOk};
 ghost use Rattle.std.specs.List.{fold};
 ghost use Rattle.cf_base.specs.Rgb.{codes_of};
-ghost use Rattle.reel_qc.specs.Boxes.{AreCells, DrawsCells, at_pixel, pictured_line, pictured_row, IsPictured};
+ghost use Rattle.reel_qc.specs.inside.Boxes.{AreCells, DrawsCells, at_pixel, pictured_line, pictured_row, IsPictured};
 ghost use Rattle.reel_qc.specs.Sheet.{sheet_width, toned, toned_bytes};
 
 use crate::boxes::{Boxes, boxes_of, cell_colour};

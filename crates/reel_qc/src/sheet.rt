@@ -7,7 +7,7 @@ ghost use Rattle.reel_disk.specs.Disk.{view_of, IsStill};
 ghost use Rattle.reel_disk.specs.Runs.{Extends, Spares, StaysSo};
 ghost use Rattle.reel_writer.specs.Reel.{frames_of, HasAcked, IsSoundReel};
 ghost use Rattle.scan_source.specs.World.{World};
-ghost use Rattle.reel_qc.specs.Boxes.{DrawsRow, DrawsSheet};
+ghost use Rattle.reel_qc.specs.inside.Boxes.{DrawsRow, DrawsSheet};
 ghost use Rattle.reel_qc.specs.Sheet.{cell_frames, cell_height, sheet_file, sheet_head, sheet_peak, sheet_rows, HasWrittenSheet};
 
 use crate::boxes::boxes_of;

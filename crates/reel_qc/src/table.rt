@@ -4,7 +4,8 @@ ghost use Rattle.cf_base.specs.Count.{HasCause};
 ghost use Rattle.printed_text.specs.Text.{spaced_line};
 ghost use Rattle.reel_disk.specs.Disk.{view_of, IsStill};
 ghost use Rattle.reel_writer.specs.Reel.{frames_of};
-ghost use Rattle.reel_qc.specs.Table.{AddsRow, AddsRows, IsTable, kind_word, quality_table, IsDefinedWhereSound};
+ghost use Rattle.reel_qc.specs.Table.{IsTable, kind_word, quality_table, IsDefinedWhereSound};
+ghost use Rattle.reel_qc.specs.inside.Table.{AddsRow, AddsRows};
 
 use crate::counter::Counter;
 use crate::counting::count_frame;

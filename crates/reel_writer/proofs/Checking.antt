@@ -14,7 +14,8 @@ use Rattle.resume_ledger.specs.Hash.{digest_of_file}
 use Rattle.resume_ledger.specs.Look.{ViewState, hash_at, IsRecordIn, IsViewOf}
 use Rattle.resume_ledger.proofs.Bodies.{some_same}
 use Rattle.reel_writer.specs.Reel.{frames_of, IsSoundReel}
-use Rattle.reel_writer.specs.Damage.{IsDamaged, AreIntact, HasChecked, HasCheckedOne}
+use Rattle.reel_writer.specs.Damage.{IsDamaged, AreIntact, HasChecked}
+use Rattle.reel_writer.specs.inside.Damage.{HasCheckedOne}
 use Rattle.reel_writer.specs.declared.damage.CheckFault.{CheckFault}
 use Rattle.reel_writer.specs.declared.damage.CheckFault.TheVariants.{Damaged, DiskFault, NoMemory}
 

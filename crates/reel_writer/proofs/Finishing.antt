@@ -16,7 +16,8 @@ use Rattle.resume_ledger.specs.Steps.{IsPut}
 use Rattle.resume_ledger.proofs.LawProofs.{agrees_spared}
 use Rattle.resume_ledger.proofs.Versions.{frame_apart, agrees_shown, acks_as, fit_as}
 use Rattle.resume_ledger.proofs.Writing.{put_extends, put_leaves, put_keeps}
-use Rattle.reel_writer.specs.Reel.{HasFrame, HasStored, IsWrittenFile, IsFinishing}
+use Rattle.reel_writer.specs.Reel.{HasStored, IsWrittenFile}
+use Rattle.reel_writer.specs.inside.Reel.{HasFrame, IsFinishing}
 
 module _ (digest : List ℕ) (count i : ℕ) (file : FileId) (bytes : List ℕ) where
   -- one step, and then another

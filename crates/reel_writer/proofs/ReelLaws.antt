@@ -17,7 +17,8 @@ use Rattle.resume_ledger.specs.Sound.{file_at as listed_at, IsReel, IsFrameFile,
 use Rattle.resume_ledger.specs.Attach.{HasAttached}
 use Rattle.resume_ledger.specs.declared.attach.OpenFault.{OpenFault}
 use Rattle.resume_ledger.proofs.LawProofs.{sound_has_files}
-use Rattle.reel_writer.specs.Reel.{frames_of, reel_of, HasAcked, HasFrameFiles, KeepsReel, IsSoundReel, IsReelRun, HasFrame, IsFinishing}
+use Rattle.reel_writer.specs.Reel.{frames_of, reel_of, HasAcked, HasFrameFiles, KeepsReel, IsSoundReel, IsReelRun}
+use Rattle.reel_writer.specs.inside.Reel.{HasFrame, IsFinishing}
 
 module _ (job : JobData) where
   pub is_reel : (world : World) → IsReel (frames_of job) (reel_of job (file_at world))

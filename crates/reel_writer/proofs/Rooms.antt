@@ -9,7 +9,7 @@ use Rattle.conform_job.specs.Job.{JobData, file_of}
 use Rattle.reel_disk.specs.Disk.{Files}
 use Rattle.resume_ledger.specs.Hash.{digest_of_file}
 use Rattle.sha2.specs.Sha256.{sha256}
-use Rattle.reel_writer.specs.Ahead.{HasFile, HasDigest}
+use Rattle.reel_writer.specs.inside.Ahead.{HasFile, HasDigest}
 
 -- nothing is said of free rooms
 pub free_digests : (job : JobData) (files : Files) (size : ℕ) (rooms : List Room) → All (IsFree size) rooms → All (HasDigest job files) rooms

@@ -7,7 +7,8 @@ use Rattle.reel_disk.specs.Disk.{Files, History, moment_of, view_of, file_of as 
 use Rattle.reel_disk.proofs.Moments.{keeps_start}
 use Rattle.resume_ledger.specs.Ledger.{Agrees, LedgerState}
 use Rattle.resume_ledger.specs.Sound.{WritesOnly}
-use Rattle.reel_writer.specs.Changes.{HasKept, IsOwnFile, IsRunFile, IsUnkeptFile, MayWrite}
+use Rattle.reel_writer.specs.Changes.{HasKept, IsOwnFile, IsUnkeptFile, MayWrite}
+use Rattle.reel_writer.specs.inside.Changes.{IsRunFile}
 use Rattle.reel_writer.specs.Reel.{frames_of, HasAcked, HasFrameFiles, IsWrittenFile, KeepsReel}
 
 -- no call loses no acknowledgement

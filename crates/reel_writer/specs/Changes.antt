@@ -1,10 +1,9 @@
 -- Which files a run of a job may change in its folder. All of it is this project's own rule.
+-- * files of a run: which frames an opening keeps; which files a run may change, and which it writes
 --     HasKept      an opening of the folder keeps the frame acknowledged
 --     IsOwnFile, MayWrite      which files a run may change, and which it writes
---     IsRunFile      which it writes once the folder is open
-use Rattle.std.specs.Prelude.{◌≡◌, ◌⊎◌, ℕ, ◌<◌, Bool, false, List, slice_index_or}
+use Rattle.std.specs.Prelude.{◌≡◌, ◌⊎◌, ℕ, ◌<◌}
 use Rattle.cf_base.specs.declared.file.FileId.{FileId}
-use Rattle.cf_base.specs.declared.file.FileId.TheVariants.{Body2}
 use Rattle.conform_job.specs.Job.{JobData, file_of}
 use Rattle.frame_render.specs.Frame.{frame_size}
 use Rattle.reel_disk.specs.Disk.{Files}
@@ -30,9 +29,3 @@ IsOwnFile job before q = IsLedgerFile q ⊎ IsUnkeptFile job before q
 -- what a run writes: of the ledger's files those of version 2 alone
 abbrev pub MayWrite : JobData → Files → FileId → Type 0
 MayWrite job before q = IsWrittenLedgerFile q ⊎ IsUnkeptFile job before q
-
--- what a run writes once the folder is open: the ledger's body, and the files of frames whose gate
--- is closed
-abbrev pub IsRunFile : JobData → List Bool → FileId → Type 0
-IsRunFile job gates q = (q ≡ Body2)
-    ⊎ ((i : ℕ) × (i < frames_of job) × (slice_index_or gates i false ≡ false) × (q ≡ file_of job i))

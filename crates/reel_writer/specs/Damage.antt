@@ -1,8 +1,9 @@
 -- Damage: a frame whose file has another SHA-256 than the ledger keeps of it. All of it is this
 -- project's own rule.
+-- * damage: a frame whose file has another SHA-256 than its record; the first one
 --     IsDamaged      a frame that is damaged
 --     HasChecked      what a check of the reel's files finds
-use Rattle.std.specs.Prelude.{◌≡◌, ◌≢◌, ℕ, ◌<◌, List, length, map, cond, count_by, is_some, Some, Result, Ok, Err}
+use Rattle.std.specs.Prelude.{◌≡◌, ◌≢◌, ℕ, ◌<◌, List, length, map, count_by, is_some, Some, Result, Ok, Err}
 use Rattle.std.specs.List.{range_with_len}
 use Rattle.scan_source.specs.World.{World}
 use Rattle.conform_job.specs.Job.{JobData, file_of}
@@ -53,18 +54,3 @@ IsCheckFor job view (Err DiskFault) = Unit {0}
 IsCheckFor job view (Err NoMemory) = Unit {0}
 
 -- The rest is said of one frame, which has one record or none.
-
-abbrev pub HasCheckedOne : JobData → ViewState → Files → ℕ → Result ℕ CheckFault → Type 0
-HasCheckedOne job view files i (Ok records) = (kept found : List ℕ)
-    → IsDamaged job view files i kept found → ⊥
-HasCheckedOne job view files i (Err (Damaged frame kept found)) =
-    (frame ≡ i) × IsDamaged job view files i kept found
-HasCheckedOne job view files i (Err DiskFault) = Unit {0}
-HasCheckedOne job view files i (Err NoMemory) = Unit {0}
-
-abbrev pub IsCheckOneFor : ViewState → ℕ → Result ℕ CheckFault → Type 0
-IsCheckOneFor view i (Ok records) = records ≡ cond (is_some (hash_at view i)) 1 0
-IsCheckOneFor view i (Err (Damaged frame kept found)) =
-    (frame ≡ i) × (hash_at view i ≡ Some kept) × (kept ≢ found)
-IsCheckOneFor view i (Err DiskFault) = Unit {0}
-IsCheckOneFor view i (Err NoMemory) = Unit {0}

@@ -1,6 +1,6 @@
-pub mod Ahead
 pub mod Changes
 pub mod Damage
 pub mod Leaves
 pub mod Reel
 pub mod View
+pub mod inside

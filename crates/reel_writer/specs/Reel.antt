@@ -1,25 +1,25 @@
 -- The reel of a job, and what a run of calls on its folder keeps. All of it is this project's own
 -- rule.
+-- * run of calls on a reel: what a part of a finish keeps; no acknowledgement is lost; begun on sound and fit files, whatever a
+--   crash leaves at any moment is sound and fit, for the frame files of the definition; a file that is there with just these
+--   bytes; what the call that acknowledges a frame makes of the ledger
 --     frames_of job      how many frames the reel has
 --     reel_of job files      for each frame its file and its bytes
 --     IsReelRun job told old new      what each call on the reel keeps, and so does each run of them
---     Acknowledges      what a call that acknowledges a frame makes of the ledger
-use Rattle.std.specs.Prelude.{◌≡◌, ◌≢◌, ◌⊎◌, ℕ, ◌<◌, Bool, true, List, length, set, Option, Some, IfSome, Result, OnOk, OnErr}
+use Rattle.std.specs.Prelude.{◌≡◌, ◌⊎◌, ℕ, List, length, Option, Some, IfSome, Result}
 use Rattle.cf_base.specs.declared.file.FileId.{FileId}
 use Rattle.cf_base.specs.declared.file.FileId.TheVariants.{Body2}
-use Rattle.sha2.specs.Sha256.{sha256}
 use Rattle.scan_source.specs.World.{World, file_at}
 use Rattle.record_timeline.specs.Accepted.{frame_count}
 use Rattle.conform_job.specs.Job.{JobData, file_of}
 use Rattle.conform_job.specs.Refusals as sources
 use Rattle.frame_render.specs.Frame.{frame_file, frame_size}
-use Rattle.reel_disk.specs.Disk.{Files, History, IsFirm, Moment, loose_of, view_of}
-use Rattle.reel_disk.specs.declared.disk.DiskFault.{DiskFault}
-use Rattle.reel_disk.specs.Runs.{Extends, NeverForgets, Spares, StaysSo, Surely}
+use Rattle.reel_disk.specs.Disk.{Files, History, view_of}
+use Rattle.reel_disk.specs.Runs.{Extends, NeverForgets, StaysSo}
 use Rattle.resume_ledger.specs.Attach.{HasAttached}
-use Rattle.resume_ledger.specs.Ledger.{Acks, Agrees, LedgerState}
+use Rattle.resume_ledger.specs.Ledger.{Acks, LedgerState}
 use Rattle.resume_ledger.specs.declared.attach.OpenFault.{OpenFault}
-use Rattle.resume_ledger.specs.Sound.{Reel, IsFrameFile, IsReel, IsSoundAndFit, StaysSound, KeepsAcks, AddsAtMost, HasItsFiles}
+use Rattle.resume_ledger.specs.Sound.{Reel, IsSoundAndFit, HasItsFiles}
 
 abbrev pub frames_of : JobData → ℕ
 frames_of job = frame_count job.parts.timeline.events
@@ -64,40 +64,6 @@ pub record IsReelRun (job : JobData) (told : Option World) (old new : History) :
 
 -- The rest is said of the steps of a finish.
 
--- frame i of a reel has this file, which no other frame has, and these bytes
-pub record HasFrame (count : ℕ) (reel : Reel) (i : ℕ) (file : FileId)
-    (bytes : List ℕ) : Type 0 where
-  pub named : (reel i).0 ≡ file
-  pub holds : (reel i).1 ≡ bytes
-  pub apart : (k : ℕ) → k < count → k ≢ i → (reel k).0 ≢ file
-
 -- what a finish of this file may write
 abbrev pub IsWrittenFile : FileId → FileId → Type 0
 IsWrittenFile file q = (q ≡ file) ⊎ (q ≡ Body2)
-
--- What a part of the finish of frame i keeps at each moment: no acknowledgement is lost, the reel
--- stays sound and fit, and all other frames and files stay as they were.
-pub record IsFinishing (digest : List ℕ) (count i : ℕ) (file : FileId) (bytes : List ℕ)
-    (old new : History) : Type 0 where
-  pub past : Extends old new
-  pub keeps : KeepsAcks digest count old new
-  pub sound : (reel : Reel) → IsReel count reel → HasFrame count reel i file bytes
-      → StaysSound digest count reel old new
-  pub others : AddsAtMost i digest count old new
-  pub spares : Spares old new (IsWrittenFile file)
-
--- The same for each frame file with this hash that is stored before the part begins.
-abbrev pub FinishesStored : List ℕ → ℕ → ℕ → List ℕ → History → History → Type 0
-FinishesStored digest count i hash old new = (file : FileId) (bytes : List ℕ) → IsFrameFile file
-    → hash ≡ sha256 bytes → view_of old file ≡ Some bytes → IsFirm (loose_of old) file
-    → IsFinishing digest count i file bytes old new
-
--- Frame i is acknowledged, at this moment and after each crash, and its gate is the only one that changed. Where that failed, the
--- ledger in memory says what it said.
-pub record Acknowledges (tells : Bool) (i : ℕ) (result : Result (Unit {0}) DiskFault) (moment : Moment)
-    (old new : LedgerState) : Type 0 where
-  pub acked : OnOk result (tells ≡ true → Surely moment (Acks old.digest (length old.gates) i))
-  pub agrees : OnOk result (tells ≡ true → Agrees moment new)
-  pub marked : OnOk result (new ≡ record old { gates = set old.gates i true })
-  pub digest : OnErr result (new.digest ≡ old.digest)
-  pub gates : OnErr result (new.gates ≡ old.gates)

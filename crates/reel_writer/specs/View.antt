@@ -1,4 +1,5 @@
 -- A reel that is being written, as contracts see it.
+-- * reel that is written: its disk, its ledger, and the frames finished in this run
 --     ReelView      its disk, its ledger, the frames finished in this run, and how many were acknowledged before
 --     after_finish, after_fault      what a finish makes of it
 --     IsReelOf      what holds of every reel of a job

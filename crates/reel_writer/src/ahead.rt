@@ -3,7 +3,7 @@ ghost use Rattle.std.specs.Prelude.{◌≡◌, ◌<◌, true, length, All, OnOk,
 ghost use Rattle.conform_job.specs.Job.{JobData, file_of};
 ghost use Rattle.reel_disk.specs.Disk.{Files, view_of, IsStill};
 ghost use Rattle.resume_ledger.specs.Hash.{digest_of_file};
-ghost use Rattle.reel_writer.specs.Ahead.{HasDigest, HasFile};
+ghost use Rattle.reel_writer.specs.inside.Ahead.{HasDigest, HasFile};
 ghost use Rattle.reel_writer.specs.Leaves.{LeavesDisk};
 ghost use Rattle.reel_writer.specs.Reel.{frames_of};
 

@@ -3,10 +3,11 @@ ghost use Rattle.std.specs.Prelude.{◌≡◌, ◌<◌, true, length, All, Err, 
 ghost use Rattle.reel_disk.specs.Disk.{view_of, IsStill};
 ghost use Rattle.conform_job.specs.Job.{file_of};
 ghost use Rattle.resume_ledger.specs.Hash.{digest_of_file};
-ghost use Rattle.reel_writer.specs.Ahead.{HasDigest};
+ghost use Rattle.reel_writer.specs.inside.Ahead.{HasDigest};
 ghost use Rattle.reel_writer.specs.Leaves.{LeavesDisk};
 ghost use Rattle.reel_writer.specs.Reel.{frames_of};
-ghost use Rattle.reel_writer.specs.Damage.{HasChecked, IsCheckFor, HasCheckedOne, IsCheckOneFor, IsIntactWhereSound};
+ghost use Rattle.reel_writer.specs.Damage.{HasChecked, IsCheckFor, IsIntactWhereSound};
+ghost use Rattle.reel_writer.specs.inside.Damage.{HasCheckedOne, IsCheckOneFor};
 
 use crate::ahead::{digest_in, fill_rooms};
 use crate::files::frame_len;

@@ -7,7 +7,8 @@ ghost use Rattle.reel_disk.specs.Runs.{Extends, Spares, Surely};
 ghost use Rattle.resume_ledger.specs.Ledger.{Agrees};
 ghost use Rattle.resume_ledger.specs.Sound.{IsFrameFile};
 ghost use Rattle.reel_writer.specs.Leaves.{LeavesDisk};
-ghost use Rattle.reel_writer.specs.Reel.{Acknowledges, FinishesStored, HasStored, IsFinishing};
+ghost use Rattle.reel_writer.specs.Reel.{HasStored};
+ghost use Rattle.reel_writer.specs.inside.Reel.{Acknowledges, FinishesStored, IsFinishing};
 
 use cf_base::FileId;
 use reel_disk::{Disk, DiskFault};

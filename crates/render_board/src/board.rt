@@ -2,7 +2,7 @@
 ghost use Rattle.std.specs.Prelude.{◌≡◌, ◌≢◌, ◌<◌, ◌≤◌, length, [], IfOk, IfSome, true, false};
 ghost use Rattle.render_board.specs.declared.board.Turn.TheVariants as turns;
 ghost use Rattle.render_board.specs.Board.{IsLegal, turn_of, claim_of, least_free, after_claim, with_step};
-ghost use Rattle.render_board.specs.Inside.{IsLeastFree};
+ghost use Rattle.render_board.specs.inside.Inside.{IsLeastFree};
 
 use crate::step::{History, Step, Why};
 use cf_base::{Fail, Never};
@@ -61,7 +61,7 @@ impl Model for Board {
 
     ghost view = { λ b. record { start = b.start.items; low = b.low; high = b.high; workers = b.workers; steps = b.history.items } };
 
-    ghost use Rattle.render_board.specs.Inside.{IsBoard};
+    ghost use Rattle.render_board.specs.inside.Inside.{IsBoard};
 
     ghost invariant = { IsBoard };
 }

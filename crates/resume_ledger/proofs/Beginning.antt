@@ -15,7 +15,8 @@ use Rattle.resume_ledger.specs.declared.layout.Version.TheVariants.{One, Two}
 use Rattle.resume_ledger.specs.Body.{layout_of}
 use Rattle.resume_ledger.specs.Ledger.{IsLedgerFile, IsWrittenLedgerFile, IsInForce, HasOwn, Acks, IsFit}
 use Rattle.resume_ledger.specs.Sound.{Reel, IsFrameFile, IsSoundAt, IsSoundAndFit, IsNamed, HasItsFiles}
-use Rattle.resume_ledger.specs.Steps.{IsPut, IsFirmly, IsOlder, IsFirstBody, IsOpeningPart}
+use Rattle.resume_ledger.specs.Steps.{IsPut, IsFirmly}
+use Rattle.resume_ledger.specs.inside.Steps.{IsOlder, IsFirstBody, IsOpeningPart}
 use Rattle.resume_ledger.proofs.Bodies.{some_same}
 use Rattle.resume_ledger.proofs.Versions.{acks_gate, fit_by, frame_apart}
 use Rattle.resume_ledger.proofs.Reading.{spares_writes}

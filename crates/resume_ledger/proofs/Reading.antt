@@ -17,7 +17,7 @@ use Rattle.resume_ledger.specs.Body.{layout_of}
 use Rattle.resume_ledger.specs.Ledger.{IsLedgerFile, IsWrittenLedgerFile, Acks}
 use Rattle.resume_ledger.specs.Sound.{WritesOnly, IsSoundAndFit, Possibly, HasItsFiles}
 use Rattle.resume_ledger.specs.Attach.{IsUnwritten}
-use Rattle.resume_ledger.specs.Steps.{IsReading, IsOpeningPart}
+use Rattle.resume_ledger.specs.inside.Steps.{IsReading, IsOpeningPart}
 
 -- no call at all
 pub narrows_itself : (h : History) → Narrows h h

@@ -12,7 +12,7 @@ use Rattle.resume_ledger.specs.declared.layout.Version.TheVariants.{One, Two}
 use Rattle.resume_ledger.specs.Body.{layout_of, IsOwn, closed_body}
 use Rattle.resume_ledger.specs.Ledger.{LedgerState, HasSeal, IsInForce, IsFit, AreGatesOf, AreFlagsOf}
 use Rattle.resume_ledger.specs.Attach.{IsOpened, IsOpenFor}
-use Rattle.resume_ledger.specs.Steps.{IsReadFirmly, IsAckedFirmly, IsOlder, IsFirstBody, HasFirstBody, IsReadyFor, AreRecorded, IsBegun}
+use Rattle.resume_ledger.specs.inside.Steps.{IsReadFirmly, IsAckedFirmly, IsOlder, IsFirstBody, HasFirstBody, IsReadyFor, AreRecorded, IsBegun}
 use Rattle.resume_ledger.proofs.Attaching.{refused_along}
 use Rattle.resume_ledger.proofs.Bodies.{closed_is_own, closed_shut, own_by_head}
 use Rattle.resume_ledger.proofs.Versions.{fit_by, flag_open, open_flag}

@@ -1,4 +1,5 @@
 -- What an attach answers.
+-- * opening: which answer comes, by the view at the start; which frames a taking over keeps
 --     HasAttached       over a disk that tells
 --     IsAnswerTo        over any disk
 use Rattle.std.specs.Prelude.{◌≡◌, ◌≢◌, ◌↔◌, ℕ, true, false, List, length, slice_index_or, Option, Some, None, Result, Ok, Err}
@@ -92,10 +93,6 @@ HasAttached digest count name size old new (Err fault) = IsRefused digest count 
 -- the same, of the files of the frames in their order
 abbrev pub HasAttachedTo : List ℕ → List FileId → ℕ → History → History → Result LedgerState OpenFault → Type 0
 HasAttachedTo digest files size old new result = HasAttached digest (length files) (file_at files) size old new result
-
--- the same, whatever files the frames have, as where version 2 counts
-abbrev pub HasAttachedSecond : List ℕ → ℕ → History → History → Result LedgerState OpenFault → Type 0
-HasAttachedSecond digest count old new result = (name : ℕ → FileId) (size : ℕ) → HasAttached digest count name size old new result
 
 -- What a refusal says of the job, also over a disk that does not tell.
 abbrev pub IsRefusalFor : List ℕ → OpenFault → Type 0

@@ -1,11 +1,12 @@
 -- The bytes of a ledger's two files, by its version: the seal, and the body with a gate for each frame. All of it is this
 -- project's own rule.
+-- * seal, body, gates: the bytes of the ledger's files, well formed and a job's own
 --     layout_of          what the versions differ in
 --     closed_body         the body of a job without an acknowledged frame
 --     IsWellFormed        a body of any job
 --     IsOwn               a body of this job
 --     record_of           what version 2 keeps of a frame's file
-use Rattle.std.specs.Prelude.{◌≡◌, ℕ, ◌+◌, ◌*◌, ◌≤◌, List, [], ◌∷◌, ◌++◌, length, take, drop, replicate, codes, Option, MatchOption}
+use Rattle.std.specs.Prelude.{◌≡◌, ℕ, ◌+◌, ◌*◌, ◌≤◌, List, [], ◌∷◌, ◌++◌, length, take, drop, replicate, codes}
 use Rattle.std.specs.Int.{to_be_bytes}
 use Rattle.std.proofs.Common.{w32}
 use Rattle.cf_base.specs.declared.file.FileId.{FileId}
@@ -78,7 +79,3 @@ record_place i = 65 + 33 * i
 
 abbrev pub record_of : List ℕ → ℕ → List ℕ
 record_of body i = take 32 (drop (record_place i) body)
-
--- for how many frames a body of that length is, where it is for any
-abbrev pub IsCountFor : Layout → ℕ → Option ℕ → Type 0
-IsCountFor layout len count = MatchOption count ((frames : ℕ) → len ≡ layout.size frames → ⊥) (λ frames. len ≡ layout.size frames)

@@ -1,4 +1,7 @@
 -- What the files of a folder acknowledge, and the ledger that was read from them.
+-- * version in force: that of the second seal where it is there, else that of the first
+-- * acknowledges, fit, record: the body in force is the job's and the frame's gate is open; no seal, or the job's body; the
+--   SHA-256 that the second body has of a frame
 --     IsInForce               which version of the ledger counts
 --     IsSealed, Acks, IsFit      of any files
 --     LedgerState, Agrees        the ledger, and that it says what the disk holds

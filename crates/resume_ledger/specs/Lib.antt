@@ -7,3 +7,4 @@ pub mod Look
 pub mod Peek
 pub mod Sound
 pub mod Steps
+pub mod inside

@@ -1,4 +1,5 @@
 -- What a look answers.
+-- * look, peek [Peek]: the frames that the folder acknowledges with their records; how many they are
 --     HasLooked       over a disk that tells
 --     IsLookFor       over any disk
 use Rattle.std.specs.Prelude.{◌≡◌, ℕ, ◌<◌, Bool, false, List, length, slice_index_or, Option, Some, None, Result, Ok, Err, if◌then◌else◌}

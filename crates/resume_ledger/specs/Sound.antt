@@ -1,4 +1,7 @@
 -- What a reel should be, and what a run of calls keeps of it at each moment.
+-- * sound, run: the file of each acknowledged frame is the reel's, and in version 2 its record is that file's SHA-256, for any
+--   map from frames to a file and its bytes; what a run of calls keeps at each moment, and what an opening keeps, which may take
+--   over version 1
 use Rattle.std.specs.Prelude.{◌≡◌, ◌≢◌, ◌↔◌, ℕ, ◌<◌, ◌≤◌, List, length, slice_index_or, Option, Some}
 use Rattle.cf_base.specs.declared.file.FileId.{FileId}
 use Rattle.cf_base.specs.declared.file.FileId.TheVariants.{Frame, Seal}

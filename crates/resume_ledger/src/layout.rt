@@ -1,6 +1,7 @@
 //! The two versions of the ledger, and what they differ in.
 ghost use Rattle.std.specs.Prelude.{◌≡◌, ◌≤◌, IfSome};
-ghost use Rattle.resume_ledger.specs.Body.{IsCountFor, layout_of};
+ghost use Rattle.resume_ledger.specs.Body.{layout_of};
+ghost use Rattle.resume_ledger.specs.inside.Body.{IsCountFor};
 
 use cf_base::FileId;
 

@@ -4,7 +4,7 @@ ghost use Rattle.cf_base.specs.Count.{HasCause};
 ghost use Rattle.reel_disk.specs.Disk.{view_of, IsStill};
 ghost use Rattle.resume_ledger.specs.Body.{layout_of};
 ghost use Rattle.resume_ledger.specs.Ledger.{IsInForce};
-ghost use Rattle.resume_ledger.specs.Steps.{records_in};
+ghost use Rattle.resume_ledger.specs.inside.Steps.{records_in};
 ghost use Rattle.resume_ledger.specs.Look.{hash_at, HasLooked, IsLookFor};
 ghost use Rattle.resume_ledger.specs.Peek.{HasPeeked, IsPeekFor};
 

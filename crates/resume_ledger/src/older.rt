@@ -6,7 +6,7 @@ ghost use Rattle.resume_ledger.specs.Body.{closed_body};
 ghost use Rattle.resume_ledger.specs.Ledger.{IsInForce};
 ghost use Rattle.resume_ledger.specs.Sound.{IsFrameFile, file_at};
 ghost use Rattle.resume_ledger.specs.Attach.{HasAttachedTo, IsAnswerTo};
-ghost use Rattle.resume_ledger.specs.Steps.{IsReading, HasAcked, IsAckedFor, HasFirstBodyOf, IsFirstFor, IsRecorded, OthersKept, AreNoted, IsOpeningPartOf, TakesOver, IsBegun};
+ghost use Rattle.resume_ledger.specs.inside.Steps.{IsReading, HasAcked, IsAckedFor, HasFirstBodyOf, IsFirstFor, IsRecorded, OthersKept, AreNoted, IsOpeningPartOf, TakesOver, IsBegun};
 
 use crate::body::{closed, gates, judge, set_record};
 use crate::hash::hash_of_file;

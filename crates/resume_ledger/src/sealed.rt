@@ -5,7 +5,7 @@ ghost use Rattle.reel_disk.specs.Disk.{view_of, loose_of, IsFirm, IsStill};
 ghost use Rattle.resume_ledger.specs.Body.{layout_of};
 ghost use Rattle.resume_ledger.specs.Ledger.{HasSeal, IsInForce};
 ghost use Rattle.resume_ledger.specs.Attach.{IsAnswerTo};
-ghost use Rattle.resume_ledger.specs.Steps.{IsReading, IsReadFirmly, ReadsBody, HasBody, HasRead, IsVersionOf};
+ghost use Rattle.resume_ledger.specs.inside.Steps.{IsReading, IsReadFirmly, ReadsBody, HasBody, HasRead, IsVersionOf};
 
 use crate::body::judge;
 use crate::layout::Version;
@@ -121,7 +121,7 @@ pub(crate) fn read_body<D: Disk>(
 }
 
 ghost use Rattle.cf_base.specs.declared.file.FileId.TheVariants.{Seal2};
-ghost use Rattle.resume_ledger.specs.Attach.{HasAttachedSecond};
+ghost use Rattle.resume_ledger.specs.inside.Attach.{HasAttachedSecond};
 
 /// Reads the body of a folder that is sealed by version 2.
 pub(crate) fn open_sealed<D: Disk>(

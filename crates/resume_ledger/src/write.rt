@@ -4,7 +4,8 @@ ghost use Rattle.cf_base.specs.Count.{HasCause};
 ghost use Rattle.reel_disk.specs.declared.disk.Place.TheVariants.{Whole, Range};
 ghost use Rattle.reel_disk.specs.Disk.{view_of, IsInFile};
 ghost use Rattle.reel_disk.specs.Runs.{Spares};
-ghost use Rattle.resume_ledger.specs.Steps.{IsPut, IsFirmly, IsPatchedFirmly};
+ghost use Rattle.resume_ledger.specs.Steps.{IsPut, IsFirmly};
+ghost use Rattle.resume_ledger.specs.inside.Steps.{IsPatchedFirmly};
 
 use cf_base::FileId;
 use reel_disk::{Did, Disk, DiskFault};

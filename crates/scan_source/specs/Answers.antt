@@ -1,4 +1,5 @@
 -- What the answers of a scan say of the file at the path.
+-- * loaded, head: what an answer says of the file: its length and first bytes, or that there is none
 use Rattle.std.specs.Prelude.{◌≡◌, ℕ, ◌-◌, min, List, [], ◌++◌, length, take, replicate, Option, None, IsSomeAnd}
 use Rattle.scan_source.specs.declared.scans.Loaded.{Loaded}
 use Rattle.scan_source.specs.declared.scans.Loaded.TheVariants as loaded

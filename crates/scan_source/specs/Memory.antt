@@ -1,4 +1,5 @@
 -- A scan over files in memory as contracts see it, and what it answers to its next call.
+-- * memory: a scan in memory: its files and its plan, and what its next call answers
 use Rattle.std.specs.Prelude.{◌≡◌, ◌↔◌, ℕ, List, map, Contains, Vec}
 use Rattle.std.specs.declared.alloc.Global.{Global}
 use Rattle.scan_source.specs.declared.memory.MemoryScans.{MemoryScans}

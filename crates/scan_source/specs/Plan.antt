@@ -1,4 +1,5 @@
 -- Counts of a scan's calls, and which of its calls fail.
+-- * plan [Planned]: which calls of a scan in memory fail, by their numbers from 1; a call follows it where it is told
 use Rattle.std.specs.Prelude.{◌≡◌, ◌↔◌, ℕ, ◌+◌, ◌-◌, ◌^◌, min, List, Contains, Option, Some}
 
 -- a count after one more: it is kept in 64 bits and stays at its last value

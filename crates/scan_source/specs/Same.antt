@@ -1,4 +1,5 @@
 -- A few texts in memory, and at every other path a file of which no more than one and the same head is known.
+-- * same: a few texts in memory, and at every other path one and the same head, and no file to load
 --     HasLoadedSame, HasLookedSame      what it answers
 --     next_same path same      what there is after a call on that path
 --     faults_in scan      how often it has failed

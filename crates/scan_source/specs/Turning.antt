@@ -1,4 +1,5 @@
 -- Files that change: calls with numbers below a bound go to one scan in memory, and all later ones to another.
+-- * turning: the calls with numbers below a bound go to one scan in memory, and all later ones to another
 --     serving turning      the scan in memory that answers the next call
 --     next_turning turning      what there is after that call
 --     faults_in scan      how often it has failed

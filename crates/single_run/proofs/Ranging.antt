@@ -6,7 +6,8 @@ use Rattle.conform_job.specs.Job.{JobData, file_of}
 use Rattle.reel_disk.specs.Disk.{Files}
 use Rattle.reel_writer.specs.Changes.{HasKept}
 use Rattle.reel_writer.specs.Reel.{IsWrittenFile}
-use Rattle.single_run.specs.Run.{IsOwnFileOf, IsRangeFile, IsUnkeptOf, MayWriteOf}
+use Rattle.single_run.specs.Run.{IsOwnFileOf, IsUnkeptOf, MayWriteOf}
+use Rattle.single_run.specs.inside.Run.{IsRangeFile}
 
 -- what a finish of a frame of the range writes is the run's
 pub range_file : (job : JobData) (low high : ℕ) (gates : List Bool) (i : ℕ) → low ≤ i → i < high → get_or gates i false ≡ false → (q : FileId) → IsWrittenFile (file_of job i) q → IsRangeFile job low high gates q

@@ -14,7 +14,8 @@ use Rattle.source_reels.specs.declared.table.ReelFault.{ReelFault}
 use Rattle.source_reels.specs.declared.table.ReelKind.{ReelKind}
 use Rattle.source_reels.specs.declared.table.ReelKind.TheVariants.{TwoNames, Range}
 use Rattle.source_reels.specs.Laws.{IsNamedBefore, IsPastEnd, IsFaulty, IsGood, FindsFaults, NamesFirstFault}
-use Rattle.source_reels.specs.Reels.{reels_fault, reel_fault_at, kind_after, is_past_end, has_name, NoFaultBefore}
+use Rattle.source_reels.specs.Reels.{reels_fault, reel_fault_at, kind_after, is_past_end, has_name}
+use Rattle.source_reels.specs.inside.Reels.{NoFaultBefore}
 
 -- ---- the whole list
 

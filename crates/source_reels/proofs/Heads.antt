@@ -8,7 +8,8 @@ use Rattle.scan_source.specs.Answers.{first_bytes}
 use Rattle.scan_source.specs.Plan.{Plan, FollowsPlan}
 use Rattle.source_reels.specs.declared.seen.Seen.{Seen}
 use Rattle.source_reels.specs.declared.seen.Seen.TheVariants as seen
-use Rattle.source_reels.specs.Seen.{IsSeen, IsSeenIn, info_of_file}
+use Rattle.source_reels.specs.Seen.{IsSeen, info_of_file}
+use Rattle.source_reels.specs.inside.Seen.{IsSeenIn}
 
 -- what holds of each world holds of the one that is told
 pub told_more : {A : Type 0} (told : Option A) (P Q : A → Type 0) → ((a : A) → P a → Q a) → IfSome told P → IfSome told Q

@@ -12,7 +12,7 @@ use Rattle.std.proofs.lemmas.Map.Text.{is_eq-slice_cmp}
 use Rattle.std.proofs.lemmas.Slice.Eq.{bytes_eq-Decides}
 use Rattle.cf_base.specs.declared.reel.ReelEntry.{ReelEntry}
 use Rattle.source_reels.proofs.Faults.{kind_none}
-use Rattle.source_reels.specs.Places.{HasPlaces, name_cmp}
+use Rattle.source_reels.specs.inside.Places.{HasPlaces, name_cmp}
 use Rattle.source_reels.specs.Reels.{reel_place, has_name, kind_after, is_past_end}
 use Rattle.source_reels.specs.declared.table.ReelKind.TheVariants.{TwoNames, Range}
 

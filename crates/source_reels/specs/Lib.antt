@@ -1,4 +1,4 @@
 pub mod Laws
-pub mod Places
 pub mod Reels
 pub mod Seen
+pub mod inside

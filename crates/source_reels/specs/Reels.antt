@@ -1,10 +1,11 @@
 -- Source reels, their frames and the files of these. All rules here are this project's own.
+-- * reels, paths: the first reel that is refused; the path of a source frame
 --     reel_place entries name      the place of the reel of that name
 --     reels_fault entries      the first reel that is refused
 --     table_of entries      the table of these reels, or that refusal
 --     path_at entries reel source      the path of a source frame's file
 --     key_in entries source reel      the key of a source frame
-use Rattle.std.specs.Prelude.{◌≡◌, ℕ, ℤ, pos, negsuc, ◌+◌, ◌-ℤ◌, ◌<◌, ◌≤◌, Bool, nat_lt, int_le, int_lt, ◌&&◌, ◌||◌, if◌then◌else◌, List, ◌++◌, take, length, All, codes, slice_get, Option, Some, None, Result, Ok, Err, position, option_and_then}
+use Rattle.std.specs.Prelude.{ℕ, ℤ, pos, negsuc, ◌+◌, ◌-ℤ◌, ◌≤◌, Bool, nat_lt, int_le, int_lt, ◌&&◌, ◌||◌, if◌then◌else◌, List, ◌++◌, take, length, All, codes, slice_get, Option, Some, None, Result, Ok, Err, position, option_and_then}
 use Rattle.std.specs.Option.{option_map}
 use Rattle.std.specs.Str.{bytes_eq}
 use Rattle.std.specs.List.{list_any, filter_map, enumerate_from}
@@ -35,10 +36,6 @@ reel_fault_at entries i e = option_map (λ (kind : ReelKind). record { reel = i 
 
 abbrev pub reels_fault : List ReelEntry → Option ReelFault
 reels_fault entries = slice_get (filter_map (λ (p : ℕ × ReelEntry). reel_fault_at entries p.0 p.1) (enumerate_from 0 entries)) 0
-
--- none of the reels before a place is refused
-abbrev pub NoFaultBefore : List ReelEntry → ℕ → Type 0
-NoFaultBefore entries front = (k : ℕ) (e : ReelEntry) → k < front → slice_get entries k ≡ Some e → reel_fault_at entries k e ≡ None
 
 -- the reels, unless one is refused
 abbrev pub unless_refused : {A : Type 0} → A → Option ReelFault → Result A ReelFault

@@ -1,4 +1,5 @@
 -- What the head of a source frame's file says (SMPTE 268M).
+-- * seen: what the head of a file says
 --     info_of_file bytes      what a file says of its pixels, or its first fault
 --     IsSeen seen file      what an answer says of the file at the path
 use Rattle.std.specs.Prelude.{◌≡◌, ℕ, List, length, Option, None, Result, Ok, Err, IsSomeAnd}
@@ -19,13 +20,6 @@ IsSeen (seen.Info info) file = IsSomeAnd file (λ bytes. info_of_file bytes ≡ 
 IsSeen (seen.Bad fault) file = IsSomeAnd file (λ bytes. info_of_file bytes ≡ Err fault)
 IsSeen seen.Absent file = file ≡ None
 IsSeen seen.Fault file = Unit {0}
-
--- the same of a file's head and length
-abbrev pub IsSeenIn : Seen → List ℕ → ℕ → Type 0
-IsSeenIn (seen.Info info) head len = info_of head len ≡ Ok info
-IsSeenIn (seen.Bad fault) head len = info_of head len ≡ Err fault
-IsSeenIn seen.Absent head len = ⊥
-IsSeenIn seen.Fault head len = ⊥
 
 -- what is known of the answer also where the scan tells nothing
 abbrev pub IsSeenFrame : Seen → Type 0

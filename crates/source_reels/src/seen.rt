@@ -3,7 +3,8 @@ ghost use Rattle.std.specs.Prelude.{◌≡◌, ◌≢◌, IfSome};
 ghost use Rattle.scan_source.specs.Plan.{one_more};
 ghost use Rattle.scan_source.specs.Planned.{FollowsIfTold};
 ghost use Rattle.scan_source.specs.World.{file_at};
-ghost use Rattle.source_reels.specs.Seen.{IsSeen, IsSeenFrame, IsSeenIn};
+ghost use Rattle.source_reels.specs.Seen.{IsSeen, IsSeenFrame};
+ghost use Rattle.source_reels.specs.inside.Seen.{IsSeenIn};
 ghost use Rattle.scan_source.specs.Leaves.{LeavesScan};
 
 use cf_base::PathText;

@@ -3,7 +3,7 @@ ghost use Rattle.std.specs.Prelude.{◌≡◌, ◌≤◌, ◌<◌, length, slice
 ghost use Rattle.std.specs.Option.{option_map};
 ghost use Rattle.cf_base.specs.Fail.{Gives};
 ghost use Rattle.cf_base.specs.declared.reel.ReelEntry.{ReelEntry};
-ghost use Rattle.source_reels.specs.Places.{ArePlaced, HasPlaces, IsKindAfter};
+ghost use Rattle.source_reels.specs.inside.Places.{ArePlaced, HasPlaces, IsKindAfter};
 ghost use Rattle.source_reels.specs.Reels.{reel_place, reels_fault, is_past_end, path_at, key_in, IsTabled, table_of};
 
 use crate::path::{key_of, path_of};
@@ -39,7 +39,7 @@ pub struct ReelTable {
 impl Model for ReelTable {
     ghost use Rattle.std.specs.Prelude.{◌≡◌, List, None};
     ghost use Rattle.cf_base.specs.declared.reel.ReelEntry.{ReelEntry};
-    ghost use Rattle.source_reels.specs.Places.{HasPlaces};
+    ghost use Rattle.source_reels.specs.inside.Places.{HasPlaces};
     ghost use Rattle.source_reels.specs.Reels.{IsTabled, reels_fault};
 
     ghost Value = { List ReelEntry };

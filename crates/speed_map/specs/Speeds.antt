@@ -1,4 +1,5 @@
 -- Source offsets under a speed, by the floor rule, which is this project's own.
+-- * source offset: the floor of `j * speed / (100 * rate)`. Law: it is the floor
 --     IsFloor z d q      q is z / d rounded toward minus infinity: z is from d*q to below d*q + d
 --     floor_div z d      that number
 --     source_offset_of rate speed j      how far the source has come after j record frames

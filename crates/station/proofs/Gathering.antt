@@ -14,8 +14,9 @@ use Rattle.render_board.specs.History.{first_why, is_changed, is_disk, is_source
 use Rattle.render_board.specs.Board.{has_stop}
 use Rattle.frame_fetch.specs.declared.run_end.RunEnd.TheVariants.{Done, SourceFault, DiskFault}
 use Rattle.station.specs.Crews.{AreWorked, end_by}
-use Rattle.station.specs.Each.{EachBecame}
-use Rattle.crew_seat.specs.Stepped.{HasWorked, IsFresh, HasStepped, IsReady}
+use Rattle.station.specs.inside.Each.{EachBecame}
+use Rattle.crew_seat.specs.Stepped.{HasWorked, IsFresh, HasStepped}
+use Rattle.crew_seat.specs.inside.Stepped.{IsReady}
 use Rattle.crew_seat.specs.declared.seat.Seat.{Seat}
 use Rattle.frame_fetch.specs.Ends.{IsChange}
 use Rattle.shared_station.specs.Marks.{Tallies}

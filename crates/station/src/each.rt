@@ -1,6 +1,6 @@
 //! Work on each item of a slice, side by side.
 ghost use Rattle.std.specs.Prelude.{◌≡◌, ◌<◌, ◌≤◌, ℕ, All, length, slice_index_or};
-ghost use Rattle.station.specs.Each.{EachBecame};
+ghost use Rattle.station.specs.inside.Each.{EachBecame};
 
 use std::thread;
 use std::thread::Threads;

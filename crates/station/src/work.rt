@@ -1,9 +1,10 @@
 //! A worker in each seat, and what they leave.
 ghost use Rattle.std.specs.Prelude.{◌≡◌, ◌↔◌, ◌<◌, ◌≤◌, ℕ, All, true, length, slice_index_or};
 ghost use Rattle.conform_job.specs.Answers.{AreInfosOf};
-ghost use Rattle.station.specs.Each.{EachBecame};
+ghost use Rattle.station.specs.inside.Each.{EachBecame};
 ghost use Rattle.crew_rest.specs.Left.{HasFinished};
-ghost use Rattle.crew_seat.specs.Stepped.{HasWorked, IsReady};
+ghost use Rattle.crew_seat.specs.Stepped.{HasWorked};
+ghost use Rattle.crew_seat.specs.inside.Stepped.{IsReady};
 
 use crate::each::{Works, work_on_first};
 use conform_job::{Job, Work};
@@ -23,7 +24,8 @@ impl<S: Scans, D: Disk, N: Work + Start, C: Crewed, R: Threads + Wait + Sync> Wo
     ghost use Rattle.std.specs.Prelude.{◌≡◌};
     ghost use denote.Param.Send.{IsSync};
     ghost use Rattle.conform_job.specs.Answers.{AreInfosOf};
-    ghost use Rattle.crew_seat.specs.Stepped.{HasWorked, IsReady};
+    ghost use Rattle.crew_seat.specs.Stepped.{HasWorked};
+    ghost use Rattle.crew_seat.specs.inside.Stepped.{IsReady};
 
     ghost may = { λ shared seat. IsSync R.row × (shared.job.now ≡ N.job) × AreInfosOf N.job.parts N.files N.job.infos
         × IsReady N.files S.world seat };

@@ -4,7 +4,8 @@ use Rattle.std.proofs.lemmas.Bool.{cases_lt}
 use Rattle.std.proofs.lemmas.Bool.Decides.{nat_tests}
 use Rattle.std.specs.Int.{abs_diff}
 use Rattle.trans_mix.specs.Wipe.{has_passed}
-use Rattle.trans_mix.specs.Columns.{AreColumns, from_left, from_right, from_middle}
+use Rattle.trans_mix.specs.Columns.{AreColumns}
+use Rattle.trans_mix.specs.inside.Columns.{from_left, from_right, from_middle}
 
 pub below_true : (a b : ℕ) → a < b → nat_lt a b ≡ true
 below_true a b lt = grind (arith, nat_tests)

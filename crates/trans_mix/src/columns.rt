@@ -2,7 +2,8 @@
 ghost use Rattle.std.specs.Prelude.{◌≡◌, ℕ, ◌+◌, ◌*◌, ◌<◌, ◌≤◌, ◌^◌, true, false, IsTrue};
 ghost use Rattle.cf_base.specs.Events.{is_known_wipe};
 ghost use Rattle.trans_mix.specs.Wipe.{is_incoming};
-ghost use Rattle.trans_mix.specs.Columns.{AreColumns, from_left, from_right, from_middle};
+ghost use Rattle.trans_mix.specs.Columns.{AreColumns};
+ghost use Rattle.trans_mix.specs.inside.Columns.{from_left, from_right, from_middle};
 
 use crate::{LARGEST, LONGEST, passed};
 

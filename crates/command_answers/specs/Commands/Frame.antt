@@ -1,4 +1,6 @@
 -- The command `frame PATH`: it reads one DPX file, and puts the same pixels under the station's own header.
+-- * `frame`: the case of each outcome by the file at the path, and the file that is put: new header, then the pixels' big-endian
+--   words
 use Rattle.std.specs.Prelude.{◌≡◌, ℕ, List, [], ◌++◌, length, Option, None, Result, Err, IsOk, IsOkAnd, IsSomeAnd}
 use Rattle.std.specs.List.{flat_map}
 use Rattle.byteorder.specs.Endian.{big_bytes}

@@ -1,4 +1,5 @@
 -- The command `list FILE RATE`: it reads an edit list, and puts its event table.
+-- * `list`: the case of each outcome, and that the event table is put
 use Rattle.std.specs.Prelude.{◌≡◌, ℕ, List, Option, None, Err, IsOk, IsOkAnd, IsSomeAnd}
 use Rattle.cf_base.specs.declared.timing.Rate.{Rate}
 use Rattle.scan_source.specs.World.{file_at}

@@ -2,9 +2,9 @@
 //! then their colours. Each is a loop over arrays of its own; only the third reads entries.
 ghost use Rattle.std.specs.Prelude.{◌≡◌, ℕ, ◌≤◌, ◌<◌, true, length, slice_index, EachIndex};
 ghost use Rattle.dpx_pack.specs.Pixels.{word_codes};
-ghost use Rattle.tetra_look.specs.Words.{cube_word};
-ghost use Rattle.tetra_look.specs.Ways.{IsStart, IsWay};
-ghost use Rattle.tetra_look.specs.Lanes.{start_of, way_of};
+ghost use Rattle.tetra_look.specs.inside.Words.{cube_word};
+ghost use Rattle.tetra_look.specs.inside.Ways.{IsStart, IsWay};
+ghost use Rattle.tetra_look.specs.inside.Lanes.{start_of, way_of};
 
 use crate::grid::{Grid, colour_of};
 use crate::way::Way;

@@ -1,5 +1,5 @@
 use Rattle.std.proofs.Common.{map}
-use Rattle.command_words.specs.Lines.{text_of_line}
+use Rattle.command_words.specs.inside.Lines.{text_of_line}
 use Rattle.command_words.proofs.Commands.{all_counted, one_found, spelled}
 use Rattle.command_words.proofs.command.command_of.Goals as goal
 

@@ -1,4 +1,4 @@
-use Rattle.command_words.specs.Lines.{text_of_line}
+use Rattle.command_words.specs.inside.Lines.{text_of_line}
 use Rattle.command_words.proofs.Commands.{none_given}
 use Rattle.command_words.proofs.command.command_on.Goals as goal
 

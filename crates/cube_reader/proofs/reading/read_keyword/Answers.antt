@@ -1,6 +1,6 @@
 use Rattle.std.proofs.Common.{refl, sym, ◌∙◌, ap}
 use Rattle.cube_reader.specs.Text.{tokens_of, word, arguments}
-use Rattle.cube_reader.specs.Steps.{keyword_step}
+use Rattle.cube_reader.specs.inside.Steps.{keyword_step}
 use Rattle.cube_reader.proofs.ReadLaws.{unknown_refused, keyword_refused, keyword_read}
 use Rattle.cube_reader.proofs.reading.read_keyword.Goals as goal
 

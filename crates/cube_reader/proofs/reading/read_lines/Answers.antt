@@ -2,8 +2,8 @@ use Rattle.std.proofs.Common.{◌≡◌, ◌≤◌, ◌+◌, ◌<◌, ℕ, lengt
 use Rattle.std.specs.Prelude.{Err}
 use Rattle.std.proofs.lemmas.Option.{slice_get_within}
 use Rattle.cube_reader.specs.Text.{lines_in, tokens_of}
-use Rattle.cube_reader.specs.Steps.{IsReading}
-use Rattle.cube_reader.specs.Steps.{ReadsAll}
+use Rattle.cube_reader.specs.inside.Steps.{IsReading}
+use Rattle.cube_reader.specs.inside.Steps.{ReadsAll}
 use Rattle.cf_base.proofs.TextLaws.{turn_at, ended, after_last}
 use Rattle.cube_reader.proofs.ReadLaws.{all_refused, reading_at, few_data}
 use Rattle.cube_reader.proofs.reading.read_lines.Goals as goal

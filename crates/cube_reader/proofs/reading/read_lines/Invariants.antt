@@ -1,7 +1,7 @@
 use Rattle.std.proofs.Common.{◌≡◌, ◌≤◌, ◌-◌, length, drop}
 use Rattle.cube_reader.specs.Table.{greatest_size}
 use Rattle.cube_reader.specs.Text.{lines_in}
-use Rattle.cube_reader.specs.Steps.{IsReading}
+use Rattle.cube_reader.specs.inside.Steps.{IsReading}
 use Rattle.cube_reader.proofs.reading.read_lines.Given as goal
 
 abbrev pub invariant-loop-span : goal.invariant-loop-span

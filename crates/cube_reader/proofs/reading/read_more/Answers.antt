@@ -2,7 +2,7 @@ use Rattle.std.proofs.Common.{◌≡◌, true, [], refl, ap, map}
 use Rattle.cf_base.specs.Tokens.{Token}
 use Rattle.cube_reader.specs.Text.{tokens_of, is_passed_over}
 use Rattle.std.specs.Prelude.{slice_range}
-use Rattle.cube_reader.specs.Steps.{words_from}
+use Rattle.cube_reader.specs.inside.Steps.{words_from}
 use Rattle.cube_reader.proofs.KeywordLaws.{comment_passed}
 use Rattle.cube_reader.proofs.ReadLaws.{passed_read}
 use Rattle.cube_reader.proofs.reading.read_more.Goals as goal

@@ -1,7 +1,7 @@
 use Rattle.std.proofs.Common.{◌≡◌, [], refl, ap, ◌∙◌, map}
 use Rattle.std.specs.Prelude.{Some}
 use Rattle.cf_base.specs.Tokens.{Token}
-use Rattle.cube_reader.specs.Steps.{words_from}
+use Rattle.cube_reader.specs.inside.Steps.{words_from}
 use Rattle.cube_reader.proofs.WordLaws.{value_then}
 use Rattle.cube_reader.proofs.words.last_number.Goals as goal
 

@@ -1,7 +1,7 @@
 use Rattle.std.proofs.Common.{List, ◌∷◌, ap, sym, ◌∙◌, pos}
 use Rattle.std.specs.Prelude.{Some, None}
 use Rattle.cf_base.specs.declared.fixed.Fixed.{Fixed}
-use Rattle.cube_reader.specs.Steps.{words_from}
+use Rattle.cube_reader.specs.inside.Steps.{words_from}
 use Rattle.cube_reader.proofs.WordLaws.{value_then, values_length, one_of}
 use Rattle.cube_reader.proofs.words.two_numbers.Goals as goal
 

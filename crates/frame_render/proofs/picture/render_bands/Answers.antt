@@ -3,7 +3,7 @@ use Rattle.std.proofs.Common.{◌≡◌, ℕ, ◌+◌, ◌-◌, ◌*◌, ◌/◌
 use Rattle.std.proofs.Math.Nat.{mul-le-mul_right}
 use Rattle.std.proofs.lemmas.List.{length-take-le, length-drop}
 use Rattle.std.specs.Option.{option_copied}
-use Rattle.frame_render.specs.Lines.{lines_from}
+use Rattle.frame_render.specs.inside.Lines.{lines_from}
 use Rattle.frame_render.proofs.Bands.{band_order, band_within, first_band, last_band, by_lines, band_fits}
 use Rattle.frame_render.proofs.Lines.{no_lines, band_written, all_lines, picture_is}
 use Rattle.frame_render.proofs.picture.render_bands.Goals as goal

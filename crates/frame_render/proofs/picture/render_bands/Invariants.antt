@@ -1,7 +1,7 @@
 -- The bands so far are written.
 use Rattle.std.proofs.Common.{◌≡◌, ◌*◌, ◌/◌, take}
 use Rattle.std.specs.Option.{option_copied}
-use Rattle.frame_render.specs.Lines.{lines_from}
+use Rattle.frame_render.specs.inside.Lines.{lines_from}
 use Rattle.frame_render.proofs.picture.render_bands.Given as goal
 
 abbrev pub invariant-loop-n : goal.invariant-loop-n

@@ -3,7 +3,7 @@ use Rattle.std.proofs.Common.{◌≡◌, ℕ, ◌+◌, ◌-◌, ◌*◌, ◌/◌
 use Rattle.std.specs.Option.{option_copied}
 use Rattle.conform_job.specs.Job.{JobData, ArePlanned}
 use Rattle.frame_render.specs.Frame.{picture, pixel_count}
-use Rattle.frame_render.specs.Lines.{stride}
+use Rattle.frame_render.specs.inside.Lines.{stride}
 use Rattle.frame_render.proofs.Bands.{IsLines, part_lines}
 use Rattle.frame_render.proofs.Lines.{place_from}
 use Rattle.frame_render.proofs.picture.render_part.Goals as goal

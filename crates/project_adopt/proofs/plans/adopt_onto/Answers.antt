@@ -1,7 +1,8 @@
 -- The old project comes to its job, and both are conformed; or it comes to none.
 use Rattle.std.proofs.Common.{inr, refl, sym, subst}
 use Rattle.project_run.proofs.Runs.{match_each, unplanned}
-use Rattle.project_adopt.specs.Adopt.{IsJobOver, IsOfAdopt}
+use Rattle.project_adopt.specs.Adopt.{IsOfAdopt}
+use Rattle.project_adopt.specs.inside.Adopt.{IsJobOver}
 use Rattle.project_adopt.proofs.Planning.{adopted_in, all_three, is_over, old_adopts}
 use Rattle.project_run.proofs.Leaving.{left_by}
 use Rattle.project_adopt.proofs.Leaving.{adoption_unrefused}

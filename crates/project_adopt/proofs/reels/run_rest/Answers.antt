@@ -7,7 +7,8 @@ use Rattle.frame_range.specs.declared.range.Extent.TheVariants.{Whole}
 use Rattle.project_run.specs.Run.{IsSafeRun, run_text}
 use Rattle.single_run.specs.Run.{WasRun}
 use Rattle.project_run.proofs.Runs.{is_known, match_each}
-use Rattle.project_adopt.specs.Adopt.{ReportsAdoption, IsRest, share_count}
+use Rattle.project_adopt.specs.Adopt.{IsRest, share_count}
+use Rattle.project_adopt.specs.inside.Adopt.{ReportsAdoption}
 use Rattle.project_adopt.proofs.reels.run_rest.Goals as goal
 
 pub reply_of-requires : goal.reply_of-requires

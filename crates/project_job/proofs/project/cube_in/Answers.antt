@@ -1,6 +1,7 @@
 -- The front of the cube's file stands for the file.
 use Rattle.std.proofs.Common.{◌≡◌, Ok, Err, refl, subst}
-use Rattle.project_job.specs.Jobs.{look_of_text, itself, Reaches}
+use Rattle.project_job.specs.Jobs.{look_of_text}
+use Rattle.project_job.specs.inside.Jobs.{itself, Reaches}
 use Rattle.project_job.proofs.Projects.{err_as, no_err, cube_had, cube_refused, cube_missing}
 use Rattle.scan_source.proofs.Leaving.{leaves_as, leaves_done}
 use Rattle.project_job.proofs.Loading.{load_stage}

@@ -4,7 +4,7 @@ use Rattle.conform_job.specs.declared.parts.JobFault.{JobFault}
 use Rattle.conform_job.specs.declared.parts.JobFault.TheVariants as faults
 use Rattle.outcome_line.specs.declared.outcome.Outcome.TheVariants as outcomes
 use Rattle.outcome_line.specs.declared.outcome.Refused.TheVariants as refused
-use Rattle.project_job.specs.Jobs.{outcome_of_fault}
+use Rattle.project_job.specs.inside.Jobs.{outcome_of_fault}
 use Rattle.project_job.proofs.project.refused_job.Goals as goal
 
 job_refused : (fault : JobFault) → fault ≢ faults.SourceFault → fault ≢ faults.NoMemory → outcomes.Refused (refused.Job fault) ≡ outcome_of_fault fault

@@ -3,7 +3,7 @@ use Rattle.std.proofs.Common.{rules, sym, subst, List}
 use Rattle.std.proofs.lemmas.List.Sorted.{IsNonDecreasingBy-from_sort_by_key}
 use Rattle.pull_list.specs.declared.range.PullRange.{PullRange}
 use Rattle.pull_list.specs.Pull.{HoldsIn, AreRangesOf}
-use Rattle.pull_list.specs.Spans.{AreSorted, place_of}
+use Rattle.pull_list.specs.inside.Spans.{AreSorted, place_of}
 use Rattle.pull_list.proofs.Sorting.{are_sorted, ranges_moved, ok_then}
 use Rattle.pull_list.proofs.merge.ranges_of.Goals as goal
 

@@ -2,7 +2,7 @@
 use Rattle.std.proofs.Common.{◌≡◌, ◌∙◌, length, refl, sym, ap}
 use Rattle.std.specs.Prelude.{Some, slice_get}
 use Rattle.std.proofs.lemmas.Option.{slice_get_read, slice_get_within}
-use Rattle.pull_list.specs.Spans.{span_of}
+use Rattle.pull_list.specs.inside.Spans.{span_of}
 use Rattle.pull_list.proofs.Frames.{day_of, key_in_reel}
 use Rattle.pull_list.proofs.range.span_at.Goals as goal
 

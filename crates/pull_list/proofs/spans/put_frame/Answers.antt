@@ -4,7 +4,7 @@ use Rattle.conform_job.specs.Asks.{shot_of_frame}
 use Rattle.conform_job.specs.Job.{need_at, AreMet}
 use Rattle.conform_job.specs.declared.need.Need.{Need}
 use Rattle.pull_list.specs.declared.range.PullRange.{PullRange}
-use Rattle.pull_list.specs.Spans.{spans_of_side}
+use Rattle.pull_list.specs.inside.Spans.{spans_of_side}
 use Rattle.pull_list.proofs.Needed.{has_new, has_old, on_ok, side_by_side, spans_at}
 use Rattle.pull_list.proofs.spans.put_frame.Goals as goal
 

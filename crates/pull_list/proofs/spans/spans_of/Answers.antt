@@ -3,7 +3,7 @@ use Rattle.std.proofs.Common.{◌≡◌, ◌++◌, ◌∙◌, List, ap, arith, m
 use Rattle.conform_job.specs.Asks.{asks_at, asks_from, asks_of}
 use Rattle.conform_job.specs.Keys.{keys_of_asks}
 use Rattle.pull_list.specs.declared.range.PullRange.{PullRange}
-use Rattle.pull_list.specs.Spans.{span_at}
+use Rattle.pull_list.specs.inside.Spans.{span_at}
 use Rattle.pull_list.proofs.Needed.{spans_more}
 use Rattle.pull_list.proofs.spans.spans_of.Goals as goal
 

@@ -2,7 +2,7 @@ use Rattle.std.proofs.Common.{◌≡◌, map}
 use Rattle.std.specs.List.{All}
 use Rattle.conform_job.specs.Asks.{asks_from}
 use Rattle.conform_job.specs.Keys.{keys_of_asks}
-use Rattle.pull_list.specs.Spans.{IsSpan, span_at}
+use Rattle.pull_list.specs.inside.Spans.{IsSpan, span_at}
 use Rattle.pull_list.proofs.spans.spans_of.Given as goal
 
 -- the spans of the first record frames

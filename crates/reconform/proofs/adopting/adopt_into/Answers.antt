@@ -13,7 +13,8 @@ use Rattle.reel_writer.specs.Changes.{IsOwnFile, MayWrite}
 use Rattle.reel_writer.specs.Reel.{frames_of}
 use Rattle.reel_writer.proofs.ReelLaws.{reel_run_itself, sound_has}
 use Rattle.reconform.specs.declared.adopting.AdoptFault.{AdoptFault}
-use Rattle.reconform.specs.Adopt.{IsWhyUnadopted, by_old}
+use Rattle.reconform.specs.Adopt.{IsWhyUnadopted}
+use Rattle.reconform.specs.inside.Adopt.{by_old}
 use Rattle.reconform.proofs.Answering.{answered_along, err_is, never_touched, old_disk, old_refused}
 use Rattle.reconform.proofs.Going.{both_behind, looked_along, old_asked}
 use Rattle.reconform.proofs.adopting.adopt_into.Goals as goal

@@ -3,7 +3,7 @@ use Rattle.reel_disk.specs.Disk.{view_of}
 use Rattle.resume_ledger.specs.Ledger.{AreFlagsOf, IsFit, IsInForce}
 use Rattle.resume_ledger.specs.declared.layout.Version.TheVariants.{Two}
 use Rattle.reel_writer.specs.Reel.{frames_of}
-use Rattle.reconform.specs.Parts.{IsPart}
+use Rattle.reconform.specs.inside.Parts.{IsPart}
 use Rattle.reconform.proofs.Going.{both_counted, both_passed, flags_are, is_fit}
 use Rattle.reconform.proofs.adopting.adopt_opened.Goals as goal
 

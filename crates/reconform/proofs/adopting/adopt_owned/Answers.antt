@@ -5,11 +5,13 @@ use Rattle.reel_disk.proofs.Sparing.{spares_along, spares_wider}
 use Rattle.resume_ledger.specs.Ledger.{IsLedgerFile, IsWrittenLedgerFile}
 use Rattle.resume_ledger.specs.declared.attach.OpenFault.TheVariants as cause
 use Rattle.resume_ledger.proofs.Reading.{spares_writes, writes_along}
-use Rattle.reel_writer.specs.Changes.{IsOwnFile, IsRunFile, MayWrite}
+use Rattle.reel_writer.specs.Changes.{IsOwnFile, MayWrite}
+use Rattle.reel_writer.specs.inside.Changes.{IsRunFile}
 use Rattle.reel_writer.proofs.ReelLaws.{reel_run_along}
 use Rattle.reel_writer.proofs.Writing.{own_file, own_written, writes_wider}
 use Rattle.reconform.specs.declared.adopting.AdoptFault.{AdoptFault}
-use Rattle.reconform.specs.Adopt.{IsOfOld, IsWhyUnadopted, by_new}
+use Rattle.reconform.specs.Adopt.{IsOfOld, IsWhyUnadopted}
+use Rattle.reconform.specs.inside.Adopt.{by_new}
 use Rattle.reconform.proofs.Answering.{err_is, never_old, never_opened, new_disk, new_refused, opened_answer}
 use Rattle.reconform.proofs.Going.{both_behind, new_asked, still_itself}
 use Rattle.reconform.proofs.adopting.adopt_owned.Goals as goal

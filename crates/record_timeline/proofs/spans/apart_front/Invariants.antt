@@ -1,5 +1,5 @@
 use Rattle.std.proofs.Common.{◌-◌, ◌≤◌}
-use Rattle.record_timeline.specs.Spans.{AreApart}
+use Rattle.record_timeline.specs.inside.Spans.{AreApart}
 use Rattle.record_timeline.proofs.spans.apart_front.Given as goal
 
 abbrev pub invariant-loop-meet : goal.invariant-loop-meet

@@ -1,4 +1,4 @@
-use Rattle.record_timeline.specs.Spans.{ApartBelow}
+use Rattle.record_timeline.specs.inside.Spans.{ApartBelow}
 use Rattle.record_timeline.proofs.SpanLaws.{EndBelow}
 use Rattle.record_timeline.proofs.spans.are_apart.Given as goal
 

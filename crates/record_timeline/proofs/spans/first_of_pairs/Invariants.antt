@@ -1,4 +1,4 @@
-use Rattle.record_timeline.specs.Spans.{NoOverlapBefore}
+use Rattle.record_timeline.specs.inside.Spans.{NoOverlapBefore}
 use Rattle.record_timeline.proofs.spans.first_of_pairs.Given as goal
 
 abbrev pub invariant-loop-place : goal.invariant-loop-place

@@ -1,6 +1,6 @@
 use Rattle.std.proofs.Common.{◌≡◌, ◌≤◌, length}
 use Rattle.reel_disk.specs.Disk.{Files}
-use Rattle.reel_disk.specs.Memory.{byte_of}
+use Rattle.reel_disk.specs.inside.Memory.{byte_of}
 use Rattle.reel_disk.proofs.Walks.{IsWalked}
 use Rattle.reel_disk.proofs.crash.byte_before.Given as goal
 

@@ -1,7 +1,8 @@
 use Rattle.std.proofs.Common.{ℕ, List, sym, ◌∙◌, ap}
 use Rattle.std.specs.Prelude.{Option}
 use Rattle.reel_disk.specs.declared.store.Step.{Step}
-use Rattle.reel_disk.specs.Memory.{byte_of, view_before, put_back}
+use Rattle.reel_disk.specs.Memory.{view_before, put_back}
+use Rattle.reel_disk.specs.inside.Memory.{byte_of}
 use Rattle.reel_disk.proofs.Steps.{wrote_here, wrote_elsewhere, patched_here, patched_elsewhere}
 use Rattle.reel_disk.proofs.crash.byte_then.Goals as goal
 

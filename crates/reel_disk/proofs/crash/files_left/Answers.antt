@@ -5,7 +5,8 @@ use Rattle.cf_base.specs.declared.file.FileId.{FileId}
 use Rattle.cf_base.specs.FileId.{decide_id}
 use Rattle.reel_disk.specs.Disk.{view_of}
 use Rattle.reel_disk.specs.Crash.{IsPicked}
-use Rattle.reel_disk.specs.Memory.{history_of, find_file, find_in}
+use Rattle.reel_disk.specs.Memory.{history_of, find_file}
+use Rattle.reel_disk.specs.inside.Memory.{find_in}
 use Rattle.reel_disk.proofs.Entries.{find_later}
 use Rattle.reel_disk.proofs.crash.files_left.Goals as goal
 

@@ -3,7 +3,8 @@ use Rattle.std.specs.Prelude.{None}
 use Rattle.cf_base.specs.declared.file.FileId.{FileId}
 use Rattle.reel_disk.specs.Disk.{view_of}
 use Rattle.reel_disk.specs.Crash.{IsPicked}
-use Rattle.reel_disk.specs.Memory.{history_of, find_file, find_in}
+use Rattle.reel_disk.specs.Memory.{history_of, find_file}
+use Rattle.reel_disk.specs.inside.Memory.{find_in}
 use Rattle.reel_disk.proofs.crash.files_left.Given as goal
 
 -- Each file is picked, or isn't reached yet.

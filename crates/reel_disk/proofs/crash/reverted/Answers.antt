@@ -1,7 +1,8 @@
 use Rattle.std.proofs.Common.{refl, sym, ◌∙◌, ap}
 use Rattle.std.specs.Prelude.{List}
 use Rattle.reel_disk.specs.declared.disk.Place.{Place}
-use Rattle.reel_disk.specs.Memory.{find_file, is_whole_loose}
+use Rattle.reel_disk.specs.Memory.{find_file}
+use Rattle.reel_disk.specs.inside.Memory.{is_whole_loose}
 use Rattle.reel_disk.proofs.Walks.{whole_is_loose, whole_is_firm}
 use Rattle.reel_disk.proofs.crash.reverted.Goals as goal
 

@@ -2,7 +2,7 @@
 use Rattle.std.proofs.Common.{◌≡◌, ◌∙◌, ◌/◌, ◌%◌, arith, length, map, ap, sym, get_or}
 use Rattle.std.proofs.lemmas.List.{get_or-map, length-map}
 use Rattle.std.proofs.Math.Nat.{mod-lt}
-use Rattle.reel_qc.specs.Counts.{block_of}
+use Rattle.reel_qc.specs.inside.Counts.{block_of}
 use Rattle.reel_qc.proofs.Adds.{cell_is}
 use Rattle.reel_qc.proofs.blocks.count_cell.Goals as goal
 

@@ -1,6 +1,6 @@
 -- The box of a picture has its mean.
 use Rattle.std.proofs.Common.{◌∙◌, ◌+◌, ◌*◌, ap, sym, subst}
-use Rattle.reel_qc.specs.Boxes.{IsBoxAt, mean_at}
+use Rattle.reel_qc.specs.inside.Boxes.{IsBoxAt, mean_at}
 use Rattle.reel_qc.specs.Sheet.{boxes_of}
 use Rattle.reel_qc.proofs.Adding.{box_there, means_are}
 use Rattle.reel_qc.proofs.boxes.mean_in.Goals as goal

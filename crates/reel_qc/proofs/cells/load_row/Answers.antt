@@ -4,7 +4,7 @@ use Rattle.std.specs.Prelude.{IfSome, slice_get}
 use Rattle.reel_disk.specs.Disk.{Files, view_of}
 use Rattle.resume_ledger.proofs.Reading.{still_along, still_view}
 use Rattle.reel_writer.specs.Reel.{frames_of}
-use Rattle.reel_qc.specs.Boxes.{IsCell}
+use Rattle.reel_qc.specs.inside.Boxes.{IsCell}
 use Rattle.reel_qc.specs.Sheet.{picture_at, place_picture}
 use Rattle.reel_qc.proofs.Pictures.{cell_as, pictures_more, place_within}
 use Rattle.reel_qc.proofs.cells.load_row.Goals as goal

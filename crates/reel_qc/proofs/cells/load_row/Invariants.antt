@@ -1,6 +1,6 @@
 use Rattle.std.proofs.Common.{◌≡◌, ◌+◌, ◌*◌, length, true}
 use Rattle.reel_disk.specs.Disk.{view_of, IsStill}
-use Rattle.reel_qc.specs.Boxes.{HasPictures}
+use Rattle.reel_qc.specs.inside.Boxes.{HasPictures}
 use Rattle.reel_qc.specs.Sheet.{picture_at}
 use Rattle.reel_qc.proofs.cells.load_row.Given as goal
 

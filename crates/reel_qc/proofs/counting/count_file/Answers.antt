@@ -3,7 +3,7 @@ use Rattle.std.proofs.Common.{rules, ◌≡◌, ◌∙◌, ◌+◌, ap, arith, l
 use Rattle.std.proofs.lemmas.List.{length-take-le}
 use Rattle.reel_disk.specs.Disk.{view_of}
 use Rattle.resume_ledger.proofs.Reading.{still_along, still_view}
-use Rattle.reel_qc.specs.Table.{AddsCounts}
+use Rattle.reel_qc.specs.inside.Table.{AddsCounts}
 use Rattle.reel_qc.specs.Words.{words_in}
 use Rattle.reel_qc.proofs.Adds.{counted_more, none_counted}
 use Rattle.reel_qc.proofs.Reading.{none_read, parts_read}

@@ -1,6 +1,6 @@
 use Rattle.std.proofs.Common.{◌≡◌, ◌-◌, ◌≤◌, map, true}
 use Rattle.reel_disk.specs.Disk.{view_of, IsStill}
-use Rattle.reel_qc.specs.Table.{AddsCounts}
+use Rattle.reel_qc.specs.inside.Table.{AddsCounts}
 use Rattle.reel_qc.specs.Words.{words_in}
 use Rattle.reel_qc.proofs.counting.count_file.Given as goal
 

@@ -2,7 +2,7 @@
 use Rattle.std.proofs.Common.{◌≡◌, ◌∙◌, List, ℕ, arith, length, map, true, ap, subst, sym, take, drop, ◌++◌, replicate}
 use Rattle.std.proofs.lemmas.List.{length-map, take-append-le, take_all}
 use Rattle.reel_disk.specs.Disk.{view_of}
-use Rattle.reel_qc.specs.Table.{HasCounted}
+use Rattle.reel_qc.specs.inside.Table.{HasCounted}
 use Rattle.reel_qc.specs.Words.{words_in}
 use Rattle.reel_qc.proofs.Adds.{whole_counted}
 use Rattle.reel_qc.proofs.counting.count_frame.Goals as goal

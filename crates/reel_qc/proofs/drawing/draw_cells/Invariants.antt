@@ -1,6 +1,6 @@
 use Rattle.std.proofs.Common.{ℕ, List, Option, flat_map}
 use Rattle.std.specs.List.{range_with_len}
-use Rattle.reel_qc.specs.Boxes.{AreCells, IsDrawn, pictured_line}
+use Rattle.reel_qc.specs.inside.Boxes.{AreCells, IsDrawn, pictured_line}
 use Rattle.reel_qc.proofs.drawing.draw_cells.Given as goal
 
 -- the lines above v are drawn

@@ -1,6 +1,6 @@
 use Rattle.std.proofs.Common.{◌/◌, ◌%◌, ℕ, List, Option, None, get_or, map}
 use Rattle.std.specs.List.{range_with_len}
-use Rattle.reel_qc.specs.Boxes.{AreCells, IsDrawn}
+use Rattle.reel_qc.specs.inside.Boxes.{AreCells, IsDrawn}
 use Rattle.reel_qc.specs.Sheet.{box_colour, cell_height, cell_width}
 use Rattle.reel_qc.proofs.drawing.draw_line.Given as goal
 

@@ -1,7 +1,7 @@
 -- The row's lines are those of its cells.
 use Rattle.std.proofs.Common.{◌≡◌, ◌∙◌, ◌+◌, ◌*◌, ap, arith, length, subst, sym, true}
 use Rattle.reel_disk.specs.Disk.{view_of}
-use Rattle.reel_qc.specs.Boxes.{HasPictures}
+use Rattle.reel_qc.specs.inside.Boxes.{HasPictures}
 use Rattle.reel_qc.specs.Sheet.{picture_at}
 use Rattle.reel_qc.proofs.SheetLaws.{row_drawn}
 use Rattle.reel_qc.proofs.sheet.draw_row.Goals as goal

@@ -2,7 +2,7 @@ use Rattle.std.proofs.Common.{◌≡◌, ◌*◌, length, true, flat_map}
 use Rattle.std.specs.List.{range_with_len}
 use Rattle.dpx_header.specs.Writing.{header_of}
 use Rattle.reel_disk.specs.Disk.{view_of, IsStill}
-use Rattle.reel_qc.specs.Boxes.{HasDrawn}
+use Rattle.reel_qc.specs.inside.Boxes.{HasDrawn}
 use Rattle.reel_qc.specs.Sheet.{cell_height, line_colours, sheet_head}
 use Rattle.reel_qc.proofs.sheet.draw_sheet.Given as goal
 

@@ -4,7 +4,8 @@ use Rattle.std.specs.Prelude.{slice_index_or}
 use Rattle.conform_job.specs.Job.{JobData}
 use Rattle.reel_disk.specs.Disk.{Files}
 use Rattle.resume_ledger.specs.Look.{ViewState}
-use Rattle.reel_qc.specs.Table.{HasRows, acked_of}
+use Rattle.reel_qc.specs.Table.{acked_of}
+use Rattle.reel_qc.specs.inside.Table.{HasRows}
 use Rattle.reel_qc.specs.declared.probe.ProbeKind.{ProbeKind}
 use Rattle.reel_qc.proofs.Lines.{row_counted, row_put}
 use Rattle.reel_qc.proofs.table.put_frame.Goals as goal

@@ -2,7 +2,7 @@
 use Rattle.std.proofs.Common.{rules, map, subst, sym, arith, true, ◌≡◌, ◌+◌, ◌∙◌}
 use Rattle.reel_disk.specs.Disk.{view_of}
 use Rattle.resume_ledger.proofs.Reading.{still_along, still_view}
-use Rattle.reel_qc.specs.Table.{HasRows}
+use Rattle.reel_qc.specs.inside.Table.{HasRows}
 use Rattle.reel_qc.proofs.Lines.{acked_more, rows_along, rows_as}
 use Rattle.reel_qc.proofs.table.put_rows.Goals as goal
 

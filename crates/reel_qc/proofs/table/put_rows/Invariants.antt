@@ -1,7 +1,8 @@
 use Rattle.std.proofs.Common.{◌≡◌, ◌≤◌, length, map, true}
 use Rattle.std.specs.List.{range_with_len}
 use Rattle.reel_disk.specs.Disk.{view_of, IsStill}
-use Rattle.reel_qc.specs.Table.{HasRows, acked_of}
+use Rattle.reel_qc.specs.Table.{acked_of}
+use Rattle.reel_qc.specs.inside.Table.{HasRows}
 use Rattle.reel_qc.proofs.table.put_rows.Given as goal
 
 -- the lines of the frames below i

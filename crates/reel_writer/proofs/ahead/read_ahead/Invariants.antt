@@ -1,7 +1,7 @@
 use Rattle.std.proofs.Common.{◌≡◌, ◌<◌, ◌≤◌, ℕ, true, length, get_or}
 use Rattle.frame_hash.specs.declared.Room.{Room}
 use Rattle.reel_disk.specs.Disk.{view_of, IsStill}
-use Rattle.reel_writer.specs.Ahead.{HasFile}
+use Rattle.reel_writer.specs.inside.Ahead.{HasFile}
 use Rattle.reel_writer.proofs.ahead.read_ahead.Given as goal
 
 -- the rooms so far have the folder's files

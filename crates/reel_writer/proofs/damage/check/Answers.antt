@@ -2,7 +2,7 @@ use Rattle.std.proofs.Common.{List, subst, sym, true}
 use Rattle.std.specs.Prelude.{All}
 use Rattle.frame_hash.specs.declared.Room.{Room}
 use Rattle.reel_disk.specs.Disk.{view_of}
-use Rattle.reel_writer.specs.Ahead.{HasDigest}
+use Rattle.reel_writer.specs.inside.Ahead.{HasDigest}
 use Rattle.reel_writer.proofs.Checking.{sound_intact}
 use Rattle.reel_writer.proofs.Rooms.{free_digests}
 use Rattle.reel_writer.proofs.damage.check.Goals as goal

@@ -3,8 +3,8 @@ use Rattle.std.specs.Prelude.{All, is_some, Ok, Err}
 use Rattle.reel_disk.specs.Disk.{Moment, view_of}
 use Rattle.resume_ledger.specs.Look.{hash_at}
 use Rattle.resume_ledger.proofs.Reading.{still_along}
-use Rattle.reel_writer.specs.Ahead.{HasDigest}
-use Rattle.reel_writer.specs.Damage.{HasCheckedOne}
+use Rattle.reel_writer.specs.inside.Ahead.{HasDigest}
+use Rattle.reel_writer.specs.inside.Damage.{HasCheckedOne}
 use Rattle.reel_writer.proofs.Checking.{counted_more, one_at_most, intact_more, first_fault}
 use Rattle.reel_writer.proofs.damage.check_all.Goals as goal
 

@@ -3,7 +3,7 @@ use Rattle.std.specs.Prelude.{All, count_by, is_some}
 use Rattle.std.specs.List.{range_with_len}
 use Rattle.reel_disk.specs.Disk.{view_of, IsStill}
 use Rattle.resume_ledger.specs.Look.{hash_at}
-use Rattle.reel_writer.specs.Ahead.{HasDigest}
+use Rattle.reel_writer.specs.inside.Ahead.{HasDigest}
 use Rattle.reel_writer.specs.Damage.{AreIntact}
 use Rattle.reel_writer.proofs.damage.check_all.Given as goal
 

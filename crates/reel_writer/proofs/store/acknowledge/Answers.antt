@@ -2,7 +2,7 @@ use Rattle.std.proofs.Common.{◌≡◌, ◌∙◌, ℕ, rules, true, List, leng
 use Rattle.reel_disk.specs.Disk.{moment_of, view_of}
 use Rattle.reel_disk.specs.Runs.{Surely}
 use Rattle.resume_ledger.specs.Ledger.{LedgerState, HasRecord, Acks}
-use Rattle.reel_writer.specs.Reel.{FinishesStored, IsFinishing}
+use Rattle.reel_writer.specs.inside.Reel.{FinishesStored, IsFinishing}
 use Rattle.reel_writer.proofs.Finishing.{finishing_along, noted, acked, shown_still}
 use Rattle.reel_writer.proofs.store.acknowledge.Goals as goal
 use Rattle.reel_writer.proofs.store.acknowledge.Goals.{After-ack}

@@ -2,7 +2,7 @@ use Rattle.std.proofs.Common.{rules, ◌≡◌, ◌∙◌, ap, sym, subst}
 use Rattle.std.specs.Prelude.{Some}
 use Rattle.reel_disk.specs.Disk.{view_of}
 use Rattle.resume_ledger.specs.Look.{ViewState, IsViewOf}
-use Rattle.resume_ledger.specs.Steps.{records_in}
+use Rattle.resume_ledger.specs.inside.Steps.{records_in}
 use Rattle.resume_ledger.proofs.Attaching.{unread, refused}
 use Rattle.resume_ledger.proofs.Looking.{viewed_own}
 use Rattle.resume_ledger.proofs.Reading.{still_unwritten}

@@ -3,7 +3,7 @@ use Rattle.resume_ledger.specs.declared.layout.Version.TheVariants.{Two}
 use Rattle.resume_ledger.specs.Body.{layout_of}
 use Rattle.resume_ledger.specs.Ledger.{AreGatesOf}
 use Rattle.resume_ledger.specs.Attach.{IsOpenFor}
-use Rattle.resume_ledger.specs.Steps.{IsReadyFor}
+use Rattle.resume_ledger.specs.inside.Steps.{IsReadyFor}
 use Rattle.resume_ledger.specs.Sound.{file_at}
 use Rattle.resume_ledger.proofs.Reading.{reading_part, part_along}
 use Rattle.resume_ledger.proofs.Taking.{opened}

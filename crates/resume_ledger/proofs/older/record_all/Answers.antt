@@ -2,7 +2,7 @@ use Rattle.std.proofs.Common.{rules, ◌∙◌, ℕ, false, get_or, sym, subst, 
 use Rattle.std.proofs.lemmas.Bool.{cases_eq}
 use Rattle.reel_disk.specs.Disk.{Moment, view_of}
 use Rattle.resume_ledger.specs.Sound.{file_at}
-use Rattle.resume_ledger.specs.Steps.{IsRecorded}
+use Rattle.resume_ledger.specs.inside.Steps.{IsRecorded}
 use Rattle.resume_ledger.proofs.Reading.{still_along}
 use Rattle.resume_ledger.proofs.Recording.{recorded_on}
 use Rattle.resume_ledger.proofs.older.record_all.Goals as goal

@@ -1,7 +1,7 @@
 use Rattle.std.proofs.Common.{◌≡◌, ◌≢◌, ◌≤◌, ◌<◌, ◌+◌, ◌*◌, ℕ, false, length, get_or, take, true}
 use Rattle.reel_disk.specs.Disk.{view_of, IsStill}
 use Rattle.resume_ledger.specs.Sound.{file_at}
-use Rattle.resume_ledger.specs.Steps.{IsRecorded}
+use Rattle.resume_ledger.specs.inside.Steps.{IsRecorded}
 use Rattle.resume_ledger.proofs.older.record_all.Given as goal
 
 -- the frames below i have what they get, and the others' gates are closed

@@ -1,7 +1,7 @@
 use Rattle.std.proofs.Common.{rules, refl, ◌≡◌, ◌∙◌, ap, sym, subst, length, Bool, List, take, drop, ◌++◌, arith}
 use Rattle.std.proofs.lemmas.List.{take_at}
 use Rattle.cf_base.specs.Count.{HasRisen}
-use Rattle.resume_ledger.specs.Steps.{IsReadyFor, IsAckedFirmly}
+use Rattle.resume_ledger.specs.inside.Steps.{IsReadyFor, IsAckedFirmly}
 use Rattle.resume_ledger.specs.Sound.{file_at}
 use Rattle.resume_ledger.proofs.Bodies.{closed_shut}
 use Rattle.resume_ledger.proofs.Reading.{reading_along, still_reading}

@@ -4,11 +4,12 @@ use Rattle.frame_render.specs.Frame.{frame_size}
 use Rattle.reel_disk.proofs.Sparing.{spares_itself, spares_along, spares_wider}
 use Rattle.conform_job.specs.Job.{file_of}
 use Rattle.reel_writer.specs.Reel.{IsWrittenFile}
-use Rattle.single_run.specs.Run.{IsRangeFile}
+use Rattle.single_run.specs.inside.Run.{IsRangeFile}
 use Rattle.single_run.proofs.Ranging.{range_file}
 use Rattle.reel_writer.proofs.ReelLaws.{reel_run_itself, reel_run_along}
 use Rattle.single_run.specs.Asks.{IsNext, asks_of_frames, closed_frames}
-use Rattle.single_run.specs.Ran.{ArePast, WereFinished}
+use Rattle.single_run.specs.Ran.{WereFinished}
+use Rattle.single_run.specs.inside.Ran.{ArePast}
 use Rattle.frame_fetch.specs.Sharing.{IsPaired, asks_of}
 use Rattle.frame_fetch.specs.declared.run_end.RunEnd.TheVariants as end
 use Rattle.frame_fetch.proofs.Logs.{asks_along, paired_along}

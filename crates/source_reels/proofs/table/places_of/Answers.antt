@@ -2,7 +2,7 @@ use Rattle.std.proofs.Common.{◌∷◌, ◌++◌, [], List, arith, ap, refl, su
 use Rattle.std.proofs.lemmas.List.{length-take-le, take_all, take_more}
 use Rattle.std.proofs.lemmas.Option.{slice_get_read, slice_get_within}
 use Rattle.cf_base.specs.declared.reel.ReelEntry.{ReelEntry}
-use Rattle.source_reels.specs.Places.{HasPlaces}
+use Rattle.source_reels.specs.inside.Places.{HasPlaces}
 use Rattle.source_reels.proofs.Faults.{first_refused, no_fault_more, none_refused}
 use Rattle.source_reels.proofs.PlaceLaws.{new_name, places_more}
 use Rattle.source_reels.proofs.table.places_of.Goals as goal

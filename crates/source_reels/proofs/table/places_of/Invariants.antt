@@ -1,6 +1,6 @@
 use Rattle.std.proofs.Common.{◌≤◌, length, take}
-use Rattle.source_reels.specs.Places.{HasPlaces}
-use Rattle.source_reels.specs.Reels.{NoFaultBefore}
+use Rattle.source_reels.specs.inside.Places.{HasPlaces}
+use Rattle.source_reels.specs.inside.Reels.{NoFaultBefore}
 use Rattle.source_reels.proofs.table.places_of.Given as goal
 
 -- no reel before i is refused, and the map has the places of those

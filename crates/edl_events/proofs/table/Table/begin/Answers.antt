@@ -1,7 +1,7 @@
 -- A run goes on where its number is the same.
 use Rattle.std.proofs.Common.{◌≡◌, rules}
 use Rattle.std.proofs.Math.Bool.{not}
-use Rattle.edl_events.specs.Table.{goes_on}
+use Rattle.edl_events.specs.inside.Table.{goes_on}
 use Rattle.edl_events.proofs.MapLaws.{ends_where}
 use Rattle.edl_events.proofs.table.Table.begin.Goals as goal
 use Rattle.edl_events.proofs.table.Table.begin.Goals.{then-ne, else-ne}

@@ -2,7 +2,7 @@ use Rattle.std.proofs.Common.{◌&&◌, ◌∙◌, ap, cond, eqb, ℕ}
 use Rattle.std.specs.Prelude.{Some}
 use Rattle.std.specs.Str.{bytes_eq}
 use Rattle.edl_events.specs.declared.table.Count.{Count}
-use Rattle.edl_events.specs.Table.{count_of, place_of, one_more}
+use Rattle.edl_events.specs.inside.Table.{count_of, place_of, one_more}
 use Rattle.edl_events.proofs.MapLaws.{count_set, place_set}
 use Rattle.edl_events.proofs.table.Table.put.Goals as goal
 

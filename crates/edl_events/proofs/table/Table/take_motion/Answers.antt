@@ -1,7 +1,7 @@
 use Rattle.std.proofs.Common.{◌∙◌, ap, cond, ℕ}
 use Rattle.std.specs.Str.{bytes_eq}
 use Rattle.edl_events.specs.declared.table.Count.{Count}
-use Rattle.edl_events.specs.Table.{count_of, one_more}
+use Rattle.edl_events.specs.inside.Table.{count_of, one_more}
 use Rattle.edl_events.proofs.MapLaws.{count_set}
 use Rattle.edl_events.proofs.table.Table.take_motion.Goals as goal
 

@@ -1,5 +1,5 @@
 use Rattle.std.proofs.Common.{sym, ◌∙◌}
-use Rattle.reconform.specs.Donor.{donor_in}
+use Rattle.reconform.specs.inside.Donor.{donor_in}
 use Rattle.reconform.proofs.Donating.{kept_donor, new_donor}
 use Rattle.reconform.proofs.donors.Donors.add.Goals as goal
 

@@ -3,7 +3,7 @@ use Rattle.std.specs.Prelude.{Some, None}
 use Rattle.std.specs.Option.{option_or}
 use Rattle.std.specs.BTreeMap.{is_at}
 use Rattle.reconform.specs.declared.plan.FramePlan.{FramePlan}
-use Rattle.reconform.specs.Donor.{donor_in, plan_cmp}
+use Rattle.reconform.specs.inside.Donor.{donor_in, plan_cmp}
 use Rattle.reconform.proofs.Donating.{least_added, least_still}
 use Rattle.reconform.proofs.donors.Donors.consider.Goals as goal
 

@@ -1,6 +1,6 @@
 use Rattle.std.proofs.Common.{◌≡◌, arith, subst}
 use Rattle.reel_writer.specs.Reel.{frames_of}
-use Rattle.reconform.specs.Donor.{AreLeast}
+use Rattle.reconform.specs.inside.Donor.{AreLeast}
 use Rattle.reconform.proofs.Donating.{least_first}
 use Rattle.reconform.proofs.donors.Donors.of.Goals as goal
 

@@ -1,6 +1,6 @@
 use Rattle.std.proofs.Common.{◌≡◌, ◌≤◌}
 use Rattle.reel_writer.specs.Reel.{frames_of}
-use Rattle.reconform.specs.Donor.{AreLeast}
+use Rattle.reconform.specs.inside.Donor.{AreLeast}
 use Rattle.reconform.proofs.donors.Donors.of.Given as goal
 
 -- the map has the donors among the frames below j

@@ -1,7 +1,7 @@
 use Rattle.std.proofs.Common.{◌≡◌, List, Bool, true, refl, subst, sym, arith}
 use Rattle.std.specs.Prelude.{◌↔◌}
 use Rattle.reel_disk.specs.Disk.{view_of}
-use Rattle.reconform.specs.Adopt.{IsServed}
+use Rattle.reconform.specs.inside.Adopt.{IsServed}
 use Rattle.reconform.specs.Donor.{HasIntactDonor}
 use Rattle.reconform.proofs.Going.{both_behind, new_asked, old_asked, part_itself}
 use Rattle.reconform.proofs.Serving.{on_ok, same_itself, served_by, served_set, where_ok}

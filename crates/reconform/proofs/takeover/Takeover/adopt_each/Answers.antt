@@ -2,7 +2,7 @@ use Rattle.std.proofs.Common.{rules, ◌≡◌, refl, sym, ap, ◌∙◌, subst,
 use Rattle.reel_disk.specs.Disk.{Moment, view_of}
 use Rattle.resume_ledger.proofs.Reading.{still_along}
 use Rattle.reel_writer.specs.Reel.{frames_of}
-use Rattle.reconform.specs.Adopt.{AreServed, IsServed}
+use Rattle.reconform.specs.inside.Adopt.{AreServed, IsServed}
 use Rattle.reconform.proofs.Dressing.{finish_along}
 use Rattle.reconform.proofs.Going.{both_behind, both_itself, looked_along, part_along, part_itself, still_itself}
 use Rattle.reconform.proofs.Serving.{same_along, same_itself, served_first, served_more}

@@ -2,9 +2,9 @@ use Rattle.std.proofs.Common.{◌≡◌, ◌<◌, ◌≤◌, length, true, false
 use Rattle.std.specs.Prelude.{All}
 use Rattle.reel_disk.specs.Disk.{view_of, IsStill}
 use Rattle.reel_writer.specs.Reel.{frames_of}
-use Rattle.reconform.specs.Adopt.{AreServed, IsSameReel}
-use Rattle.reconform.specs.Ahead.{CanFinish}
-use Rattle.reconform.specs.Parts.{IsPart}
+use Rattle.reconform.specs.inside.Adopt.{AreServed, IsSameReel}
+use Rattle.reconform.specs.inside.Ahead.{CanFinish}
+use Rattle.reconform.specs.inside.Parts.{IsPart}
 use Rattle.reconform.proofs.takeover.Takeover.adopt_each.Given as goal
 
 -- the frames below i are served, and nothing failed

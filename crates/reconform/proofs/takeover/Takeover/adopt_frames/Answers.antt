@@ -3,7 +3,7 @@ use Rattle.std.specs.Prelude.{All}
 use Rattle.frame_hash.specs.declared.Room.{Room}
 use Rattle.frame_render.specs.Frame.{frame_size}
 use Rattle.reel_disk.specs.Disk.{view_of}
-use Rattle.reconform.specs.Ahead.{CanFinish}
+use Rattle.reconform.specs.inside.Ahead.{CanFinish}
 use Rattle.reconform.proofs.Dressing.{free_can_finish}
 use Rattle.reconform.proofs.Going.{both_itself}
 use Rattle.reconform.proofs.Serving.{adopted_none}

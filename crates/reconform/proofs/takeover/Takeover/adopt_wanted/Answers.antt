@@ -1,7 +1,7 @@
 use Rattle.std.proofs.Common.{refl, subst}
 use Rattle.reel_disk.specs.Disk.{Moment}
 use Rattle.resume_ledger.proofs.Reading.{still_along}
-use Rattle.reconform.specs.Adopt.{IsServed}
+use Rattle.reconform.specs.inside.Adopt.{IsServed}
 use Rattle.reconform.proofs.Going.{both_behind, looked_along, old_asked, part_itself}
 use Rattle.reconform.proofs.Serving.{on_ok, same_itself}
 use Rattle.reconform.proofs.takeover.Takeover.adopt_wanted.Goals as goal

@@ -6,7 +6,8 @@ use Rattle.frame_render.proofs.Filled.{refilled}
 use Rattle.scan_source.specs.World.{file_at}
 use Rattle.reel_disk.specs.Disk.{view_of}
 use Rattle.sha2.specs.Sha256.{sha256}
-use Rattle.reconform.specs.Donor.{HasIntactDonor, donor_in}
+use Rattle.reconform.specs.Donor.{HasIntactDonor}
+use Rattle.reconform.specs.inside.Donor.{donor_in}
 use Rattle.reconform.specs.Plan.{plan_at}
 use Rattle.reconform.proofs.Dressing.{dressed_donor, dressed_pixels, sizes_alike}
 use Rattle.reconform.proofs.takeover.Takeover.dress.Goals as goal

@@ -1,7 +1,7 @@
 use Rattle.std.proofs.Common.{◌<◌, length, sym, ◌∙◌, arith}
 use Rattle.std.proofs.lemmas.List.{get_or-set_other, length-set}
 use Rattle.reel_disk.specs.Disk.{view_of}
-use Rattle.reconform.specs.Ahead.{HoldsFrame}
+use Rattle.reconform.specs.inside.Ahead.{HoldsFrame}
 use Rattle.reconform.proofs.Dressing.{more_rooms}
 use Rattle.reconform.proofs.takeover.Takeover.dress_all.Goals as goal
 

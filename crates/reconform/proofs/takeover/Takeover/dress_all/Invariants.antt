@@ -1,7 +1,7 @@
 use Rattle.std.proofs.Common.{◌≡◌, ℕ, ◌<◌, ◌≤◌, length, get_or}
 use Rattle.frame_hash.specs.declared.Room.{Room}
 use Rattle.reel_disk.specs.Disk.{view_of}
-use Rattle.reconform.specs.Ahead.{HoldsFrame}
+use Rattle.reconform.specs.inside.Ahead.{HoldsFrame}
 use Rattle.reconform.proofs.takeover.Takeover.dress_all.Given as goal
 
 -- the rooms so far hold frames, and the others are as they were

@@ -2,7 +2,7 @@ use Rattle.std.proofs.Common.{◌≡◌, List, ℕ, Option, sym, ap, ◌∙◌, 
 use Rattle.std.specs.Prelude.{IfSome}
 use Rattle.std.specs.Cmp.Lexicographic.{same_text}
 use Rattle.conform_job.specs.Job.{JobData}
-use Rattle.reconform.specs.Donor.{donor_in}
+use Rattle.reconform.specs.inside.Donor.{donor_in}
 use Rattle.reconform.specs.Plan.{plan_at}
 use Rattle.reconform.proofs.takeover.Takeover.is_kept.Goals as goal
 

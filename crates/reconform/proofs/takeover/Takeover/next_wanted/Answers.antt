@@ -1,6 +1,6 @@
 use Rattle.std.proofs.Common.{sym, ap, ◌∙◌}
 use Rattle.conform_job.specs.Job.{JobData}
-use Rattle.reconform.specs.Donor.{donor_in}
+use Rattle.reconform.specs.inside.Donor.{donor_in}
 use Rattle.reconform.specs.Plan.{plan_at}
 use Rattle.reconform.proofs.takeover.Takeover.next_wanted.Goals as goal
 

@@ -2,7 +2,7 @@ use Rattle.std.proofs.Common.{◌≡◌, ℕ, ◌<◌, ◌≤◌, true, length, 
 use Rattle.frame_hash.specs.declared.Room.{Room}
 use Rattle.frame_render.specs.Frame.{frame_size}
 use Rattle.reel_disk.specs.Disk.{view_of, IsStill}
-use Rattle.reconform.specs.Ahead.{HoldsDonor}
+use Rattle.reconform.specs.inside.Ahead.{HoldsDonor}
 use Rattle.reconform.proofs.takeover.Takeover.read_ahead.Given as goal
 
 -- the rooms so far hold donors' files, and the others are as long

@@ -1,7 +1,7 @@
 use Rattle.std.proofs.Common.{◌≡◌, List, ℕ, Bool, Option, true, subst, sym, arith}
 use Rattle.std.specs.Prelude.{IfSome}
 use Rattle.reel_disk.specs.Disk.{view_of}
-use Rattle.reconform.specs.Adopt.{IsServed}
+use Rattle.reconform.specs.inside.Adopt.{IsServed}
 use Rattle.reconform.specs.Donor.{HasIntactDonor}
 use Rattle.reconform.proofs.Dressing.{freed}
 use Rattle.reconform.proofs.Going.{new_asked, still_itself}

@@ -1,5 +1,5 @@
 use Rattle.std.proofs.Common.{◌+◌, ◌*◌}
-use Rattle.reel_qc.specs.Boxes.{HasSums, run_start}
+use Rattle.reel_qc.specs.inside.Boxes.{HasSums, run_start}
 use Rattle.reel_qc.specs.Sheet.{boxes_of}
 use Rattle.reel_qc.proofs.boxes.Boxes.add_line.Given as goal
 

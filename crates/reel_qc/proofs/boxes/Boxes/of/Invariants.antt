@@ -1,5 +1,5 @@
 use Rattle.std.proofs.Common.{◌*◌}
-use Rattle.reel_qc.specs.Boxes.{HasSums}
+use Rattle.reel_qc.specs.inside.Boxes.{HasSums}
 use Rattle.reel_qc.specs.Sheet.{boxes_of}
 use Rattle.reel_qc.proofs.boxes.Boxes.of.Given as goal
 

@@ -8,7 +8,8 @@ use Rattle.resume_ledger.specs.Sound.{AddsAtMost}
 use Rattle.reel_disk.specs.Disk.{moment_of}
 use Rattle.resume_ledger.specs.Ledger.{LedgerState, Agrees}
 use Rattle.reel_writer.specs.View.{ReelView, after_fault}
-use Rattle.reel_writer.specs.Reel.{frames_of, IsFinishing, IsReelRun, KeepsReel, IsWrittenFile}
+use Rattle.reel_writer.specs.Reel.{frames_of, IsReelRun, KeepsReel, IsWrittenFile}
+use Rattle.reel_writer.specs.inside.Reel.{IsFinishing}
 use Rattle.reel_writer.proofs.Keeping.{acked_more, once_more, kept_more, has_room, disk_along, gates_same}
 use Rattle.reel_writer.proofs.ReelLaws.{finishing_of, finished_run, acked_of}
 use Rattle.reel_writer.proofs.reel.Reel.finish.Goals as goal

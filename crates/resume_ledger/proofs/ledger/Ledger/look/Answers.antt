@@ -1,6 +1,6 @@
 use Rattle.std.proofs.Common.{subst}
 use Rattle.reel_disk.specs.Disk.{view_of}
-use Rattle.resume_ledger.specs.Steps.{IsVersionOf}
+use Rattle.resume_ledger.specs.inside.Steps.{IsVersionOf}
 use Rattle.resume_ledger.proofs.Looking.{looked_along, viewed_none}
 use Rattle.resume_ledger.proofs.ledger.Ledger.look.Goals as goal
 

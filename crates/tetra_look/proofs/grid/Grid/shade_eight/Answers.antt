@@ -1,12 +1,13 @@
 -- Each turn finds the sums of one way, and then writes one word.
 use Rattle.std.proofs.Common.{◌≡◌, ℕ, ◌<◌, List, [], get_or, length, length-set, map, ap, ◌∙◌, sym, subst, arith}
 use Rattle.dpx_pack.specs.Pixels.{colour_word, word_codes}
-use Rattle.tetra_look.specs.Look.{IsLattice, cube_code, channels}
-use Rattle.tetra_look.specs.Grid.{green_step, blue_step}
-use Rattle.tetra_look.specs.Ways.{IsWay}
-use Rattle.tetra_look.specs.Lanes.{start_of}
-use Rattle.tetra_look.specs.Sums.{IsSummed, row_codes}
-use Rattle.tetra_look.specs.Words.{cube_word}
+use Rattle.tetra_look.specs.Look.{cube_code, channels}
+use Rattle.tetra_look.specs.inside.Look.{IsLattice}
+use Rattle.tetra_look.specs.inside.Grid.{green_step, blue_step}
+use Rattle.tetra_look.specs.inside.Ways.{IsWay}
+use Rattle.tetra_look.specs.inside.Lanes.{start_of}
+use Rattle.tetra_look.specs.inside.Sums.{IsSummed, row_codes}
+use Rattle.tetra_look.specs.inside.Words.{cube_word}
 use Rattle.tetra_look.proofs.Mapped.{mapped_none, mapped_more}
 use Rattle.tetra_look.proofs.Sets.{set_row}
 use Rattle.tetra_look.proofs.FoundWays.{colour_is, first_within, second_within, third_within}

@@ -1,8 +1,8 @@
 -- Each channel's sum is that of the way.
 use Rattle.std.proofs.Common.{◌≡◌, ℕ, ◌+◌, ◌<◌, refl, ap, ◌∙◌, arith}
 use Rattle.tetra_look.specs.Look.{value_at, code_of_sum, way_code}
-use Rattle.tetra_look.specs.Grid.{green_step, blue_step}
-use Rattle.tetra_look.specs.Ways.{way_entries, way_parts}
+use Rattle.tetra_look.specs.inside.Grid.{green_step, blue_step}
+use Rattle.tetra_look.specs.inside.Ways.{way_entries, way_parts}
 use Rattle.tetra_look.proofs.SumLemmas.{sum_is}
 use Rattle.tetra_look.proofs.grid.Grid.way_sums.Goals as goal
 

@@ -1,0 +1,47 @@
+-- Files of donors that were read ahead, and what is made of them. All of it is this project's own rule.
+--     HoldsDonor     if a frame's room isn't free, the file of the frame's donor lies there
+--     IsKept         the frame has a donor, and a digest that is the donor's where the old folder keeps one
+--     HoldsFrame     if it isn't free, the frame's own file lies there, made of an intact donor's
+--     CanFinish      the same, and its digest is made
+--     AreReady       all of some rooms can be finished
+use Rattle.std.specs.Prelude.{◌≡◌, ℕ, ◌<◌, Bool, true, List, length, All, Option, Some, IfSome}
+use Rattle.std.specs.BTreeMap.{BTreeMap}
+use Rattle.sha2.specs.Sha256.{sha256}
+use Rattle.frame_hash.specs.declared.Room.{Room}
+use Rattle.scan_source.specs.World.{World}
+use Rattle.conform_job.specs.Job.{JobData, file_of}
+use Rattle.frame_render.specs.Frame.{IsFileOf, frame_size}
+use Rattle.reel_disk.specs.Disk.{Files}
+use Rattle.resume_ledger.specs.Look.{ViewState, hash_at}
+use Rattle.reel_writer.specs.Reel.{frames_of}
+use Rattle.reconform.specs.Donor.{HasIntactDonor}
+use Rattle.reconform.specs.inside.Donor.{donor_in}
+use Rattle.reconform.specs.Plan.{plan_at}
+use Rattle.reconform.specs.declared.plan.FramePlan.{FramePlan}
+
+-- `files` are those of the old folder, where it tells them.
+pub record HoldsDonor (new old : JobData) (tells : Bool) (files : Files) (by_plan : BTreeMap FramePlan ℕ) (room : Room) : Type 0 where
+  pub size : length room.bytes.items ≡ frame_size new
+  pub within : IfSome room.frame (λ i. i < frames_of new)
+  pub file : IfSome room.frame (λ i. tells ≡ true
+      → IfSome (donor_in by_plan (plan_at new i)) (λ j. files (file_of old j) ≡ Some room.bytes.items))
+
+pub record IsKept (new : JobData) (view : ViewState) (by_plan : BTreeMap FramePlan ℕ) (i : ℕ) (digest : List ℕ) : Type 0 where
+  pub donor : ℕ
+  pub is : donor_in by_plan (plan_at new i) ≡ Some donor
+  pub kept : IfSome (hash_at view donor) (λ hash. hash ≡ digest)
+
+pub record HoldsFrame (new old : JobData) (told : Option World) (tells : Bool) (view : ViewState)
+    (files : Files) (room : Room) : Type 0 where
+  pub size : length room.bytes.items ≡ frame_size new
+  pub within : IfSome room.frame (λ i. i < frames_of new)
+  pub donor : IfSome room.frame (λ i. tells ≡ true → HasIntactDonor new old view files i)
+  pub file : IfSome room.frame (λ i. IsFileOf new told i room.bytes.items)
+
+pub record CanFinish (new old : JobData) (told : Option World) (tells : Bool) (view : ViewState) (files : Files)
+    (room : Room) : Type 0 where
+  pub holds : HoldsFrame new old told tells view files room
+  pub digest : IfSome room.frame (λ i. room.digest ≡ sha256 room.bytes.items)
+
+abbrev pub AreReady : JobData → JobData → Option World → Bool → ViewState → Files → List Room → Type 0
+AreReady new old told tells view files rooms = All (CanFinish new old told tells view files) rooms

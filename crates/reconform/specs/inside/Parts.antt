@@ -1,0 +1,96 @@
+-- What a part of an adoption has to find, and what it does to the new folder. All of it is this project's own rule.
+--     WasLookedAt      the old folder, where a view of its ledger was had
+--     HasDonors      two jobs that are alike, and the map of their donors
+--     IsPart      what a part does to the new folder once that is open
+--     CanTake      what is known where frames are taken over
+--     HasServed      what is done for one frame
+--     HasAdopted      what the frames that are taken over do to both folders
+--     IsSafeAdoption      what all of it does, the opening among it
+use Rattle.std.specs.Prelude.{◌≡◌, ℕ, Bool, true, false, List, length, Option, IfSome, Result, OnOk, IfErr, IsErr}
+use Rattle.std.specs.BTreeMap.{BTreeMap}
+use Rattle.scan_source.specs.World.{World}
+use Rattle.conform_job.specs.Job.{JobData}
+use Rattle.reel_disk.specs.Disk.{Files, History, view_of, IsStill}
+use Rattle.reel_disk.specs.Loan.{Loan}
+use Rattle.reel_disk.specs.Runs.{Spares}
+use Rattle.reel_disk.specs.declared.disk.DiskFault.{DiskFault}
+use Rattle.resume_ledger.specs.Look.{ViewState, IsViewOf}
+use Rattle.resume_ledger.specs.Sound.{WritesOnly}
+use Rattle.reel_writer.specs.Changes.{IsOwnFile, MayWrite}
+use Rattle.reel_writer.specs.inside.Changes.{IsRunFile}
+use Rattle.reel_writer.specs.Reel.{frames_of, HasFrameFiles, IsReelRun, IsSoundReel, KeepsReel}
+use Rattle.reel_writer.specs.View.{ReelView}
+use Rattle.reconform.specs.Adopt.{CanServe, LeavesBoth}
+use Rattle.reconform.specs.inside.Adopt.{IsReelServed, IsSameReel, IsServed, IsStop}
+use Rattle.reconform.specs.inside.Donor.{AreLeast}
+use Rattle.reconform.specs.Laws.{HasTitle}
+use Rattle.reconform.specs.Plan.{AreAlike}
+use Rattle.reconform.specs.declared.adopting.AdoptFault.{AdoptFault}
+use Rattle.reconform.specs.declared.plan.FramePlan.{FramePlan}
+
+-- The ledger of the old folder is as the view says. Where the source files are told, the folder can serve.
+pub record WasLookedAt (new old : JobData) (told : Option World) (tells : Bool) (files : Files) (view : ViewState) : Type 0 where
+  pub can_serve : IfSome told (λ world. CanServe new old world tells files)
+  pub viewed : tells ≡ true → IsViewOf old.parts.digest (frames_of old) files view
+  pub flags : length view.gates ≡ frames_of old
+
+-- The jobs are alike, and the map has the least acknowledged frame of each plan.
+pub record HasDonors (new old : JobData) (acked : List Bool) (by_plan : BTreeMap FramePlan ℕ) : Type 0 where
+  pub alike : AreAlike new old
+  pub titles : HasTitle new × HasTitle old
+  pub least : AreLeast old acked (frames_of old) by_plan
+
+-- What is known where frames are taken over: the two jobs, the old folder, and the donors.
+pub record CanTake (new old : JobData) (told : Option World) (tells : Bool) (files : Files) (new_job old_job : JobData)
+    (view : ViewState) (by_plan : BTreeMap FramePlan ℕ) : Type 0 where
+  pub new_is : new_job ≡ new
+  pub old_is : old_job ≡ old
+  pub looked : WasLookedAt new old told tells files view
+  pub donors : HasDonors new old view.gates by_plan
+
+-- What a part does to the new folder, from where these frames were acknowledged: a crash at any moment leaves only frames
+-- acknowledged that are the reel's, no acknowledgement is lost, and no file is changed but the ledger's and those of the other
+-- frames.
+pub record IsPart {E : Type 0} (job : JobData) (told : Option World) (tells : Bool) (history : E → History)
+    (gates : List Bool) (before after : E) : Type 0 where
+  pub run : tells ≡ true → IsReelRun job told (history before) (history after)
+  pub none_lost : tells ≡ true → KeepsReel job (history before) (history after)
+  pub spares : tells ≡ true → Spares (history before) (history after) (IsRunFile job gates)
+
+-- What is done for one frame: it is taken over if it isn't acknowledged and has an intact donor, and nothing else of the reel is
+-- changed; the old folder is only read, and a fault of one of the two disks has its cause.
+pub record HasServed {D E : Type 0} (new old : JobData) (told : Option World)
+    (tells : Bool) (history : D → History) (faults : D → ℕ) (loans : D → List Loan)
+    (reel_tells : Bool) (reel_history : E → History) (reel_faults : E → ℕ) (reel_loans : E → List Loan)
+    (view : ViewState) (i : ℕ) (result : Result (Unit {0}) DiskFault)
+    (disk disk_after : D) (reel reel_after : ReelView E) : Type 0 where
+  pub served : OnOk result (tells ≡ true
+      → IsServed new old view (view_of (history disk)) i reel.ledger.gates reel_after.ledger.gates)
+  pub stays : IsSameReel reel reel_after
+  pub stays_open : OnOk result (reel_after.ledger.closed ≡ false)
+  pub part : IsPart new told reel_tells reel_history reel.ledger.gates reel.disk reel_after.disk
+  pub still : tells ≡ true → IsStill (history disk) (history disk_after)
+  pub disks : LeavesBoth faults loans reel_faults reel_loans (IsErr result) disk disk_after reel.disk reel_after.disk
+
+-- Each frame that isn't acknowledged and has an intact donor is taken over, and nothing else of the reel is changed; the old
+-- folder is only read. It ends before where memory or a disk fails.
+pub record HasAdopted {D E : Type 0} (new old : JobData) (told : Option World) (tells : Bool) (history : D
+    → History) (reel_tells : Bool) (reel_history : E → History)
+    (view : ViewState) (result : Result (Unit {0}) AdoptFault) (disk disk_after : D) (reel reel_after : ReelView E) : Type 0 where
+  pub served : OnOk result (tells ≡ true → IsReelServed new old view (view_of (history disk)) reel reel_after)
+  pub stays : IsSameReel reel reel_after
+  pub stays_open : OnOk result (reel_after.ledger.closed ≡ false)
+  pub end : IfErr result IsStop
+  pub part : IsPart new told reel_tells reel_history reel.ledger.gates reel.disk reel_after.disk
+  pub still : tells ≡ true → IsStill (history disk) (history disk_after)
+
+-- What an adoption does to the new folder: a crash at any moment leaves only frames acknowledged that are the reel's, and no
+-- acknowledgement is lost where each frame that version 1 acknowledged had a file of a frame's length, as sound files have. No
+-- file is changed but the ledger's and those of frames that the opening didn't keep, and of the ledger's those of version 2
+-- alone are written.
+pub record IsSafeAdoption {E : Type 0} (job : JobData) (told : Option World) (tells : Bool) (history : E
+    → History) (before after : E) : Type 0 where
+  pub run : tells ≡ true → IsReelRun job told (history before) (history after)
+  pub sound_has : (world : World) (files : Files) → IsSoundReel job world files → HasFrameFiles job files
+  pub spares : tells ≡ true → Spares (history before) (history after) (IsOwnFile job (view_of (history before)))
+  pub writes : tells ≡ true → WritesOnly (history before) (history after) (MayWrite job (view_of (history before)))

@@ -1,0 +1,2 @@
+-- The words of private clauses: no caller sees one, and nothing public is said by them.
+pub mod Inside
