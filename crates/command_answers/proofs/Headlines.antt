@@ -35,7 +35,9 @@ use Rattle.outcome_line.specs.declared.outcome.Outcome.TheVariants as outcomes
 use Rattle.command_answers.specs.Reply.{IsKindOf}
 use Rattle.command_answers.specs.States.{Folders, House, ScanState}
 use Rattle.command_answers.specs.Answer.{SinkState, IsPut, IsUnread, Answered}
-use Rattle.command_answers.specs.Headline.{AdoptsJob, RunsJob, IsEmptyFolder, IsBeginning, left_with, KeepsItsPromise, HasEnded}
+use Rattle.command_answers.specs.Adoption.{AdoptsJob}
+use Rattle.command_answers.specs.Folders.{IsEmptyFolder, IsBeginning, left_with}
+use Rattle.command_answers.specs.Headline.{RunsJob, KeepsItsPromise, HasEnded}
 
 pub at_world : (told : Option World) (world : World) (P : World → Type 0) → told ≡ Some world → IfSome told P → P world
 at_world told world P is holds = subst (λ t. IfSome t P) is holds

@@ -1,9 +1,11 @@
+pub mod Adoption
 pub mod Answer
 pub mod ByFile
 pub mod ByFolder
 pub mod ByJob
 pub mod Commands
 pub mod Complete
+pub mod Folders
 pub mod Headline
 pub mod Meaning
 pub mod Reply

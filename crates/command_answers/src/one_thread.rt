@@ -3,7 +3,8 @@ ghost use Rattle.std.specs.Prelude.{◌≡◌, ◌≤◌, ℕ, List, length, Som
 ghost use Rattle.scan_source.specs.World.{World};
 ghost use Rattle.command_answers.specs.Answer.{Answered, IsFoundIn, IsLinePut, IsPut, IsUncalled, OnSink, IsResultPut};
 ghost use Rattle.command_answers.specs.Complete.{IsAccepted, IsComplete, IsUnfailed, NoCallFailed};
-ghost use Rattle.command_answers.specs.Headline.{HasEnded, KeepsHeadline, KeepsItAdopting};
+ghost use Rattle.command_answers.specs.Adoption.{KeepsItAdopting};
+ghost use Rattle.command_answers.specs.Headline.{HasEnded, KeepsHeadline};
 ghost use Rattle.command_answers.specs.Reply.{CallsDisk, CallsOld, IsReplyOverFolders};
 ghost use Rattle.command_answers.specs.States.{OnFolders, OnScan, folders_of, house_of};
 ghost use Rattle.command_words.specs.Commands.{HasCounts, IsNoCommand, Spells};

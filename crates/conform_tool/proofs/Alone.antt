@@ -17,7 +17,8 @@ use Rattle.outcome_line.specs.declared.outcome.Outcome.{Outcome}
 use Rattle.command_answers.specs.States.{Folders, House, scan_state}
 use Rattle.command_answers.specs.Answer.{SinkState, Answered}
 use Rattle.command_answers.specs.Complete.{IsAccepted, HasNotRisen, IsComplete, IsUnfailed}
-use Rattle.command_answers.specs.Headline.{AdoptsJob, RunsJob, KeepsItsPromise, HasEnded}
+use Rattle.command_answers.specs.Adoption.{AdoptsJob}
+use Rattle.command_answers.specs.Headline.{RunsJob, KeepsItsPromise, HasEnded}
 use Rattle.command_answers.proofs.Completes.{answered_complete, answered_unfailed}
 use Rattle.command_answers.proofs.Headlines.{answered_adoption, answered_promise}
 

@@ -9,7 +9,8 @@ ghost use Rattle.command_answers.specs.Answer.{Answered, IsFoundIn, IsUncalled, 
 ghost use Rattle.conform_tool.specs.Conform.{AnsweredByCrew, IsAlone, IsFirst};
 ghost use Rattle.conform_tool.specs.inside.Conform.{IsCrewOf};
 ghost use Rattle.command_answers.specs.Complete.{IsAccepted, IsComplete, IsUnfailed, NoCallFailed};
-ghost use Rattle.command_answers.specs.Headline.{HasEnded, KeepsHeadline, KeepsItAdopting};
+ghost use Rattle.command_answers.specs.Adoption.{KeepsItAdopting};
+ghost use Rattle.command_answers.specs.Headline.{HasEnded, KeepsHeadline};
 ghost use Rattle.command_answers.specs.Reply.{CallsDisk, CallsOld};
 ghost use Rattle.command_answers.specs.States.{OnFolders, OnScan, folders_of, house_of};
 ghost use Rattle.project_crew.specs.Crew.{HasFailed, told_by};
