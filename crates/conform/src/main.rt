@@ -3,10 +3,15 @@
 //! is the status. Standard error says the cause of what failed.
 #![tactic(auto)]
 
+ghost use Rattle.std.specs.Prelude.{◌≡◌, map, IfOk};
+ghost use Rattle.std.specs.Process.{exit_status};
+ghost use Rattle.std.specs.String.{string_bytes};
+ghost use Rattle.outcome_line.specs.Output.{status_of};
+
 use cf_base::{Put, Sink, StreamSink};
 use conform_tool::{Ended, conform};
 use outcome_line::{Outcome, plain_line};
-use outside::{Outside, arguments, outside_of, places_of, tell_cause};
+use outside::{Outside, arguments, outside_of, split_words, tell_cause};
 use reel_qc::{Probe, ProbeKind, Tone, high, low, square, square_table, sum};
 use std::alloc::{AllocError, Global};
 use std::io;
@@ -21,7 +26,7 @@ fn main(rt: HostRuntime) -> ExitCode {
     let Ok(words) = words_of(alloc, &owned) else {
         return without_memory(&mut out);
     };
-    let places = places_of(&words);
+    let (places, words) = split_words(&words);
     let Ok(
         Outside {
             scans,
@@ -43,20 +48,19 @@ fn main(rt: HostRuntime) -> ExitCode {
         scans,
         disk,
     } = conform(
-        &rt,
-        alloc,
-        &words[places.taken..],
-        scans,
-        disk,
-        &mut old,
-        &mut out,
-        &probes,
-        &tone,
+        &rt, alloc, words, scans, disk, &mut old, &mut out, &probes, &tone,
     );
     tell_cause(&rt, &outcome, &scans, &disk, &old);
     if let Some(error) = out.trouble() {
         let _ = eprintln!(rt; "conform: standard output: write: {error}");
     }
+    exit_of(&outcome)
+}
+
+/// The status of an outcome, as the program's.
+fn exit_of(outcome: &Outcome) -> ExitCode
+    ensures { exit_status result ≡ status_of outcome.now }
+{
     ExitCode::from(outcome.status())
 }
 
@@ -69,11 +73,13 @@ fn without_memory<K: Sink>(out: &mut K) -> ExitCode {
             instead: reached.status(),
         },
     };
-    ExitCode::from(answer.status())
+    exit_of(&answer)
 }
 
 /// The words, as they are lent to a call.
-fn words_of(alloc: Global, owned: &[String]) -> Result<Vec<&str>, AllocError> {
+fn words_of(alloc: Global, owned: &[String]) -> Result<Vec<&str>, AllocError>
+    ensures { IfOk result (λ words. map (λ word. word.now) words.items ≡ map string_bytes owned.now) }
+{
     let mut words = Vec::new(alloc);
     for word in owned {
         words.push(word.as_str())?;

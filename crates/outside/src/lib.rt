@@ -5,14 +5,16 @@
 mod causes;
 mod places;
 
-ghost use Rattle.std.specs.Prelude.{◌≡◌, vec_len, IfOk};
+ghost use Rattle.std.specs.Prelude.{◌≡◌, drop, vec_len, IfOk};
+ghost use Rattle.std.specs.Vec.Iter.{into_iter_items};
+ghost use Rattle.outside.specs.Places.{folders_of, old_folder, reel_folder};
 
 pub use causes::tell_cause;
 use cf_base::PathText;
-pub use places::{Places, places_of};
+pub use places::{Places, split_words};
 use reel_disk::{Disk, FolderDisk, LockFiles};
 use scan_source::FileScans;
-use std::alloc::AllocError;
+use std::alloc::{AllocError, Global};
 use std::rt::Runtime;
 use std::{env, io};
 
@@ -44,28 +46,34 @@ pub fn outside_of<R: Runtime + LockFiles + AllocGlobal>(
     ensures scans { IfOk result (λ outside. vec_len outside.scans ≡ 16) }
     ensures disk { IfOk result (λ outside. ⟦<FolderDisk<R> as Disk>⟧.faults outside.disk ≡ 0) }
 {
-    let (reel, old) = folder_names();
+    let (reel, old) = folders_of(places);
     Ok(Outside {
         scans: scans_over(rt)?,
-        disk: folder_at(rt, places.into.unwrap_or(reel))?,
-        old: folder_at(rt, places.from.unwrap_or(old))?,
+        disk: folder_at(rt, reel)?,
+        old: folder_at(rt, old)?,
     })
 }
 
 /// The words after the program's name. Words that aren't UTF-8 are those of no command: then there are none. It fails where
 /// memory is missing.
 pub fn arguments<R: Runtime + AllocGlobal>(rt: &R) -> Result<Vec<String>, AllocError> {
-    let mut words = Vec::new(rt.alloc());
     match env::args(rt) {
-        Ok(arguments) => {
-            for word in arguments.skip(1) {
-                words.push(word)?;
-            }
-            Ok(words)
-        }
+        Ok(arguments) => words_behind(rt.alloc(), arguments),
         Err(error) if error.kind() == io::ErrorKind::OutOfMemory => Err(AllocError),
-        Err(_) => Ok(words),
+        Err(_) => Ok(Vec::new(rt.alloc())),
     }
+}
+
+/// All arguments behind the first, which is the program's name, in their order.
+fn words_behind(alloc: Global, mut arguments: env::Args) -> Result<Vec<String>, AllocError>
+    ensures { IfOk result (λ words. words.items ≡ drop 1 (into_iter_items arguments)) }
+{
+    arguments.next();
+    let mut words = Vec::new(alloc);
+    for word in arguments {
+        words.push(word)?;
+    }
+    Ok(words)
 }
 
 /// Scans over the files of the system, below the current folder.
@@ -79,15 +87,17 @@ fn scans_over<R: Runtime + AllocGlobal>(rt: &R) -> Result<Vec<FileScans<R>>, All
     Ok(scans)
 }
 
-/// The names of the two folders where the words name none: that of the reel, and that of an old one.
-fn folder_names() -> (PathText, PathText) {
+/// The two folders, that of the reel and that of an old one: those that the words name, or else the usual ones.
+fn folders_of(places: &Places) -> (PathText, PathText)
+    ensures { result ≡ folders_of places.now }
+{
     let Some(reel) = PathText::of(FOLDER) else {
         unreachable!()
     };
     let Some(old) = PathText::of(OLD_FOLDER) else {
         unreachable!()
     };
-    (reel, old)
+    (places.into.unwrap_or(reel), places.from.unwrap_or(old))
 }
 
 /// The folder of that name in the current folder, before the first call on it.

@@ -4,7 +4,7 @@
 -- Each step gives the value, or the fault at the key's place; the first fault stands.
 use Rattle.std.specs.Prelude.{◌&&◌, if◌then◌else◌, ℕ, ℤ, pos, negsuc, Bool, true, List, Option, Some, None, Result, Ok, Err, is_some, suc}
 use Rattle.cf_base.specs.Text.{is_within}
-use Rattle.cf_base.specs.Steps.{required}
+use Rattle.cf_base.specs.Steps.{◌>>=◌, required}
 use Rattle.toml.specs.Data.{Data, Items, Members, as_array, as_bool, as_integer, as_str, as_table, item, member, no_items, no_members}
 use Rattle.project_file.specs.declared.fault.Place.{Place}
 use Rattle.project_file.specs.declared.fault.ProjectFault.{ProjectFault}

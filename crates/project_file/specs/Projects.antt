@@ -24,7 +24,7 @@ use Rattle.cf_base.specs.declared.timing.Rate.{Rate}
 use Rattle.cf_base.specs.declared.timing.Rate.TheVariants.{R24, R25, R30}
 use Rattle.cf_base.specs.declared.timing.Mode.{Mode}
 use Rattle.cf_base.specs.declared.timing.Mode.TheVariants.{NonDrop, Drop}
-use Rattle.cf_base.specs.Steps.{required}
+use Rattle.cf_base.specs.Steps.{◌>>=◌, required}
 use Rattle.cf_timecode.specs.declared.Label.{Label}
 use Rattle.cf_timecode.specs.declared.TcFault.{TcFault}
 use Rattle.cf_timecode.specs.Counting.{number_of}

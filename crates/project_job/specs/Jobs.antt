@@ -6,6 +6,7 @@
 --     ComesTo files path answer      what the project at a path comes to
 use Rattle.std.specs.Prelude.{◌≡◌, ◌≤◌, ℕ, List, Option, Some, None, Result, Ok, Err}
 use Rattle.std.specs.List.{All}
+use Rattle.cf_base.specs.Steps.{◌>>=◌}
 use Rattle.cf_base.specs.declared.event.EventList.{EventList}
 use Rattle.conform_job.specs.Digest.{digest_of}
 use Rattle.conform_job.specs.Refusals.{Files, first_refusal}
