@@ -5,6 +5,7 @@ pub mod Fail
 pub mod FileId
 pub mod Fixed
 pub mod Lines
+pub mod Loan
 pub mod MemorySink
 pub mod Rgb
 pub mod Sink

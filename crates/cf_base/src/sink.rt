@@ -1,10 +1,10 @@
 //! Where the output of a command goes.
-ghost use Rattle.std.specs.Prelude.{◌≡◌, ℕ, true, List, [], ◌++◌, take, Option, Some, IfOk};
+ghost use Rattle.std.specs.Prelude.{◌≡◌, true, [], ◌++◌, take, Some, IfOk};
 ghost use Rattle.cf_base.specs.Count.{CountsOneFault, IsKept, kept};
 ghost use Rattle.std.specs.Io.{WritesAtMost};
 ghost use Rattle.std.specs.Io.KnownBytes.{Appends, WriteAppends};
 ghost use Rattle.cf_base.specs.MemorySink.{plan_of, written_in, faults_in, next_put, fails_next, after_put, IsPut};
-ghost use Rattle.cf_base.specs.Sink.{AppendsPrefix};
+ghost use Rattle.cf_base.specs.Sink.{AppendsPrefix, SinkState};
 ghost use Rattle.cf_base.specs.declared.sink.Put.TheVariants.{All, Failed};
 
 use crate::{Fail, Never};
@@ -22,20 +22,17 @@ pub enum Put {
 
 /// Takes output, piece by piece.
 pub trait Sink {
-    /// The bytes put so far, where the sink tells them: a sink that tells them goes on to tell.
-    ghost written: { Self → Option (List ℕ) };
-
-    /// How often the sink has failed. The count never falls, and stays at 2^64 - 1 once it is there.
-    ghost faults: { Self → ℕ };
+    /// The bytes put so far, where the sink tells them: a sink that tells them goes on to tell. And how often it has failed.
+    ghost state: { Self → SinkState };
 
     /// Appends the piece, or a prefix of it where the sink fails. The count rises by one in a call that fails, and in no other.
     fn put(&mut self, piece: &[u8]) -> Put
-        ensures all { result ≡ Put.All → Appends (written self.old) (written self.new) piece.now }
-        ensures prefix { AppendsPrefix (written self.old) (written self.new) piece.now }
-        ensures fault { CountsOneFault (result ≡ Put.Failed) (faults self.old) (faults self.new) };
+        ensures all { result ≡ Put.All → Appends (state self.old).written (state self.new).written piece.now }
+        ensures prefix { AppendsPrefix (state self.old).written (state self.new).written piece.now }
+        ensures fault { CountsOneFault (result ≡ Put.Failed) (state self.old).faults (state self.new).faults };
 
     /// The count is never past 2^64 - 1.
-    ghost bounded: { (sink : Self) → IsKept (faults sink) };
+    ghost bounded: { (sink : Self) → IsKept (state sink).faults };
 }
 
 /// A sink in memory, which tells its bytes. A growth that finds no memory is a fault, and so is each put that fails by its
@@ -52,8 +49,8 @@ pub struct MemorySink {
 impl MemorySink {
     /// An empty sink, of which no put fails by its number.
     pub fn new(alloc: Global) -> Self
-        ensures written { ⟦<MemorySink as Sink>⟧.written result ≡ Some [] }
-        ensures faults { ⟦<MemorySink as Sink>⟧.faults result ≡ 0 }
+        ensures written { (⟦<MemorySink as Sink>⟧.state result).written ≡ Some [] }
+        ensures faults { (⟦<MemorySink as Sink>⟧.state result).faults ≡ 0 }
         ensures plan { plan_of result ≡ record { puts = 0; fails = []; keep = 0 } }
     {
         empty_sink(alloc, Vec::new(alloc), 0)
@@ -62,8 +59,8 @@ impl MemorySink {
     /// An empty sink. A put whose number, from 1, is in the list appends the first `keep` bytes of its piece, or the whole
     /// piece if it is shorter, and fails.
     pub fn failing(alloc: Global, puts: Vec<u64>, keep: u64) -> Result<MemorySink, Fail<Never>>
-        ensures written { IfOk result (λ sink. ⟦<MemorySink as Sink>⟧.written sink ≡ Some []) }
-        ensures faults { IfOk result (λ sink. ⟦<MemorySink as Sink>⟧.faults sink ≡ 0) }
+        ensures written { IfOk result (λ sink. (⟦<MemorySink as Sink>⟧.state sink).written ≡ Some []) }
+        ensures faults { IfOk result (λ sink. (⟦<MemorySink as Sink>⟧.state sink).faults ≡ 0) }
         ensures plan { IfOk result (λ sink. plan_of sink ≡ record { puts = 0; fails = puts.items; keep = keep }) }
     {
         Ok(empty_sink(alloc, puts, keep))
@@ -71,7 +68,7 @@ impl MemorySink {
 
     /// All that was put.
     pub fn bytes(&self) -> &[u8]
-        ensures { Some result.now ≡ ⟦<MemorySink as Sink>⟧.written self.now }
+        ensures { Some result.now ≡ (⟦<MemorySink as Sink>⟧.state self.now).written }
     {
         &self.bytes
     }
@@ -93,7 +90,7 @@ impl MemorySink {
 
 fn empty_sink(alloc: Global, fails: Vec<u64>, keep: u64) -> MemorySink
     ensures written { written_in result ≡ [] }
-    ensures faults { ⟦<MemorySink as Sink>⟧.faults result ≡ 0 }
+    ensures faults { (⟦<MemorySink as Sink>⟧.state result).faults ≡ 0 }
     ensures plan { plan_of result ≡ record { puts = 0; fails = fails.items; keep = keep } }
 {
     MemorySink {
@@ -116,9 +113,7 @@ fn front_of(piece: &[u8], keep: u64) -> &[u8]
 impl Sink for MemorySink {
     ghost use Rattle.std.proofs.Common.{arith};
 
-    ghost written = { λ sink. Some (written_in sink) };
-
-    ghost faults = { faults_in };
+    ghost state = { λ sink. record { written = Some (written_in sink); faults = faults_in sink } };
 
     ghost bounded = { λ sink. Prim.omega arith };
 
@@ -156,8 +151,8 @@ pub struct StreamSink<W: Write> {
 impl<W: Write> StreamSink<W> {
     /// A sink over this writer.
     pub fn new(writer: W) -> Self
-        ensures written { ⟦<StreamSink<W> as Sink>⟧.written result ≡ W.contents writer }
-        ensures faults { ⟦<StreamSink<W> as Sink>⟧.faults result ≡ 0 }
+        ensures written { (⟦<StreamSink<W> as Sink>⟧.state result).written ≡ W.contents writer }
+        ensures faults { (⟦<StreamSink<W> as Sink>⟧.state result).faults ≡ 0 }
     {
         StreamSink {
             writer,
@@ -168,7 +163,7 @@ impl<W: Write> StreamSink<W> {
 
     /// The writer, with what was put into it.
     pub fn into_writer(self) -> W
-        ensures { W.contents result ≡ ⟦<StreamSink<W> as Sink>⟧.written self }
+        ensures { W.contents result ≡ (⟦<StreamSink<W> as Sink>⟧.state self).written }
     {
         self.writer
     }
@@ -204,9 +199,7 @@ fn why_ended(outcome: io::Result<usize>) -> io::Error {
 impl<W: Write> Sink for StreamSink<W> {
     ghost use Rattle.std.proofs.Common.{arith};
 
-    ghost written = { λ sink. W.contents sink.writer };
-
-    ghost faults = { λ sink. kept sink.faults };
+    ghost state = { λ sink. record { written = W.contents sink.writer; faults = kept sink.faults } };
 
     ghost bounded = { λ sink. Prim.omega arith };
 

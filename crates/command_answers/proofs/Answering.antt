@@ -1,13 +1,15 @@
 -- From a reply to the answer.
 use Rattle.std.proofs.Common.{◌≡◌, ◌≢◌, ℕ, true, List, Option, Some, None, MatchOption, MatchResult, Result, Ok, Err, refl, subst, inl, inr}
 use Rattle.std.specs.Prelude.{◌⊎◌}
+use Rattle.cf_base.specs.Sink.{SinkState}
+use Rattle.scan_source.specs.State.{ScanState}
 use Rattle.scan_source.specs.World.{World}
-use Rattle.command_answers.specs.Answer.{SinkState, IsPut, IsLinePut, IsUnread, Answered}
+use Rattle.command_answers.specs.Answer.{IsPut, IsLinePut, IsUnread, Answered}
 use Rattle.command_words.specs.Commands.{Spells, IsNoCommand}
 use Rattle.outcome_line.specs.Output.{line_of, IsMade}
 use Rattle.command_answers.specs.Commands.{meaning_of}
 use Rattle.command_answers.specs.Reply.{IsKindOf, IsReplyOverFolders}
-use Rattle.command_answers.specs.States.{Folders, House, ScanState}
+use Rattle.command_answers.specs.States.{Folders, House}
 use Rattle.reel_qc.specs.declared.probe.ProbeKind.{ProbeKind}
 use Rattle.project_adopt.specs.Adopt.{GoesOn, IsAdoption, IsAdoptReply, IsPromised, IsRest, IsUnadopted}
 use Rattle.reconform.specs.Adopt.{HasAnswered}
@@ -17,7 +19,7 @@ use Rattle.reconform.specs.declared.adopting.AdoptFault.TheVariants as fault
 use Rattle.project_run.specs.Look.{HasFound, HasSeen, IsLookReply, outcome_of_fault}
 use Rattle.project_run.specs.Sheet.{HasSheet}
 use Rattle.project_run.specs.Quality.{IsCounted}
-use Rattle.project_run.specs.Calls.{DiskState, IsRefusal}
+use Rattle.project_run.specs.Calls.{FolderState, IsRefusal}
 use Rattle.frame_range.specs.declared.range.Extent.{Extent}
 use Rattle.frame_range.specs.declared.range.FrameRange.{FrameRange}
 use Rattle.project_run.specs.Run.{IsJobRun, IsRunReply, IsUnplanned}
@@ -91,11 +93,11 @@ made_apart : (outcome : Outcome) → IsMade outcome → (outcome ≢ outcomes.So
 made_apart outcome made = (λ same. subst IsMade same made, λ same. subst IsMade same made)
 
 -- the folder of an outcome whose line found no memory
-none_instead : (told : Option World) (path : List ℕ) (disk disk_after : DiskState) (loads loads_after : ℕ) (reached : Outcome)
+none_instead : (told : Option World) (path : List ℕ) (disk disk_after : FolderState) (loads loads_after : ℕ) (reached : Outcome)
     → IsUnplanned told path disk disk_after loads loads_after reached → IsUnplanned told path disk disk_after loads loads_after outcomes.NoMemory
 none_instead told path disk disk_after loads loads_after reached none = record { why = told_any told (λ world. tt); kind = tt; untouched = none.untouched; texts = none.texts; refused = λ refusal same. absurd (cc) }
 
-ran_instead : {extent : Extent} {range : FrameRange} {share : ℕ} (job : JobData) (told : Option World) (disk disk_after : DiskState) (loads loads_after : ℕ) (reached : Outcome) (output : List ℕ)
+ran_instead : {extent : Extent} {range : FrameRange} {share : ℕ} (job : JobData) (told : Option World) (disk disk_after : FolderState) (loads loads_after : ℕ) (reached : Outcome) (output : List ℕ)
     → IsJobRun job extent range share told loads loads_after disk disk_after reached output → IsJobRun job extent range share told loads loads_after disk disk_after outcomes.NoMemory (line_of outcomes.NoMemory)
 ran_instead job told disk disk_after loads loads_after reached output ran = record {
   how = ran.how;
@@ -109,7 +111,7 @@ ran_instead job told disk disk_after loads loads_after reached output ran = reco
   changed = ran.changed;
 }
 
-run_instead : {extent : Extent} {share : ℕ} (told : Option World) (path : List ℕ) (disk disk_after : DiskState) (loads loads_after : ℕ) (reached : Outcome) (output : List ℕ)
+run_instead : {extent : Extent} {share : ℕ} (told : Option World) (path : List ℕ) (disk disk_after : FolderState) (loads loads_after : ℕ) (reached : Outcome) (output : List ℕ)
     → IsRunReply path extent share told loads loads_after disk disk_after reached output → IsRunReply path extent share told loads loads_after disk disk_after outcomes.NoMemory (line_of outcomes.NoMemory)
 run_instead told path disk disk_after loads loads_after reached output (inl has) = inl (record {
   job = has.job;
@@ -121,12 +123,12 @@ run_instead told path disk disk_after loads loads_after reached output (inl has)
 run_instead told path disk disk_after loads loads_after reached output (inr none) = inr (none_instead told path disk disk_after loads loads_after reached none)
 
 -- another outcome of the same look
-look_instead : (Looked Instead : JobData → Type 0) (told : Option World) (path : List ℕ) (disk disk_after : DiskState) (loads loads_after : ℕ) (reached : Outcome) → ((job : JobData) → Looked job → Instead job)
+look_instead : (Looked Instead : JobData → Type 0) (told : Option World) (path : List ℕ) (disk disk_after : FolderState) (loads loads_after : ℕ) (reached : Outcome) → ((job : JobData) → Looked job → Instead job)
     → IsLookReply told path disk disk_after loads loads_after reached Looked → IsLookReply told path disk disk_after loads loads_after outcomes.NoMemory Instead
 look_instead Looked Instead told path disk disk_after loads loads_after reached each (inl has) = inl (record { job = has.job; comes = has.comes; texts = has.texts; looked = each has.job has.looked })
 look_instead Looked Instead told path disk disk_after loads loads_after reached each (inr none) = inr (none_instead told path disk disk_after loads loads_after reached none)
 
-found_instead : (Found Instead : ViewState → Type 0) (job : JobData) (disk disk_after : DiskState) (reached : Outcome) → ((view : ViewState) → Found view → Instead view)
+found_instead : (Found Instead : ViewState → Type 0) (job : JobData) (disk disk_after : FolderState) (reached : Outcome) → ((view : ViewState) → Found view → Instead view)
     → HasFound job disk disk_after reached Found → HasFound job disk disk_after outcomes.NoMemory Instead
 found_instead Found Instead job disk disk_after reached each seen = record {
   ledger = seen.ledger;
@@ -140,11 +142,11 @@ found_instead Found Instead job disk disk_after reached each seen = record {
     by (Ok view) found = each view found
     by (Err fault) refused = inr refl
 
-seen_instead : (Found Instead : ViewState → Type 0) (job : JobData) (disk disk_after : DiskState) (reached : Outcome) → ((view : ViewState) → Found view → Instead view)
+seen_instead : (Found Instead : ViewState → Type 0) (job : JobData) (disk disk_after : FolderState) (reached : Outcome) → ((view : ViewState) → Found view → Instead view)
     → HasSeen job disk disk_after reached Found → HasSeen job disk disk_after outcomes.NoMemory Instead
 seen_instead Found Instead job disk disk_after reached each has = record { seen = found_instead Found Instead job disk disk_after reached each has.seen; still = has.still }
 
-status_instead : (job : JobData) (disk disk_after : DiskState) (reached : Outcome) (output : List ℕ) → IsStatus job disk disk_after reached output → IsStatus job disk disk_after outcomes.NoMemory (line_of outcomes.NoMemory)
+status_instead : (job : JobData) (disk disk_after : FolderState) (reached : Outcome) (output : List ℕ) → IsStatus job disk disk_after reached output → IsStatus job disk disk_after outcomes.NoMemory (line_of outcomes.NoMemory)
 status_instead job disk disk_after reached output status = record {
   answer = status.answer;
   reached_is = inr refl;
@@ -154,7 +156,7 @@ status_instead job disk disk_after reached output status = record {
   still = status.still;
 }
 
-check_instead : (job : JobData) (view : ViewState) (disk : DiskState) (reached : Outcome) (output : List ℕ) → IsChecked job view disk reached output → IsChecked job view disk outcomes.NoMemory (line_of outcomes.NoMemory)
+check_instead : (job : JobData) (view : ViewState) (disk : FolderState) (reached : Outcome) (output : List ℕ) → IsChecked job view disk reached output → IsChecked job view disk outcomes.NoMemory (line_of outcomes.NoMemory)
 check_instead job view disk reached output checked = record {
   answer = checked.answer;
   checked = checked.checked;
@@ -167,10 +169,10 @@ check_instead job view disk reached output checked = record {
 sums_instead : (job : JobData) (view : ViewState) (output : List ℕ) → AreSums job view outcomes.NoMemory output
 sums_instead job view output = record { kind = inr refl; form = λ same. absurd (cc) }
 
-count_instead : (kinds : List ProbeKind) (job : JobData) (view : ViewState) (disk : DiskState) (output : List ℕ) → IsCounted kinds job view disk outcomes.NoMemory output
+count_instead : (kinds : List ProbeKind) (job : JobData) (view : ViewState) (disk : FolderState) (output : List ℕ) → IsCounted kinds job view disk outcomes.NoMemory output
 count_instead kinds job view disk output = record { kind = tt; form = λ same. absurd (cc); sound = λ same. absurd (cc); known = λ same. absurd (cc) }
 
-sheet_instead : (tone : List ℕ) (job : JobData) (disk disk_after : DiskState) (reached : Outcome) (output : List ℕ) → HasSheet tone job disk disk_after reached output → HasSheet tone job disk disk_after outcomes.NoMemory (line_of outcomes.NoMemory)
+sheet_instead : (tone : List ℕ) (job : JobData) (disk disk_after : FolderState) (reached : Outcome) (output : List ℕ) → HasSheet tone job disk disk_after reached output → HasSheet tone job disk disk_after outcomes.NoMemory (line_of outcomes.NoMemory)
 unfolding found_instead
 sheet_instead tone job disk disk_after reached output made = record {
   seen = found_instead _ _ job disk disk_after reached (λ view sheeted. record { kind = tt; sheet = λ same. absurd (cc); form = λ same. absurd (cc); known = λ same. absurd (cc) }) made.seen;
@@ -181,7 +183,7 @@ sheet_instead tone job disk disk_after reached output made = record {
 }
 
 -- another outcome of the same adoption
-rest_instead : (job : JobData) (told : Option World) (done : Adopted) (disk disk_after : DiskState) (loads loads_after : ℕ) (reached : Outcome) (output : List ℕ)
+rest_instead : (job : JobData) (told : Option World) (done : Adopted) (disk disk_after : FolderState) (loads loads_after : ℕ) (reached : Outcome) (output : List ℕ)
     → IsRest job done told loads loads_after disk disk_after reached output → IsRest job done told loads loads_after disk disk_after outcomes.NoMemory (line_of outcomes.NoMemory)
 rest_instead job told done disk disk_after loads loads_after reached output rest = record {
   run_output = line_of outcomes.NoMemory;
@@ -189,7 +191,7 @@ rest_instead job told done disk disk_after loads loads_after reached output rest
   form = λ same. absurd (cc);
 }
 
-adopted_instead : (job old_job : JobData) (told : Option World) (old old_after disk disk_after : DiskState) (loads loads_after : ℕ) (reached : Outcome) (output : List ℕ)
+adopted_instead : (job old_job : JobData) (told : Option World) (old old_after disk disk_after : FolderState) (loads loads_after : ℕ) (reached : Outcome) (output : List ℕ)
     → IsAdoption job old_job told loads loads_after old old_after disk disk_after reached output
     → IsAdoption job old_job told loads loads_after old old_after disk disk_after outcomes.NoMemory (line_of outcomes.NoMemory)
 adopted_instead job old_job told old old_after disk disk_after loads loads_after reached output went = by went.adopted went.answer went.sealed went.went
@@ -227,10 +229,10 @@ adopted_instead job old_job told old old_after disk disk_after loads loads_after
       sound_has = went.sound_has;
     }
 
-promised_instead : (job : JobData) (told : Option World) (disk disk_after : DiskState) (reached : Outcome) → IsPromised job told disk disk_after reached → IsPromised job told disk disk_after outcomes.NoMemory
+promised_instead : (job : JobData) (told : Option World) (disk disk_after : FolderState) (reached : Outcome) → IsPromised job told disk disk_after reached → IsPromised job told disk disk_after outcomes.NoMemory
 promised_instead job told disk disk_after reached promised = record { run = promised.run; whole = λ same. absurd (cc) }
 
-onward_instead : (job : JobData) (told : Option World) (old_path : List ℕ) (old old_after disk disk_after : DiskState) (loads loads_after : ℕ) (reached : Outcome) (output : List ℕ)
+onward_instead : (job : JobData) (told : Option World) (old_path : List ℕ) (old old_after disk disk_after : FolderState) (loads loads_after : ℕ) (reached : Outcome) (output : List ℕ)
     → GoesOn job old_path told loads loads_after old old_after disk disk_after reached output
     → GoesOn job old_path told loads loads_after old old_after disk disk_after outcomes.NoMemory (line_of outcomes.NoMemory)
 onward_instead job told old_path old old_after disk disk_after loads loads_after reached output (inl has) = inl (record {
@@ -248,7 +250,7 @@ onward_instead job told old_path old old_after disk disk_after loads loads_after
   untouched = none.untouched;
 })
 
-adopt_instead : (told : Option World) (path old_path : List ℕ) (old old_after disk disk_after : DiskState) (loads loads_after : ℕ) (reached : Outcome) (output : List ℕ)
+adopt_instead : (told : Option World) (path old_path : List ℕ) (old old_after disk disk_after : FolderState) (loads loads_after : ℕ) (reached : Outcome) (output : List ℕ)
     → IsAdoptReply path old_path told loads loads_after old old_after disk disk_after reached output
     → IsAdoptReply path old_path told loads loads_after old old_after disk disk_after outcomes.NoMemory (line_of outcomes.NoMemory)
 adopt_instead told path old_path old old_after disk disk_after loads loads_after reached output (inl has) = inl (record {

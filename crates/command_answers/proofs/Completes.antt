@@ -2,8 +2,10 @@
 use Rattle.std.proofs.Common.{◌≡◌, ◌≢◌, ℕ, Bool, true, List, Option, Some, None, IfSome, MatchResult, Result, Ok, Err, refl, sym, ap, subst, ◌∙◌, inl, inr}
 use Rattle.std.specs.Prelude.{◌⊎◌, IsOk, IsSomeAnd}
 use Rattle.std.proofs.lemmas.Option.{same_Some}
+use Rattle.cf_base.specs.Sink.{SinkState}
 use Rattle.cf_base.specs.declared.reel.ReelEntry.{ReelEntry}
 use Rattle.cf_base.specs.declared.timing.Rate.{Rate}
+use Rattle.scan_source.specs.State.{ScanState}
 use Rattle.dpx_header.specs.declared.fault.DpxFault.{DpxFault}
 use Rattle.edl_events.specs.Lists.{list_of}
 use Rattle.edl_events.specs.declared.ListRefusal.{ListRefusal}
@@ -28,7 +30,7 @@ use Rattle.frame_fetch.specs.declared.run_end.RunEnd.{RunEnd}
 use Rattle.frame_fetch.specs.declared.run_end.RunEnd.TheVariants as ends
 use Rattle.project_job.specs.Jobs.{ComesTo, HasPlanned, IsOfJob}
 use Rattle.project_job.specs.Laws.{OneJob}
-use Rattle.project_run.specs.Calls.{DiskState}
+use Rattle.project_run.specs.Calls.{FolderState}
 use Rattle.frame_range.specs.declared.range.Extent.{Extent}
 use Rattle.frame_range.specs.declared.range.FrameRange.{FrameRange}
 use Rattle.project_run.specs.Run.{IsJobRun, IsOfRun, IsRunReply, outcome_of_end}
@@ -64,8 +66,8 @@ use Rattle.command_answers.specs.Commands.Plan.{IsPlanForm}
 use Rattle.command_answers.specs.Commands.Pull.{IsPullForm}
 use Rattle.command_answers.specs.Meaning.{IsThrough}
 use Rattle.command_answers.specs.Reply.{IsKindOf, IsReplyOverFolders}
-use Rattle.command_answers.specs.States.{Folders, House, ScanState}
-use Rattle.command_answers.specs.Answer.{SinkState, IsPut, Answered}
+use Rattle.command_answers.specs.States.{Folders, House}
+use Rattle.command_answers.specs.Answer.{IsPut, Answered}
 use Rattle.command_answers.specs.Complete.{IsAccepted, HasNotRisen, IsComplete, IsUnfailed}
 use Rattle.command_answers.proofs.Headlines.{at_world}
 use Rattle.command_answers.proofs.Replies.{replied_run}
@@ -185,7 +187,7 @@ by_end reels how reached is (inl done) = inl (is ∙ ap (outcome_of_end reels) d
 by_end reels how reached is (inr memory) = inr (is ∙ ap (outcome_of_end reels) memory)
 
 -- a run in a folder that is fit for its job
-ran_complete : {extent : Extent} {range : FrameRange} {share : ℕ} (world : World) (told : Option World) → told ≡ Some world → (job : JobData) (disk disk_after : DiskState) (loads loads_after : ℕ) (reached : Outcome) (output : List ℕ) → disk.tells ≡ true → IsFit job.parts.digest (frames_of job) (view_of disk.history)
+ran_complete : {extent : Extent} {range : FrameRange} {share : ℕ} (world : World) (told : Option World) → told ≡ Some world → (job : JobData) (disk disk_after : FolderState) (loads loads_after : ℕ) (reached : Outcome) (output : List ℕ) → disk.tells ≡ true → IsFit job.parts.digest (frames_of job) (view_of disk.history)
     → IsJobRun job extent range share told loads loads_after disk disk_after reached output → reached ≢ outcomes.SourceFault → reached ≢ outcomes.DiskFault → IsThrough reached
 ran_complete world told is job disk disk_after loads loads_after reached output tells fit ran no_source no_disk = elim ran.reply.reached_is [
   | inl reached_is ↦
@@ -199,19 +201,19 @@ ran_complete world told is job disk disk_after loads loads_after reached output 
   | inr memory ↦ inr memory
 ]
 
-module _ (laws : OneJob) (world : World) (path : List ℕ) (disk : DiskState) (place : HasFitFolder world path disk) (told : Option World) (is : told ≡ Some world) where
+module _ (laws : OneJob) (world : World) (path : List ℕ) (disk : FolderState) (place : HasFitFolder world path disk) (told : Option World) (is : told ≡ Some world) where
   -- the folder is fit for the job that was run
   pub fit_for : (job : JobData) → IfSome told (λ files. ComesTo (file_at files) path (Ok job.parts)) → IsFit job.parts.digest (frames_of job) (view_of disk.history)
   fit_for job comes = subst (λ parts. IsFit parts.digest (frame_count parts.timeline.events) (view_of disk.history))
       (laws.one (file_at world) path place.job.parts job.parts place.comes (at_world told world (λ files. ComesTo (file_at files) path (Ok job.parts)) is comes)) place.fit
 
-  run_complete : {extent : Extent} {share : ℕ} (disk_after : DiskState) (loads loads_after : ℕ) (reached : Outcome) (output : List ℕ) → IsRunReply path extent share told loads loads_after disk disk_after reached output
+  run_complete : {extent : Extent} {share : ℕ} (disk_after : FolderState) (loads loads_after : ℕ) (reached : Outcome) (output : List ℕ) → IsRunReply path extent share told loads loads_after disk disk_after reached output
       → reached ≢ outcomes.SourceFault → reached ≢ outcomes.DiskFault → IsThrough reached
   run_complete disk_after loads loads_after reached output (inl has) no_source no_disk =
       ran_complete world told is has.job disk disk_after has.planned loads_after reached output place.tells (fit_for has.job has.comes) has.ran no_source no_disk
   run_complete disk_after loads loads_after reached output (inr none) no_source no_disk = planned_complete laws told world path reached is (place.job, place.comes) none.why none.kind no_source
 
-  status_complete : (disk_after : DiskState) (loads loads_after : ℕ) (reached : Outcome) (output : List ℕ) → IsStatusReply path told loads loads_after disk disk_after reached output
+  status_complete : (disk_after : FolderState) (loads loads_after : ℕ) (reached : Outcome) (output : List ℕ) → IsStatusReply path told loads loads_after disk disk_after reached output
       → reached ≢ outcomes.SourceFault → reached ≢ outcomes.DiskFault → IsThrough reached
   status_complete disk_after loads loads_after reached output (inl has) no_source no_disk = elim has.looked.reached_is [
     | inl reached_is ↦ subst IsThrough (sym reached_is)
@@ -221,7 +223,7 @@ module _ (laws : OneJob) (world : World) (path : List ℕ) (disk : DiskState) (p
   status_complete disk_after loads loads_after reached output (inr none) no_source no_disk = planned_complete laws told world path reached is (place.job, place.comes) none.why none.kind no_source
 
   -- what was found of the ledger, or that it can't be had
-  found_complete : (command : Command) (Found : ViewState → Type 0) (job : JobData) (disk_after : DiskState) (reached : Outcome) → IfSome told (λ files. ComesTo (file_at files) path (Ok job.parts))
+  found_complete : (command : Command) (Found : ViewState → Type 0) (job : JobData) (disk_after : FolderState) (reached : Outcome) → IfSome told (λ files. ComesTo (file_at files) path (Ok job.parts))
       → HasFound job disk disk_after reached Found → ((view : ViewState) → Found view → IsComplete command reached) → reached ≢ outcomes.DiskFault → IsComplete command reached
   found_complete command Found job disk_after reached comes seen each no_disk = by seen.ledger (seen.looked place.tells) seen.found
     where
@@ -239,7 +241,7 @@ module _ (laws : OneJob) (world : World) (path : List ℕ) (disk : DiskState) (p
     | inr memory ↦ through (commands.Verify path) reached (inr memory)
   ]
 
-  verify_complete : (disk_after : DiskState) (loads loads_after : ℕ) (reached : Outcome) (output : List ℕ) → IsVerifyReply path told loads loads_after disk disk_after reached output
+  verify_complete : (disk_after : FolderState) (loads loads_after : ℕ) (reached : Outcome) (output : List ℕ) → IsVerifyReply path told loads loads_after disk disk_after reached output
       → reached ≢ outcomes.SourceFault → reached ≢ outcomes.DiskFault → IsComplete (commands.Verify path) reached
   verify_complete disk_after loads loads_after reached output (inl has) no_source no_disk =
       found_complete (commands.Verify path) _ has.job disk_after reached has.comes has.looked.seen (λ view checked. checked_complete has.job view reached output no_disk checked) no_disk
@@ -252,19 +254,19 @@ module _ (laws : OneJob) (world : World) (path : List ℕ) (disk : DiskState) (p
   behind_complete outcomes.NoMemory no_disk kind = inr refl
   behind_complete other no_disk kind = absurd kind
 
-  sums_complete : (disk_after : DiskState) (loads loads_after : ℕ) (reached : Outcome) (output : List ℕ) → IsSumsReply path told loads loads_after disk disk_after reached output
+  sums_complete : (disk_after : FolderState) (loads loads_after : ℕ) (reached : Outcome) (output : List ℕ) → IsSumsReply path told loads loads_after disk disk_after reached output
       → reached ≢ outcomes.SourceFault → reached ≢ outcomes.DiskFault → IsThrough reached
   sums_complete disk_after loads loads_after reached output (inl has) no_source no_disk =
       found_complete (commands.Sums path) _ has.job disk_after reached has.comes has.looked.seen (λ view sums. sums.kind) no_disk
   sums_complete disk_after loads loads_after reached output (inr none) no_source no_disk = planned_complete laws told world path reached is (place.job, place.comes) none.why none.kind no_source
 
-  qc_complete : {kinds : List ProbeKind} (disk_after : DiskState) (loads loads_after : ℕ) (reached : Outcome) (output : List ℕ) → IsQcReply kinds path told loads loads_after disk disk_after reached output
+  qc_complete : {kinds : List ProbeKind} (disk_after : FolderState) (loads loads_after : ℕ) (reached : Outcome) (output : List ℕ) → IsQcReply kinds path told loads loads_after disk disk_after reached output
       → reached ≢ outcomes.SourceFault → reached ≢ outcomes.DiskFault → IsThrough reached
   qc_complete disk_after loads loads_after reached output (inl has) no_source no_disk =
       found_complete (commands.Qc path) _ has.job disk_after reached has.comes has.looked.seen (λ view counted. behind_complete reached no_disk counted.kind) no_disk
   qc_complete disk_after loads loads_after reached output (inr none) no_source no_disk = planned_complete laws told world path reached is (place.job, place.comes) none.why none.kind no_source
 
-  sheet_complete : {tone : List ℕ} (disk_after : DiskState) (loads loads_after : ℕ) (reached : Outcome) (output : List ℕ) → IsSheetReply tone path told loads loads_after disk disk_after reached output
+  sheet_complete : {tone : List ℕ} (disk_after : FolderState) (loads loads_after : ℕ) (reached : Outcome) (output : List ℕ) → IsSheetReply tone path told loads loads_after disk disk_after reached output
       → reached ≢ outcomes.SourceFault → reached ≢ outcomes.DiskFault → IsThrough reached
   sheet_complete disk_after loads loads_after reached output (inl has) no_source no_disk =
       found_complete (commands.Sheet path) _ has.job disk_after reached has.comes has.looked.seen (λ view sheeted. behind_complete reached no_disk sheeted.kind) no_disk
@@ -287,14 +289,14 @@ adoption_complete job old_job tells old old_after disk between (adopts.BadLedger
 adoption_complete job old_job tells old old_after disk between adopts.DiskFault told old_fit fit answer no_disk = absurd (no_disk refl)
 adoption_complete job old_job tells old old_after disk between adopts.NoMemory told old_fit fit answer no_disk = inr refl
 
-module _ (laws : OneJob) (world : World) (path old_path : List ℕ) (disk old : DiskState) (place : HasFitFolder world path disk) (old_place : HasSoundFolder world old_path old) (told : Option World) (is : told ≡ Some world) where
+module _ (laws : OneJob) (world : World) (path old_path : List ℕ) (disk old : FolderState) (place : HasFitFolder world path disk) (old_place : HasSoundFolder world old_path old) (told : Option World) (is : told ≡ Some world) where
   -- the rest was run
-  rest_complete : (job : JobData) (done : Adopted) (between disk_after : DiskState) (loads loads_after : ℕ) (reached : Outcome) (output : List ℕ) → between.tells ≡ true → IsFit job.parts.digest (frames_of job) (view_of between.history)
+  rest_complete : (job : JobData) (done : Adopted) (between disk_after : FolderState) (loads loads_after : ℕ) (reached : Outcome) (output : List ℕ) → between.tells ≡ true → IsFit job.parts.digest (frames_of job) (view_of between.history)
       → IsRest job done told loads loads_after between disk_after reached output → reached ≢ outcomes.SourceFault → reached ≢ outcomes.DiskFault → IsThrough reached
   rest_complete job done between disk_after loads loads_after reached output tells fit rest no_source no_disk =
       ran_complete world told is job between disk_after loads loads_after reached rest.run_output tells fit rest.run no_source no_disk
 
-  went_complete : (job old_job : JobData) (old_after disk_after : DiskState) (loads loads_after : ℕ) (reached : Outcome) (output : List ℕ)
+  went_complete : (job old_job : JobData) (old_after disk_after : FolderState) (loads loads_after : ℕ) (reached : Outcome) (output : List ℕ)
       → IsFit old_job.parts.digest (frames_of old_job) (view_of old.history) → IsFit job.parts.digest (frames_of job) (view_of disk.history)
       → IsAdoption job old_job told loads loads_after old old_after disk disk_after reached output → reached ≢ outcomes.SourceFault → reached ≢ outcomes.DiskFault → IsThrough reached
   went_complete job old_job old_after disk_after loads loads_after reached output old_fit fit went no_source no_disk = by went.adopted went.answer went.went
@@ -317,7 +319,7 @@ module _ (laws : OneJob) (world : World) (path old_path : List ℕ) (disk old : 
       ])
       by other reached_is through_found = subst IsThrough (sym reached_is) (through_found (λ source. no_source (reached_is ∙ source)))
 
-  onward_complete : (job : JobData) (old_after disk_after : DiskState) (loads loads_after : ℕ) (reached : Outcome) (output : List ℕ) → IfSome told (λ files. ComesTo (file_at files) path (Ok job.parts))
+  onward_complete : (job : JobData) (old_after disk_after : FolderState) (loads loads_after : ℕ) (reached : Outcome) (output : List ℕ) → IfSome told (λ files. ComesTo (file_at files) path (Ok job.parts))
       → GoesOn job old_path told loads loads_after old old_after disk disk_after reached output → reached ≢ outcomes.SourceFault → reached ≢ outcomes.DiskFault → IsThrough reached
   onward_complete job old_after disk_after loads loads_after reached output comes (inl has) no_source no_disk =
       went_complete job has.old_job old_after disk_after has.planned loads_after reached output
@@ -326,7 +328,7 @@ module _ (laws : OneJob) (world : World) (path old_path : List ℕ) (disk old : 
       of_old_complete none.found reached none.reached_is
       (λ none_source. planned_complete laws told world old_path none.found is (old_place.place.job, old_place.place.comes) none.unplanned.why none.unplanned.kind none_source) no_source
 
-  adopt_complete : (disk_after old_after : DiskState) (loads loads_after : ℕ) (reached : Outcome) (output : List ℕ) → IsAdoptReply path old_path told loads loads_after old old_after disk disk_after reached output
+  adopt_complete : (disk_after old_after : FolderState) (loads loads_after : ℕ) (reached : Outcome) (output : List ℕ) → IsAdoptReply path old_path told loads loads_after old old_after disk disk_after reached output
       → reached ≢ outcomes.SourceFault → reached ≢ outcomes.DiskFault → IsThrough reached
   adopt_complete disk_after old_after loads loads_after reached output (inl has) no_source no_disk =
       onward_complete has.job old_after disk_after has.planned loads_after reached output has.came.comes has.went no_source no_disk

@@ -1,6 +1,7 @@
 -- From the demonstration to the reply of its command, which leaves the scan and the disk as they are.
 use Rattle.std.proofs.Common.{◌≡◌, ◌≢◌, ℕ, List, Vec, Global, MatchResult, refl, sym, subst, arith}
 use Rattle.std.specs.Prelude.{Result, Ok, Err}
+use Rattle.scan_source.specs.State.{ScanState}
 use Rattle.scan_source.specs.World.{file_at}
 use Rattle.demo_run.specs.Demo.{demo_world, IsShown, IsInstead}
 use Rattle.outcome_line.specs.Output.{line_of}
@@ -10,7 +11,7 @@ use Rattle.outcome_line.specs.declared.outcome.Outcome.{Outcome}
 use Rattle.outcome_line.specs.declared.outcome.Outcome.TheVariants as outcomes
 use Rattle.command_answers.specs.Commands.Demo.{IsDemoReply}
 use Rattle.command_answers.specs.Reply.{IsKindOf, IsReplyOverScan, IsReplyOverFolders}
-use Rattle.command_answers.specs.States.{Folders, House, ScanState}
+use Rattle.command_answers.specs.States.{Folders, House}
 use Rattle.command_answers.proofs.Replies.{reply_of}
 
 -- with no call on either, nothing failed

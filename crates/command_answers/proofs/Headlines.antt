@@ -1,9 +1,11 @@
 -- From the reply of a run to the headline, and from the causes of all answers to completeness.
 use Rattle.std.proofs.Common.{◌≡◌, ◌≢◌, ℕ, true, List, Option, Some, None, IfSome, Ok, refl, sym, ap, subst, ◌∙◌, arith, inl, inr}
 use Rattle.std.specs.Prelude.{◌⊎◌}
+use Rattle.cf_base.specs.Sink.{SinkState}
 use Rattle.cf_base.specs.declared.file.FileId.{FileId}
 use Rattle.cf_base.specs.declared.file.FileId.TheVariants.{Seal, Seal2}
 use Rattle.cf_base.specs.declared.reel.ReelEntry.{ReelEntry}
+use Rattle.scan_source.specs.State.{ScanState}
 use Rattle.scan_source.specs.World.{World, file_at}
 use Rattle.conform_job.specs.Job.{JobData}
 use Rattle.frame_render.specs.Frame.{frame_file, some_lines, words_of_key}
@@ -26,15 +28,15 @@ use Rattle.frame_fetch.specs.declared.run_end.RunEnd.TheVariants as ends
 use Rattle.project_job.specs.Jobs.{ComesTo, IsOfJob}
 use Rattle.project_job.specs.Laws.{OneJob}
 use Rattle.project_adopt.specs.Adopt.{GoesOn, IsAdoptReply, IsOldSound, of_old_project}
-use Rattle.project_run.specs.Calls.{DiskState}
+use Rattle.project_run.specs.Calls.{FolderState}
 use Rattle.project_run.specs.Run.{IsOfRun, IsRunReply, outcome_of_end}
 use Rattle.command_words.specs.declared.command.Command.TheVariants as commands
 use Rattle.outcome_line.specs.Output.{status_of}
 use Rattle.outcome_line.specs.declared.outcome.Outcome.{Outcome}
 use Rattle.outcome_line.specs.declared.outcome.Outcome.TheVariants as outcomes
 use Rattle.command_answers.specs.Reply.{IsKindOf}
-use Rattle.command_answers.specs.States.{Folders, House, ScanState}
-use Rattle.command_answers.specs.Answer.{SinkState, IsPut, IsUnread, Answered}
+use Rattle.command_answers.specs.States.{Folders, House}
+use Rattle.command_answers.specs.Answer.{IsPut, IsUnread, Answered}
 use Rattle.command_answers.specs.Adoption.{AdoptsJob}
 use Rattle.command_answers.specs.Folders.{IsEmptyFolder, IsBeginning, left_with}
 use Rattle.command_answers.specs.Headline.{RunsJob, KeepsItsPromise, HasEnded}
@@ -190,7 +192,7 @@ unread_promise words scan scan_after folders folders_after sink sink_after resul
     (still_promise job range world folders.reel.history (HasEnded result) (λ ended. memory_not_done sink sink_after reached output result put unread.reached_is ended))
 
 module _ (laws : OneJob) (job : JobData) (world : World) (path : List ℕ) (comes : ComesTo (file_at world) path (Ok job.parts)) where
-  reply_promise : {share : ℕ} (extent : Extent) (told : Option World) (disk disk_after : DiskState) (loads loads_after : ℕ) (reached : Outcome) (output : List ℕ) (Ended : Type 0)
+  reply_promise : {share : ℕ} (extent : Extent) (told : Option World) (disk disk_after : FolderState) (loads loads_after : ℕ) (reached : Outcome) (output : List ℕ) (Ended : Type 0)
       → told ≡ Some world → disk.tells ≡ true → (Ended → reached ≡ outcomes.Done) → IsRunReply path extent share told loads loads_after disk disk_after reached output
       → KeepsItsPromise job (range_of extent (frames_of job)) world disk.history disk_after.history Ended
   reply_promise extent told disk disk_after loads loads_after reached output Ended is tells done (inl has) =
@@ -198,7 +200,7 @@ module _ (laws : OneJob) (job : JobData) (world : World) (path : List ℕ) (come
       (laws.one (file_at world) path has.job.parts job.parts (at_world told world (λ w. ComesTo (file_at w) path (Ok has.job.parts)) is has.comes) comes)
       (has.ran.keeps.run tells) has.ran.keeps.sound_has (λ ended. has.ran.keeps.acked (how_done _ _ _ (done ended) has.ran.reply.reached_is) tells)
   reply_promise extent told disk disk_after loads loads_after reached output Ended is tells done (inr none) =
-      subst (λ (after : DiskState). KeepsItsPromise job (range_of extent (frames_of job)) world disk.history after.history Ended) (sym none.untouched)
+      subst (λ (after : FolderState). KeepsItsPromise job (range_of extent (frames_of job)) world disk.history after.history Ended) (sym none.untouched)
       (still_promise job (range_of extent (frames_of job)) world disk.history Ended (λ ended. job_not_done reached none.kind (done ended)))
 
 -- by the answer of one thread
@@ -231,7 +233,7 @@ no_old_job (outcomes.SinkFault instead) kind is = absurd kind
 
 module _ (laws : OneJob) (job : JobData) (world : World) (path old_path : List ℕ) (comes : ComesTo (file_at world) path (Ok job.parts)) (told : Option World) (is : told ≡ Some world) where
   -- the old project came to some job, or to none
-  onward_promise : (ran : JobData) (old old_after disk disk_after : DiskState) (loads loads_after : ℕ) (reached : Outcome) (output : List ℕ) (Ended : Type 0)
+  onward_promise : (ran : JobData) (old old_after disk disk_after : FolderState) (loads loads_after : ℕ) (reached : Outcome) (output : List ℕ) (Ended : Type 0)
       → ((old_job : JobData) → ComesTo (file_at world) old_path (Ok old_job.parts) → IsOldSound old_job world (view_of old.history))
       → ran.parts ≡ job.parts → disk.tells ≡ true → (Ended → reached ≡ outcomes.Done) → GoesOn ran old_path told loads loads_after old old_after disk disk_after reached output
       → KeepsItsPromise job (range_of Whole (frames_of job)) world disk.history disk_after.history Ended
@@ -240,10 +242,10 @@ module _ (laws : OneJob) (job : JobData) (world : World) (path old_path : List �
       let promised = has.sound tells (subst (λ t. IfSome t (λ w. IsOldSound has.old_job w (view_of old.history))) (sym is) (sound has.old_job came)) in
       run_promise job ran Whole told world disk.history disk_after.history Ended is same promised.run has.went.sound_has (λ ended. has.went.acked (done ended) tells)
   onward_promise ran old old_after disk disk_after loads loads_after reached output Ended sound same tells done (inr none) =
-      subst (λ (after : DiskState). KeepsItsPromise job (range_of Whole (frames_of job)) world disk.history after.history Ended) (sym none.unplanned.untouched)
+      subst (λ (after : FolderState). KeepsItsPromise job (range_of Whole (frames_of job)) world disk.history after.history Ended) (sym none.unplanned.untouched)
       (still_promise job (range_of Whole (frames_of job)) world disk.history Ended (λ ended. no_old_job none.found none.unplanned.kind (sym none.reached_is ∙ done ended)))
 
-  adopt_promise : (old old_after disk disk_after : DiskState) (loads loads_after : ℕ) (reached : Outcome) (output : List ℕ) (Ended : Type 0)
+  adopt_promise : (old old_after disk disk_after : FolderState) (loads loads_after : ℕ) (reached : Outcome) (output : List ℕ) (Ended : Type 0)
       → ((old_job : JobData) → ComesTo (file_at world) old_path (Ok old_job.parts) → IsOldSound old_job world (view_of old.history))
       → disk.tells ≡ true → (Ended → reached ≡ outcomes.Done) → IsAdoptReply path old_path told loads loads_after old old_after disk disk_after reached output
       → KeepsItsPromise job (range_of Whole (frames_of job)) world disk.history disk_after.history Ended
@@ -251,7 +253,7 @@ module _ (laws : OneJob) (job : JobData) (world : World) (path old_path : List �
       onward_promise has.job old old_after disk disk_after has.planned loads_after reached output Ended sound
       (laws.one (file_at world) path has.job.parts job.parts (at_world told world (λ w. ComesTo (file_at w) path (Ok has.job.parts)) is has.came.comes) comes) tells done has.went
   adopt_promise old old_after disk disk_after loads loads_after reached output Ended sound tells done (inr none) =
-      subst (λ (after : DiskState). KeepsItsPromise job (range_of Whole (frames_of job)) world disk.history after.history Ended) (sym none.unplanned.untouched)
+      subst (λ (after : FolderState). KeepsItsPromise job (range_of Whole (frames_of job)) world disk.history after.history Ended) (sym none.unplanned.untouched)
       (still_promise job (range_of Whole (frames_of job)) world disk.history Ended (λ ended. job_not_done reached none.unplanned.kind (done ended)))
 
 pub answered_adoption : {house : House} (laws : OneJob) (words : List (List ℕ)) (scan scan_after : ScanState) (folders folders_after : Folders) (sink sink_after : SinkState) (result : Outcome)

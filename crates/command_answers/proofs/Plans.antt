@@ -1,6 +1,7 @@
 -- From a job that was planned to the reply of its command.
 use Rattle.std.proofs.Common.{List, [], length, ℕ, Option, IfSome}
 use Rattle.std.specs.Prelude.{Some, None, Ok, Err}
+use Rattle.scan_source.specs.State.{ScanState}
 use Rattle.conform_job.specs.Answers.{Grows, HeadsGrow}
 use Rattle.conform_job.specs.Asks.{asks_of}
 use Rattle.conform_job.specs.Infos.{HasEachOnce}
@@ -10,7 +11,6 @@ use Rattle.scan_source.specs.World.{World, file_at}
 use Rattle.project_job.specs.Jobs.{HasPlanned, IsOfJob}
 use Rattle.command_answers.specs.ByJob.{IsJobReply}
 use Rattle.command_answers.specs.Reply.{IsKindOf}
-use Rattle.command_answers.specs.States.{ScanState}
 use Rattle.outcome_line.specs.declared.outcome.Outcome.{Outcome}
 use Rattle.outcome_line.specs.declared.outcome.Outcome.TheVariants as outcomes
 use Rattle.outcome_line.specs.declared.outcome.Outcome.TheVariants.{Done, Usage, Refused, SourceFault, SinkFault, NoMemory}

@@ -8,6 +8,7 @@ use Rattle.cf_base.specs.Count.{HasRisen}
 use Rattle.cf_base.specs.declared.fail.Fail.{Fail}
 use Rattle.cf_base.specs.declared.fail.Fail.TheVariants.{Fault}
 use Rattle.cf_base.specs.declared.timing.Rate.{Rate}
+use Rattle.scan_source.specs.State.{ScanState}
 use Rattle.scan_source.specs.World.{World, file_at}
 use Rattle.command_answers.specs.Commands.Frame.{IsFrameCase, IsFrameForm}
 use Rattle.command_answers.specs.Commands.List.{IsListCase, IsListForm}
@@ -27,7 +28,6 @@ use Rattle.command_answers.specs.ByFile.{ByFile, IsRightBy}
 use Rattle.command_answers.specs.ByJob.{AreJobHeads}
 use Rattle.command_answers.specs.Commands.{meaning_of}
 use Rattle.command_answers.specs.Reply.{CallsDisk, IsKindOf, IsReplyOverScan}
-use Rattle.command_answers.specs.States.{OnScan, ScanState}
 use Rattle.frame_range.specs.declared.range.Extent.{Extent}
 use Rattle.command_words.specs.declared.command.Command.{Command}
 use Rattle.command_words.specs.declared.command.Command.TheVariants as commands
@@ -261,13 +261,13 @@ heads_instead (commands.Pull path margin) before after reached heads = λ refusa
 heads_instead (commands.Demo count) before after reached heads = heads
 
 -- What was left of the scan is what a command of a project means: of one that is right by a folder, and what it loaded is said there.
-module _ {S : Type 0} (kind : Command) (path : List ℕ) {Kind : Outcome → Type 0} (world : S → Option World) (faults loads heads : S → ℕ) (same : S → S → Type 0) (scan scan_after : S)
+module _ (kind : Command) (path : List ℕ) {Kind : Outcome → Type 0} (scan scan_after : ScanState)
     (kinds : (reached : Outcome) → Kind reached → IsKindOf kind reached)
-    (right : (reached : Outcome) (output : List ℕ) → OnScan world faults loads heads scan scan_after ((meaning_of kind).IsRight reached output))
-    (loaded : (reached : Outcome) → OnScan world faults loads heads scan scan_after (meaning_of kind).HasLoaded reached)
-    (looks : (reached : Outcome) → OnScan world faults loads heads scan scan_after (AreJobHeads path) reached → OnScan world faults loads heads scan scan_after (meaning_of kind).LooksAtHeads reached) where
-  pub replied_over : (result : Result (Vec ℕ Global) Outcome) → MatchResult result (λ text. Unit {0}) Kind → LeavesScanFor world faults heads same path result scan scan_after
-      → Replies result (OnScan world faults loads heads scan scan_after (IsReplyOverScan kind))
+    (right : (reached : Outcome) (output : List ℕ) → (meaning_of kind).IsRight reached output scan scan_after)
+    (loaded : (reached : Outcome) → (meaning_of kind).HasLoaded scan scan_after reached)
+    (looks : (reached : Outcome) → AreJobHeads path scan scan_after reached → (meaning_of kind).LooksAtHeads scan scan_after reached) where
+  pub replied_over : (result : Result (Vec ℕ Global) Outcome) → MatchResult result (λ text. Unit {0}) Kind → LeavesScanFor path result scan scan_after
+      → Replies result (IsReplyOverScan kind scan scan_after)
   replied_over (Ok text) is left =
       reply_of _ _ _ _ _ tt (right Done text.items) (λ not_done. absurd (not_done refl)) (λ is_fault. absurd (cc)) (λ other. left.lent.counts.steady (λ is_fault. cc)) left.lent.counts.cause.later (loaded Done)
       (looks Done (λ refusal is_refused. absurd (cc))) left.lent.told

@@ -2,22 +2,22 @@
 -- were; what an adoption did to both is said by it, and so is what another command did to the folder of the reel.
 use Rattle.std.proofs.Common.{◌≡◌, ℕ, Bool, List, Vec, Global, refl, sym, subst, arith}
 use Rattle.std.specs.Prelude.{MatchResult, Option, Result, Ok, Err}
+use Rattle.scan_source.specs.State.{ScanState}
+use Rattle.reel_disk.specs.State.{DiskState}
 use Rattle.scan_source.specs.World.{World}
-use Rattle.reel_disk.specs.Disk.{History}
-use Rattle.reel_disk.specs.Loan.{Loan}
-use Rattle.reconform.specs.Adopt.{LeavesDisks}
+use Rattle.reconform.specs.Adopt.{LeavesBoth}
 use Rattle.project_adopt.specs.Adopt.{IsAdoptReply, OnDisks}
 use Rattle.command_words.specs.declared.command.Command.{Command}
 use Rattle.command_words.specs.declared.command.Command.TheVariants as commands
 use Rattle.outcome_line.specs.Output.{line_of}
 use Rattle.outcome_line.specs.declared.outcome.Outcome.{Outcome}
 use Rattle.outcome_line.specs.declared.outcome.Outcome.TheVariants as outcomes
-use Rattle.project_run.specs.Calls.{DiskState, LeavesDiskFor, LeavesScanFor, OnDisk, OverScan, Replies}
+use Rattle.project_run.specs.Calls.{FolderState, LeavesDiskFor, LeavesScanFor, OnDisk, OverScan, Replies}
 use Rattle.command_answers.specs.ByFolder.{reel_meaning}
 use Rattle.command_answers.specs.Commands.{meaning_of}
 use Rattle.command_answers.specs.Meaning.{Calls, Meaning}
 use Rattle.command_answers.specs.Reply.{IsKindOf, IsReplyOverScan, IsReplyOverFolders}
-use Rattle.command_answers.specs.States.{Folders, House, OnFolders, OnScan, ScanState, folders_of, scan_state}
+use Rattle.command_answers.specs.States.{Folders, House, folders_of}
 use Rattle.command_answers.proofs.Replies.{error_of, outcome_of, replied_over}
 
 module _ (house : House) (kind : Command) (scan scan_after : ScanState) (folders : Folders) (no_disk : IsKindOf kind outcomes.DiskFault → ⊥)
@@ -52,14 +52,12 @@ pub pull_replied : (house : House) (command : Command) (path : List ℕ) (margin
     → Replies result (IsReplyOverScan (commands.Pull path margin) scan scan_after) → Replies result (IsReplyOverFolders house command scan scan_after folders folders)
 pull_replied house command path margin scan scan_after folders = replied_unmoved house (commands.Pull path margin) scan scan_after folders (λ none. none) (λ reached output. refl) command
 
-module _ {S D : Type 0} (house : House) (command : Command) (path old_path : List ℕ)
-    (world : S → Option World) (scan_faults loads heads : S → ℕ) (scan scan_after : S)
-    (tells : Bool) (history : D → History) (faults : D → ℕ) (loans : D → List Loan) (old old_after disk disk_after : D) where
+module _ (house : House) (command : Command) (path old_path : List ℕ) (scan scan_after : ScanState) (tells : Bool) (old old_after disk disk_after : DiskState) where
   adopted : (result : Result (Vec ℕ Global) Outcome)
-      → Replies result (OnScan world scan_faults loads heads scan scan_after (IsReplyOverScan (commands.Adopt path old_path)))
-      → Replies result (OnDisks tells history faults old old_after disk disk_after (OverScan world loads scan scan_after (IsAdoptReply path old_path)))
-      → LeavesDisks faults loans (result ≡ Err outcomes.DiskFault) old old_after disk disk_after
-      → Replies result (OnFolders tells history faults disk old disk_after old_after (OnScan world scan_faults loads heads scan scan_after (IsReplyOverFolders house (commands.Adopt path old_path))))
+      → Replies result (IsReplyOverScan (commands.Adopt path old_path) scan scan_after)
+      → Replies result (OnDisks tells old old_after disk disk_after (OverScan scan scan_after (IsAdoptReply path old_path)))
+      → LeavesBoth (result ≡ Err outcomes.DiskFault) old old_after disk disk_after
+      → Replies result (IsReplyOverFolders house (commands.Adopt path old_path) scan scan_after (folders_of tells disk old) (folders_of tells disk_after old_after))
   adopted (Ok text) reply made leaves = record {
     reply = reply;
     folder = made;
@@ -83,40 +81,34 @@ module _ {S D : Type 0} (house : House) (command : Command) (path old_path : Lis
 
   -- an adoption, with what it did to both folders
   pub adopt_replied : (result : Result (Vec ℕ Global) Outcome) → command ≡ commands.Adopt path old_path
-      → Replies result (OnScan world scan_faults loads heads scan scan_after (IsReplyOverScan (commands.Adopt path old_path)))
-      → Replies result (OnDisks tells history faults old old_after disk disk_after (OverScan world loads scan scan_after (IsAdoptReply path old_path)))
-      → LeavesDisks faults loans (result ≡ Err outcomes.DiskFault) old old_after disk disk_after
-      → Replies result (OnFolders tells history faults disk old disk_after old_after (OnScan world scan_faults loads heads scan scan_after (IsReplyOverFolders house command)))
+      → Replies result (IsReplyOverScan (commands.Adopt path old_path) scan scan_after)
+      → Replies result (OnDisks tells old old_after disk disk_after (OverScan scan scan_after (IsAdoptReply path old_path)))
+      → LeavesBoth (result ≡ Err outcomes.DiskFault) old old_after disk disk_after
+      → Replies result (IsReplyOverFolders house command scan scan_after (folders_of tells disk old) (folders_of tells disk_after old_after))
   adopt_replied result same reply made leaves =
-      subst (λ c. Replies result (OnFolders tells history faults disk old disk_after old_after (OnScan world scan_faults loads heads scan scan_after (IsReplyOverFolders house c)))) (sym same) (adopted result reply made leaves)
+      subst (λ c. Replies result (IsReplyOverFolders house c scan scan_after (folders_of tells disk old) (folders_of tells disk_after old_after))) (sym same) (adopted result reply made leaves)
 
 -- A command that makes calls on the folder of the reel alone. What it made of that and of the scan is what the command means.
-module _ {S D : Type 0} (house : House) (kind : Command) (path : List ℕ) (calls : Calls) (Uses : House → Option World → (loads loads_after : ℕ) → (disk disk_after : DiskState) → Outcome → List ℕ → Type 0)
+module _ {D : Type 0} (house : House) (kind : Command) (path : List ℕ) (calls : Calls) (Uses : House → Option World → (loads loads_after : ℕ) → (disk disk_after : FolderState) → Outcome → List ℕ → Type 0)
     (IsDone : Outcome → Type 0) (means : meaning_of kind ≡ reel_meaning path calls Uses IsDone) {Kind : Outcome → Type 0} (kinds : (reached : Outcome) → Kind reached → IsKindOf kind reached)
-    (world : S → Option World) (scan_faults loads heads : S → ℕ) (same : S → S → Type 0) (scan scan_after : S)
-    (tells : Bool) (history : D → History) (faults : D → ℕ) (loans : D → List Loan) (disk disk_after old : D) where
-  abbrev before : ScanState
-  before = scan_state world scan_faults loads heads scan
-
-  abbrev after : ScanState
-  after = scan_state world scan_faults loads heads scan_after
-
+    (before after : ScanState)
+    (tells : Bool) (state : D → DiskState) (disk disk_after old : D) where
   abbrev folders : Folders
-  folders = folders_of tells history faults disk old
+  folders = folders_of tells (state disk) (state old)
 
   abbrev folders_after : Folders
-  folders_after = folders_of tells history faults disk_after old
+  folders_after = folders_of tells (state disk_after) (state old)
 
   as_meant : (P : Meaning → Type 0) → P (reel_meaning path calls Uses IsDone) → P (meaning_of kind)
   as_meant P holds = subst P (sym means) holds
 
-  over_scan : (result : Result (Vec ℕ Global) Outcome) → MatchResult result (λ text. Unit {0}) Kind → LeavesScanFor world scan_faults heads same path result scan scan_after
+  over_scan : (result : Result (Vec ℕ Global) Outcome) → MatchResult result (λ text. Unit {0}) Kind → LeavesScanFor path result before after
       → Replies result (IsReplyOverScan kind before after)
-  over_scan = replied_over kind path world scan_faults loads heads same scan scan_after kinds (λ reached output. as_meant (λ m. m.IsRight reached output before after) tt) (λ reached. as_meant (λ m. m.HasLoaded before after reached) tt)
+  over_scan = replied_over kind path before after kinds (λ reached output. as_meant (λ m. m.IsRight reached output before after) tt) (λ reached. as_meant (λ m. m.HasLoaded before after reached) tt)
       (λ reached asked. as_meant (λ m. m.LooksAtHeads before after reached) asked)
 
-  on_reel : (result : Result (Vec ℕ Global) Outcome) → Replies result (OnDisk tells history faults disk disk_after (OverScan world loads scan scan_after (Uses house)))
-      → LeavesDiskFor faults loans result disk disk_after → Replies result (IsReplyOverScan kind before after) → Replies result (IsReplyOverFolders house kind before after folders folders_after)
+  on_reel : (result : Result (Vec ℕ Global) Outcome) → Replies result (OnDisk tells (state disk) (state disk_after) (OverScan before after (Uses house)))
+      → LeavesDiskFor state result disk disk_after → Replies result (IsReplyOverScan kind before after) → Replies result (IsReplyOverFolders house kind before after folders folders_after)
   on_reel (Ok text) made leaves reply = record {
     reply = reply;
     folder = as_meant (λ m. m.UsesDisk house before after folders folders_after outcomes.Done text.items) made;
@@ -138,8 +130,8 @@ module _ {S D : Type 0} (house : House) (kind : Command) (path : List ℕ) (call
     old_later = omega arith;
   }
 
-  pub reel_replied : (command : Command) (result : Result (Vec ℕ Global) Outcome) → command ≡ kind → Replies result (OnDisk tells history faults disk disk_after (OverScan world loads scan scan_after (Uses house)))
-      → MatchResult result (λ text. Unit {0}) Kind → LeavesScanFor world scan_faults heads same path result scan scan_after → LeavesDiskFor faults loans result disk disk_after
+  pub reel_replied : (command : Command) (result : Result (Vec ℕ Global) Outcome) → command ≡ kind → Replies result (OnDisk tells (state disk) (state disk_after) (OverScan before after (Uses house)))
+      → MatchResult result (λ text. Unit {0}) Kind → LeavesScanFor path result before after → LeavesDiskFor state result disk disk_after
       → Replies result (IsReplyOverFolders house command before after folders folders_after)
   reel_replied command result is made kind_is scanned left =
       subst (λ c. Replies result (IsReplyOverFolders house c before after folders folders_after)) (sym is) (on_reel result made left (over_scan result kind_is scanned))

@@ -1,7 +1,6 @@
 -- What the top call answers and puts.
 -- * answer: a reply, or the line of usage or of want of memory before anything was read, put on the sink; after a sink's fault a
 --   prefix of it, and its status; words of no command that makes calls of a kind
---     SinkState, sink_state, OnSink      what a sink tells at a moment, and its count; and what was made of one
 --     IsUnread      an outcome that was reached before anything was read
 --     IsUncalled Calls words      the words spell no command that makes such calls
 --     Answered      the answer to these words, over one scan and the two folders, in this house
@@ -9,25 +8,15 @@ use Rattle.std.specs.Prelude.{◌≡◌, ◌⊎◌, ℕ, List, Option, MatchOpti
 use Rattle.std.specs.declared.alloc.Global.{Global}
 use Rattle.std.specs.Io.KnownBytes.{Appends}
 use Rattle.cf_base.specs.Count.{HasRisen}
-use Rattle.cf_base.specs.Sink.{AppendsPrefix}
+use Rattle.cf_base.specs.Sink.{AppendsPrefix, SinkState}
+use Rattle.scan_source.specs.State.{ScanState}
 use Rattle.command_words.specs.Commands.{Spells, IsNoCommand}
 use Rattle.outcome_line.specs.Output.{status_of, line_of, IsMade}
 use Rattle.command_answers.specs.Reply.{IsReplyOverFolders}
-use Rattle.command_answers.specs.States.{Folders, House, ScanState}
+use Rattle.command_answers.specs.States.{Folders, House}
 use Rattle.command_words.specs.declared.command.Command.{Command}
 use Rattle.outcome_line.specs.declared.outcome.Outcome.{Outcome}
 use Rattle.outcome_line.specs.declared.outcome.Outcome.TheVariants.{Done, Usage, SinkFault, NoMemory}
-
-pub record SinkState : Type 0 where
-  pub written : Option (List ℕ)
-  pub faults : ℕ
-
-abbrev pub sink_state : {K : Type 0} → (K → Option (List ℕ)) → (K → ℕ) → K → SinkState
-sink_state written faults sink = record { written = written sink; faults = faults sink }
-
--- what was made of a sink, by its meanings: this is so of the sink before and of the sink after
-abbrev pub OnSink : {K : Type 0} {A : Type 1} → (K → Option (List ℕ)) → (K → ℕ) → (before after : K) → (SinkState → SinkState → A) → A
-OnSink written faults before after Made = Made (sink_state written faults before) (sink_state written faults after)
 
 -- The output of the outcome that was reached stands behind what the sink had, and the outcome is answered. Or the sink failed,
 -- a prefix of the output stands there, and the answer keeps the outcome's status.

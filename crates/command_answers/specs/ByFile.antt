@@ -7,11 +7,11 @@
 --     IsRightBy      the outcome and the output are those of the file
 --     HasLoadedOne, LooksAtNone      the one file was loaded, and no head was looked at
 use Rattle.std.specs.Prelude.{◌≡◌, ℕ, List, Option, IfSome}
+use Rattle.scan_source.specs.State.{ScanState}
 use Rattle.scan_source.specs.Plan.{one_more}
 use Rattle.scan_source.specs.World.{World, file_at}
 use Rattle.outcome_line.specs.declared.outcome.Outcome.{Outcome}
 use Rattle.outcome_line.specs.declared.outcome.Outcome.TheVariants.{Done}
-use Rattle.command_answers.specs.States.{ScanState}
 
 -- A file, or that there is none: the one at the path where the scan tells its files, else some one that it read.
 abbrev pub ByFile : Option World → List ℕ → (Option (List ℕ) → Type 0) → Type 0

@@ -5,6 +5,7 @@
 --     printed_meaning      what a command means that puts a text of the job
 use Rattle.std.specs.Prelude.{ℕ, List, [], length, IfSome, Ok, Err}
 use Rattle.cf_base.specs.declared.key.Key.{Key}
+use Rattle.scan_source.specs.State.{ScanState}
 use Rattle.dpx_header.specs.declared.info.FrameInfo.{FrameInfo}
 use Rattle.scan_source.specs.World.{World, file_at}
 use Rattle.conform_job.specs.Answers.{Grows, HeadsGrow}
@@ -18,7 +19,6 @@ use Rattle.project_job.specs.Jobs.{AreLoaded, ComesTo}
 use Rattle.outcome_line.specs.declared.outcome.Outcome.{Outcome}
 use Rattle.outcome_line.specs.declared.outcome.Outcome.TheVariants.{Done, Refused as IsRefused, SourceFault, NoMemory}
 use Rattle.command_answers.specs.Meaning.{HasReelFailed, IsThrough, LeavesReel, Meaning, no_calls}
-use Rattle.command_answers.specs.States.{ScanState}
 
 -- Each source frame that the job needs was inspected once: the infos have one entry for each needed key.
 pub record IsInspected (parts : JobParts) (before after : ScanState) : Type 0 where

@@ -4,7 +4,6 @@
 --   faults rose; and what is left where scan or disk don't tell
 --     IsAccepted command world folders      nothing stands in its way
 --     HasNotRisen before after      no call failed, by this count
---     NoCallFailed faults before after      no call failed on this object
 --     IsComplete command outcome      it was done, or memory ran out
 --     IsUnfailed command outcome      what is left of it where scan or disk don't tell
 use Rattle.std.specs.Prelude.{ℕ}
@@ -23,10 +22,6 @@ IsAccepted command = (meaning_of command).IsAccepted
 -- no fault was counted
 abbrev pub HasNotRisen : ℕ → ℕ → Type 0
 HasNotRisen before after = HasRisen before after → ⊥
-
--- by an object's count
-abbrev pub NoCallFailed : {O : Type 0} → (O → ℕ) → O → O → Type 0
-NoCallFailed faults before after = HasNotRisen (faults before) (faults after)
 
 abbrev pub IsComplete : Command → Outcome → Type 0
 IsComplete command = (meaning_of command).IsComplete

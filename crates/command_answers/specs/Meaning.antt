@@ -9,10 +9,11 @@
 --     LeavesReel, HasReelFailed      what a command did to the folder of the reel
 use Rattle.std.specs.Prelude.{◌≡◌, ◌⊎◌, ℕ, Bool, true, false, List}
 use Rattle.cf_base.specs.Count.{HasRisen}
+use Rattle.scan_source.specs.State.{ScanState}
 use Rattle.scan_source.specs.World.{World}
 use Rattle.outcome_line.specs.declared.outcome.Outcome.{Outcome}
 use Rattle.outcome_line.specs.declared.outcome.Outcome.TheVariants.{Done, NoMemory}
-use Rattle.command_answers.specs.States.{Folders, House, ScanState}
+use Rattle.command_answers.specs.States.{Folders, House}
 
 -- The calls that a command makes on the folders and on the files, by which it may come to an outcome of these alone.
 pub record Calls : Type 0 where

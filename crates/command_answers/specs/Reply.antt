@@ -7,13 +7,14 @@
 --     IsReplyOverFolders house      the same, with what it did to the folders, in this house
 use Rattle.std.specs.Prelude.{◌≡◌, ◌≢◌, ◌≤◌, ℕ, List}
 use Rattle.cf_base.specs.Count.{HasRisen}
+use Rattle.scan_source.specs.State.{ScanState}
 use Rattle.outcome_line.specs.Output.{line_of}
 use Rattle.command_words.specs.declared.command.Command.{Command}
 use Rattle.outcome_line.specs.declared.outcome.Outcome.{Outcome}
 use Rattle.outcome_line.specs.declared.outcome.Outcome.TheVariants.{Done, Usage, Refused as IsRefused, OldRefused, OldOtherJob, OldBadLedger, Damaged, Changed, SourceFault, DiskFault, SinkFault, NoMemory}
 use Rattle.command_answers.specs.Commands.{meaning_of}
 use Rattle.command_answers.specs.Meaning.{Makes}
-use Rattle.command_answers.specs.States.{Folders, House, ScanState}
+use Rattle.command_answers.specs.States.{Folders, House}
 
 -- the command makes calls on the folder of the reel
 abbrev pub CallsDisk : Command → Type 0

@@ -8,7 +8,6 @@ ghost use Rattle.dpx_pack.specs.Pixels.{pixels};
 ghost use Rattle.project_run.specs.Calls.{Replies};
 ghost use Rattle.command_answers.specs.Commands.Frame.{frame_head, frame_form};
 ghost use Rattle.command_answers.specs.Reply.{IsReplyOverScan};
-ghost use Rattle.command_answers.specs.States.{OnScan};
 ghost use Rattle.command_words.specs.declared.command.Command.TheVariants as commands;
 ghost use Rattle.scan_source.specs.Answers.{first_bytes};
 ghost use Rattle.dpx_header.specs.Reading.{info_of};
@@ -28,9 +27,8 @@ const MOST: u64 = 84_914_180;
 
 /// The pixels of the file at a path, under a new header: the whole file that is put, or the outcome that was reached.
 pub fn frame<S: Scans>(alloc: Global, path: &PathText, scan: &mut S) -> Result<Vec<u8>, Outcome>
-    ensures reply { Replies result (OnScan S.world S.faults S.loads S.heads scan.old scan.new
-        (IsReplyOverScan (commands.Frame path.now))) }
-    ensures same { S.same scan.old scan.new }
+    ensures reply { Replies result (IsReplyOverScan (commands.Frame path.now) (S.state scan.old) (S.state scan.new)) }
+    ensures same { (S.state scan.new).loans ≡ (S.state scan.old).loans }
 {
     let front = match load(alloc, path, MOST, Which::Frame, scan) {
         Ok(front) => front,

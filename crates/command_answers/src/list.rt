@@ -4,7 +4,6 @@ ghost use Rattle.edl_events.specs.Lists.{list_of};
 ghost use Rattle.project_run.specs.Calls.{Replies};
 ghost use Rattle.command_answers.specs.inside.Faults.{IfFault};
 ghost use Rattle.command_answers.specs.Reply.{IsReplyOverScan};
-ghost use Rattle.command_answers.specs.States.{OnScan};
 ghost use Rattle.printed_tables.specs.Table.{event_table};
 ghost use Rattle.command_words.specs.declared.command.Command.TheVariants as commands;
 
@@ -23,9 +22,8 @@ pub fn list<S: Scans>(
     rate: Rate,
     scan: &mut S,
 ) -> Result<Vec<u8>, Outcome>
-    ensures reply { Replies result (OnScan S.world S.faults S.loads S.heads scan.old scan.new
-        (IsReplyOverScan (commands.List path.now rate))) }
-    ensures same { S.same scan.old scan.new }
+    ensures reply { Replies result (IsReplyOverScan (commands.List path.now rate) (S.state scan.old) (S.state scan.new)) }
+    ensures same { (S.state scan.new).loans ≡ (S.state scan.old).loans }
 {
     let front = match load(alloc, path, MOST_LIST, Which::List, scan) {
         Ok(front) => front,

@@ -1,12 +1,12 @@
 //! A command on one thread, and what is put for it.
 ghost use Rattle.std.specs.Prelude.{◌≡◌, ◌≤◌, ℕ, List, length, Some, IfSome, IfErr, map};
 ghost use Rattle.scan_source.specs.World.{World};
-ghost use Rattle.command_answers.specs.Answer.{Answered, IsFoundIn, IsLinePut, IsPut, IsUncalled, OnSink, IsResultPut};
-ghost use Rattle.command_answers.specs.Complete.{IsAccepted, IsComplete, IsUnfailed, NoCallFailed};
+ghost use Rattle.command_answers.specs.Answer.{Answered, IsFoundIn, IsLinePut, IsPut, IsUncalled, IsResultPut};
+ghost use Rattle.command_answers.specs.Complete.{HasNotRisen, IsAccepted, IsComplete, IsUnfailed};
 ghost use Rattle.command_answers.specs.Adoption.{KeepsItAdopting};
 ghost use Rattle.command_answers.specs.Headline.{HasEnded, KeepsHeadline};
 ghost use Rattle.command_answers.specs.Reply.{CallsDisk, CallsOld, IsReplyOverFolders};
-ghost use Rattle.command_answers.specs.States.{OnFolders, OnScan, folders_of, house_of};
+ghost use Rattle.command_answers.specs.States.{folders_of, house_of};
 ghost use Rattle.command_words.specs.Commands.{HasCounts, IsNoCommand, Spells};
 ghost use Rattle.project_run.specs.Calls.{IsLeftAlone, Replies};
 ghost use Rattle.command_words.specs.Lines.{texts_of};
@@ -44,11 +44,12 @@ pub fn answer<S: Scans, D: Disk, K: Sink>(
     tone: &Tone,
 ) -> Outcome
     requires few { length probes.now ≤ 16 }
-    ensures answered { OnSink K.written K.faults out.old out.new (OnFolders D.tells D.history D.faults disk.old old.old disk.new old.new
-        (OnScan S.world S.faults S.loads S.heads scan.old scan.new
-        (Answered (house_of (map (λ p. p.kind) probes.now) tone.now.table) (texts_of words.now)))) result }
-    ensures later { K.faults out.old ≤ K.faults out.new }
-    ensures same { S.same scan.old scan.new }
+    ensures answered { Answered (house_of (map (λ p. p.kind) probes.now) tone.now.table) (texts_of words.now)
+        (S.state scan.old) (S.state scan.new)
+        (folders_of D.tells (D.state disk.old) (D.state old.old)) (folders_of D.tells (D.state disk.new) (D.state old.new))
+        (K.state out.old) (K.state out.new) result }
+    ensures later { (K.state out.old).faults ≤ (K.state out.new).faults }
+    ensures same { (S.state scan.new).loans ≡ (S.state scan.old).loans }
 
     // What is left alone is the very disk, or the very scan.
     ensures untouched { IsLeftAlone disk.old disk.new result }
@@ -56,24 +57,24 @@ pub fn answer<S: Scans, D: Disk, K: Sink>(
     ensures no_call { IsUncalled CallsDisk (texts_of words.now) → disk.new ≡ disk.old }
     ensures no_old_call { IsUncalled CallsOld (texts_of words.now) → old.new ≡ old.old }
     ensures unread { IsNoCommand (texts_of words.now) → scan.new ≡ scan.old }
-    ensures disk_same { D.loans disk.new ≡ D.loans disk.old }
-    ensures old_same { D.loans old.new ≡ D.loans old.old }
+    ensures disk_same { (D.state disk.new).loans ≡ (D.state disk.old).loans }
+    ensures old_same { (D.state old.new).loans ≡ (D.state old.old).loans }
 
     // The headline.
-    ensures headline { KeepsHeadline (texts_of words.now) (S.world scan.old) D.tells
-        (D.history disk.old) (D.history disk.new) (HasEnded result) }
-    ensures adopted { KeepsItAdopting (texts_of words.now) (S.world scan.old) D.tells
-        (D.history old.old) (D.history disk.old) (D.history disk.new) (HasEnded result) }
+    ensures headline { KeepsHeadline (texts_of words.now) (S.state scan.old).world D.tells
+        (D.state disk.old).history (D.state disk.new).history (HasEnded result) }
+    ensures adopted { KeepsItAdopting (texts_of words.now) (S.state scan.old).world D.tells
+        (D.state old.old).history (D.state disk.old).history (D.state disk.new).history (HasEnded result) }
 
     // Where nothing stands in the way of the command and no call failed, it is done, or memory ran out.
-    ensures complete { (command : Command) (world : World) → Spells (texts_of words.now) command → S.world scan.old ≡ Some world
-        → IsAccepted command world (folders_of D.tells D.history D.faults disk.old old.old)
-        → NoCallFailed S.faults scan.old scan.new → NoCallFailed D.faults disk.old disk.new
-        → NoCallFailed D.faults old.old old.new → NoCallFailed K.faults out.old out.new
+    ensures complete { (command : Command) (world : World) → Spells (texts_of words.now) command → (S.state scan.old).world ≡ Some world
+        → IsAccepted command world (folders_of D.tells (D.state disk.old) (D.state old.old))
+        → HasNotRisen (S.state scan.old).faults (S.state scan.new).faults → HasNotRisen (D.state disk.old).faults (D.state disk.new).faults
+        → HasNotRisen (D.state old.old).faults (D.state old.new).faults → HasNotRisen (K.state out.old).faults (K.state out.new).faults
         → IsComplete command result }
     ensures unfailed { (command : Command) → Spells (texts_of words.now) command
-        → NoCallFailed S.faults scan.old scan.new → NoCallFailed D.faults disk.old disk.new
-        → NoCallFailed D.faults old.old old.new → NoCallFailed K.faults out.old out.new
+        → HasNotRisen (S.state scan.old).faults (S.state scan.new).faults → HasNotRisen (D.state disk.old).faults (D.state disk.new).faults
+        → HasNotRisen (D.state old.old).faults (D.state old.new).faults → HasNotRisen (K.state out.old).faults (K.state out.new).faults
         → IsUnfailed command result }
 {
     job_laws();
@@ -99,18 +100,19 @@ pub fn answer_found<S: Scans, D: Disk, K: Sink, C: Counter + Hasher>(
     requires can_hash { C.can_hash }
     requires counts { IfSome found HasCounts }
     ensures answered { (words : List (List ℕ)) → IsFoundIn words found
-        → OnSink K.written K.faults out.old out.new (OnFolders D.tells D.history D.faults disk.old old.old disk.new old.new
-        (OnScan S.world S.faults S.loads S.heads scan.old scan.new
-        (Answered (house_of (map (λ p. p.kind) probes.now) tone.now.table) words))) result }
-    ensures later { K.faults out.old ≤ K.faults out.new }
-    ensures same { S.same scan.old scan.new }
+        → Answered (house_of (map (λ p. p.kind) probes.now) tone.now.table) words
+        (S.state scan.old) (S.state scan.new)
+        (folders_of D.tells (D.state disk.old) (D.state old.old)) (folders_of D.tells (D.state disk.new) (D.state old.new))
+        (K.state out.old) (K.state out.new) result }
+    ensures later { (K.state out.old).faults ≤ (K.state out.new).faults }
+    ensures same { (S.state scan.new).loans ≡ (S.state scan.old).loans }
     ensures untouched { IsLeftAlone disk.old disk.new result }
     ensures old_untouched { IsLeftAlone old.old old.new result }
     ensures no_call { (words : List (List ℕ)) → IsFoundIn words found → IsUncalled CallsDisk words → disk.new ≡ disk.old }
     ensures no_old_call { (words : List (List ℕ)) → IsFoundIn words found → IsUncalled CallsOld words → old.new ≡ old.old }
     ensures unread { (words : List (List ℕ)) → IsFoundIn words found → IsNoCommand words → scan.new ≡ scan.old }
-    ensures disk_same { D.loans disk.new ≡ D.loans disk.old }
-    ensures old_same { D.loans old.new ≡ D.loans old.old }
+    ensures disk_same { (D.state disk.new).loans ≡ (D.state disk.old).loans }
+    ensures old_same { (D.state old.new).loans ≡ (D.state old.old).loans }
 {
     let Some(command) = found else {
         return put_line(alloc, &Outcome::Usage, out);
@@ -136,16 +138,16 @@ fn carried_out<S: Scans, D: Disk, C: Counter + Hasher>(
     requires ready { C.ready }
     requires can_hash { C.can_hash }
     requires counts { HasCounts command.now }
-    ensures reply { Replies result (OnFolders D.tells D.history D.faults disk.old old.old disk.new old.new
-        (OnScan S.world S.faults S.loads S.heads scan.old scan.new
-        (IsReplyOverFolders (house_of (map (λ p. p.kind) probes.now) tone.now.table) command.now))) }
-    ensures same { S.same scan.old scan.new }
+    ensures reply { Replies result (IsReplyOverFolders (house_of (map (λ p. p.kind) probes.now) tone.now.table) command.now
+        (S.state scan.old) (S.state scan.new)
+        (folders_of D.tells (D.state disk.old) (D.state old.old)) (folders_of D.tells (D.state disk.new) (D.state old.new))) }
+    ensures same { (S.state scan.new).loans ≡ (S.state scan.old).loans }
     ensures untouched { IfErr result (IsLeftAlone disk.old disk.new) }
     ensures old_untouched { IfErr result (IsLeftAlone old.old old.new) }
     ensures no_call { (CallsDisk command.now → ⊥) → disk.new ≡ disk.old }
     ensures no_old_call { (CallsOld command.now → ⊥) → old.new ≡ old.old }
-    ensures disk_same { D.loans disk.new ≡ D.loans disk.old }
-    ensures old_same { D.loans old.new ≡ D.loans old.old }
+    ensures disk_same { (D.state disk.new).loans ≡ (D.state disk.old).loans }
+    ensures old_same { (D.state old.new).loans ≡ (D.state old.old).loans }
 {
     match command {
         Command::Frame(path) => frame(alloc, path, scan),
@@ -177,8 +179,8 @@ pub fn put_result<K: Sink>(
     reached: &Result<Vec<u8>, Outcome>,
     out: &mut K,
 ) -> Outcome
-    ensures put { OnSink K.written K.faults out.old out.new IsResultPut reached.now result }
-    ensures later { K.faults out.old ≤ K.faults out.new }
+    ensures put { IsResultPut (K.state out.old) (K.state out.new) reached.now result }
+    ensures later { (K.state out.old).faults ≤ (K.state out.new).faults }
 {
     match reached {
         Ok(output) => put(output, &Outcome::Done, out),
@@ -188,8 +190,8 @@ pub fn put_result<K: Sink>(
 
 /// Puts the line of an outcome. One whose line is made and finds no memory becomes NoMemory.
 pub fn put_line<K: Sink>(alloc: Global, outcome: &Outcome, out: &mut K) -> Outcome
-    ensures put { OnSink K.written K.faults out.old out.new IsLinePut outcome.now result }
-    ensures later { K.faults out.old ≤ K.faults out.new }
+    ensures put { IsLinePut (K.state out.old) (K.state out.new) outcome.now result }
+    ensures later { (K.state out.old).faults ≤ (K.state out.new).faults }
 {
     match made_line(alloc, outcome) {
         None => put(plain_line(outcome).as_bytes(), outcome, out),
@@ -204,8 +206,8 @@ pub fn put_line<K: Sink>(alloc: Global, outcome: &Outcome, out: &mut K) -> Outco
 
 /// Puts the output of an outcome, in one piece.
 fn put<K: Sink>(output: &[u8], reached: &Outcome, out: &mut K) -> Outcome
-    ensures put { OnSink K.written K.faults out.old out.new IsPut reached.now output.now result }
-    ensures later { K.faults out.old ≤ K.faults out.new }
+    ensures put { IsPut (K.state out.old) (K.state out.new) reached.now output.now result }
+    ensures later { (K.state out.old).faults ≤ (K.state out.new).faults }
 {
     match out.put(output) {
         Put::All => *reached,

@@ -1,7 +1,7 @@
 //! The command `plan`.
+ghost use Rattle.std.specs.Prelude.{◌≡◌};
 ghost use Rattle.project_run.specs.Calls.{Replies};
 ghost use Rattle.command_answers.specs.Reply.{IsReplyOverScan};
-ghost use Rattle.command_answers.specs.States.{OnScan};
 ghost use Rattle.command_words.specs.declared.command.Command.TheVariants as commands;
 
 use cf_base::PathText;
@@ -13,9 +13,8 @@ use std::alloc::Global;
 
 /// The plan of the job of the project at a path, or the outcome that was reached.
 pub fn plan<S: Scans>(alloc: Global, path: &PathText, scan: &mut S) -> Result<Vec<u8>, Outcome>
-    ensures reply { Replies result (OnScan S.world S.faults S.loads S.heads scan.old scan.new
-        (IsReplyOverScan (commands.Plan path.now))) }
-    ensures same { S.same scan.old scan.new }
+    ensures reply { Replies result (IsReplyOverScan (commands.Plan path.now) (S.state scan.old) (S.state scan.new)) }
+    ensures same { (S.state scan.new).loans ≡ (S.state scan.old).loans }
 {
     let job = match planned(alloc, path, scan) {
         Ok(job) => job,

@@ -1,9 +1,8 @@
 //! The command `pull`.
-ghost use Rattle.std.specs.Prelude.{◌≤◌, IfOk};
+ghost use Rattle.std.specs.Prelude.{◌≡◌, ◌≤◌, IfOk};
 ghost use Rattle.project_run.specs.Calls.{Replies};
 ghost use Rattle.command_answers.specs.Commands.Pull.{IsPullForm};
 ghost use Rattle.command_answers.specs.Reply.{IsReplyOverScan};
-ghost use Rattle.command_answers.specs.States.{OnScan};
 ghost use Rattle.command_words.specs.declared.command.Command.TheVariants as commands;
 ghost use Rattle.project_job.specs.Jobs.{AreCounted};
 
@@ -23,9 +22,8 @@ pub fn pull<S: Scans>(
     scan: &mut S,
 ) -> Result<Vec<u8>, Outcome>
     requires { margin ≤ 1000 }
-    ensures reply { Replies result (OnScan S.world S.faults S.loads S.heads scan.old scan.new
-        (IsReplyOverScan (commands.Pull path.now margin))) }
-    ensures same { S.same scan.old scan.new }
+    ensures reply { Replies result (IsReplyOverScan (commands.Pull path.now margin) (S.state scan.old) (S.state scan.new)) }
+    ensures same { (S.state scan.new).loans ≡ (S.state scan.old).loans }
 {
     let job = match planned(alloc, path, scan) {
         Ok(job) => job,

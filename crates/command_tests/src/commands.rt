@@ -45,7 +45,7 @@ pub fn conformed<S: Scans + Send, R: Threads + Wait + Sync>(
     requires some { 1 ≤ vec_len scans }
     requires few { vec_len scans ≤ 16 }
     requires few_probes { length probes.now ≤ 16 }
-    requires one_world { AllPairs (λ a b. S.world a ≡ S.world b) scans.items }
+    requires one_world { AllPairs (λ a b. (S.state a).world ≡ (S.state b).world) scans.items }
 {
     let mut old = MemoryDisk::new(alloc).ok()?;
     let disk = MemoryDisk::new(alloc).ok()?;

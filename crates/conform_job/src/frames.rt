@@ -15,7 +15,7 @@ ghost use Rattle.conform_job.specs.inside.Infos.{IsSetTo};
 ghost use Rattle.conform_job.specs.Keys.{info_at, key_at, key_of_ask};
 ghost use Rattle.conform_job.specs.inside.Lines.{places_of};
 ghost use Rattle.conform_job.specs.Refusals.{asks_refusal, frames_refusal, key_refusal, name_of_ask};
-ghost use Rattle.scan_source.specs.Leaves.{LeavesScan};
+ghost use Rattle.scan_source.specs.State.{LeavesScan};
 
 use crate::infos::Infos;
 use crate::{JobFault, JobParts};
@@ -62,15 +62,15 @@ fn inspect_key<S: Scans>(
     scans: &mut S,
 ) -> Result<FrameInfo, JobFault>
     requires { key.reel < length parts.now.reels }
-    ensures told { IfSome (S.world scans.old) (λ world. IsStep result (key_refusal parts.now (file_at world) named.now (Some key))) }
-    ensures info { IfOk result (IsInfoOf parts.now (S.world scans.old) key) }
+    ensures told { IfSome (S.state scans.old).world (λ world. IsStep result (key_refusal parts.now (file_at world) named.now (Some key))) }
+    ensures info { IfOk result (IsInfoOf parts.now (S.state scans.old).world key) }
     ensures names { IfErr result (IsOfFrame (Some named.now)) }
 
-    ensures scan { LeavesScan S.world S.faults S.same (result ≡ Err JobFault.SourceFault) scans.old scans.new }
+    ensures scan { LeavesScan (result ≡ Err JobFault.SourceFault) (S.state scans.old) (S.state scans.new) }
 
-    ensures heads { OnOk result (S.heads scans.new ≡ one_more (S.heads scans.old)) }
-    ensures asked { S.heads scans.new ≡ count_after (path_count (path_of_key parts.now.reels key)) (S.heads scans.old) }
-    ensures loads { S.loads scans.new ≡ S.loads scans.old }
+    ensures heads { OnOk result ((S.state scans.new).heads ≡ one_more (S.state scans.old).heads) }
+    ensures asked { (S.state scans.new).heads ≡ count_after (path_count (path_of_key parts.now.reels key)) (S.state scans.old).heads }
+    ensures loads { (S.state scans.new).loads ≡ (S.state scans.old).loads }
 {
     let Some(path) = path_of_key(&parts.reels, key) else {
         return Err(named.missing());
@@ -179,15 +179,15 @@ fn inspect_frame<S: Scans>(
 ) -> Result<(), JobFault>
     requires within { ask.event < length parts.now.timeline.events }
     requires places { places.now ≡ places_of parts.now.reels parts.now.timeline.events }
-    requires each { AreInfosOf parts.now (S.world scans.old) infos.old }
-    ensures told { IfSome (S.world scans.old) (λ world. IsStep result (asks_refusal parts.now (file_at world) (ask ∷ []))) }
-    ensures grows { OnOk result (Grows parts.now (S.world scans.old) (ask ∷ []) infos.old infos.new) }
+    requires each { AreInfosOf parts.now (S.state scans.old).world infos.old }
+    ensures told { IfSome (S.state scans.old).world (λ world. IsStep result (asks_refusal parts.now (file_at world) (ask ∷ []))) }
+    ensures grows { OnOk result (Grows parts.now (S.state scans.old).world (ask ∷ []) infos.old infos.new) }
 
-    ensures scan { LeavesScan S.world S.faults S.same (result ≡ Err JobFault.SourceFault) scans.old scans.new }
+    ensures scan { LeavesScan (result ≡ Err JobFault.SourceFault) (S.state scans.old) (S.state scans.new) }
 
-    ensures heads { OnOk result (HeadsGrow (S.heads scans.old) (S.heads scans.new) (length infos.old) (length infos.new)) }
-    ensures end { IfErr result (EndAt parts.now (S.world scans.old) (ask ∷ []) infos.old (S.heads scans.old) (S.heads scans.new)) }
-    ensures loads { S.loads scans.new ≡ S.loads scans.old }
+    ensures heads { OnOk result (HeadsGrow (S.state scans.old).heads (S.state scans.new).heads (length infos.old) (length infos.new)) }
+    ensures end { IfErr result (EndAt parts.now (S.state scans.old).world (ask ∷ []) infos.old (S.state scans.old).heads (S.state scans.new).heads) }
+    ensures loads { (S.state scans.new).loads ≡ (S.state scans.old).loads }
 {
     let named = named_of(parts, ask);
     let Some(key) = key_of(parts, places, ask) else {
@@ -212,15 +212,15 @@ fn inspect_side<S: Scans>(
 ) -> Result<(), JobFault>
     requires within { IsSideIn parts.now.timeline.events side }
     requires places { places.now ≡ places_of parts.now.reels parts.now.timeline.events }
-    requires each { AreInfosOf parts.now (S.world scans.old) infos.old }
-    ensures told { IfSome (S.world scans.old) (λ world. IsStep result (asks_refusal parts.now (file_at world) (asks_of_side side))) }
-    ensures grows { OnOk result (Grows parts.now (S.world scans.old) (asks_of_side side) infos.old infos.new) }
+    requires each { AreInfosOf parts.now (S.state scans.old).world infos.old }
+    ensures told { IfSome (S.state scans.old).world (λ world. IsStep result (asks_refusal parts.now (file_at world) (asks_of_side side))) }
+    ensures grows { OnOk result (Grows parts.now (S.state scans.old).world (asks_of_side side) infos.old infos.new) }
 
-    ensures scan { LeavesScan S.world S.faults S.same (result ≡ Err JobFault.SourceFault) scans.old scans.new }
+    ensures scan { LeavesScan (result ≡ Err JobFault.SourceFault) (S.state scans.old) (S.state scans.new) }
 
-    ensures heads { OnOk result (HeadsGrow (S.heads scans.old) (S.heads scans.new) (length infos.old) (length infos.new)) }
-    ensures end { IfErr result (EndAt parts.now (S.world scans.old) (asks_of_side side) infos.old (S.heads scans.old) (S.heads scans.new)) }
-    ensures loads { S.loads scans.new ≡ S.loads scans.old }
+    ensures heads { OnOk result (HeadsGrow (S.state scans.old).heads (S.state scans.new).heads (length infos.old) (length infos.new)) }
+    ensures end { IfErr result (EndAt parts.now (S.state scans.old).world (asks_of_side side) infos.old (S.state scans.old).heads (S.state scans.new).heads) }
+    ensures loads { (S.state scans.new).loads ≡ (S.state scans.old).loads }
 {
     match side {
         Side::Black => Ok(()),
@@ -244,15 +244,15 @@ fn inspect_shot<S: Scans>(
 ) -> Result<(), JobFault>
     requires within { IsShotIn parts.now.timeline.events shot }
     requires places { places.now ≡ places_of parts.now.reels parts.now.timeline.events }
-    requires each { AreInfosOf parts.now (S.world scans.old) infos.old }
-    ensures told { IfSome (S.world scans.old) (λ world. IsStep result (asks_refusal parts.now (file_at world) (asks_of_shot shot))) }
-    ensures grows { OnOk result (Grows parts.now (S.world scans.old) (asks_of_shot shot) infos.old infos.new) }
+    requires each { AreInfosOf parts.now (S.state scans.old).world infos.old }
+    ensures told { IfSome (S.state scans.old).world (λ world. IsStep result (asks_refusal parts.now (file_at world) (asks_of_shot shot))) }
+    ensures grows { OnOk result (Grows parts.now (S.state scans.old).world (asks_of_shot shot) infos.old infos.new) }
 
-    ensures scan { LeavesScan S.world S.faults S.same (result ≡ Err JobFault.SourceFault) scans.old scans.new }
+    ensures scan { LeavesScan (result ≡ Err JobFault.SourceFault) (S.state scans.old) (S.state scans.new) }
 
-    ensures heads { OnOk result (HeadsGrow (S.heads scans.old) (S.heads scans.new) (length infos.old) (length infos.new)) }
-    ensures end { IfErr result (EndAt parts.now (S.world scans.old) (asks_of_shot shot) infos.old (S.heads scans.old) (S.heads scans.new)) }
-    ensures loads { S.loads scans.new ≡ S.loads scans.old }
+    ensures heads { OnOk result (HeadsGrow (S.state scans.old).heads (S.state scans.new).heads (length infos.old) (length infos.new)) }
+    ensures end { IfErr result (EndAt parts.now (S.state scans.old).world (asks_of_shot shot) infos.old (S.state scans.old).heads (S.state scans.new).heads) }
+    ensures loads { (S.state scans.new).loads ≡ (S.state scans.old).loads }
 {
     match shot {
         Shot::Gap => Ok(()),
@@ -272,14 +272,14 @@ pub fn infos_of<S: Scans>(
     scans: &mut S,
 ) -> Result<Infos, JobFault>
     requires places { places.now ≡ places_of parts.now.reels parts.now.timeline.events }
-    ensures told { IfSome (S.world scans.old) (λ world. IsStep result (frames_refusal parts.now (file_at world))) }
-    ensures grows { IfOk result (Grows parts.now (S.world scans.old) (asks_of parts.now.timeline) []) }
+    ensures told { IfSome (S.state scans.old).world (λ world. IsStep result (frames_refusal parts.now (file_at world))) }
+    ensures grows { IfOk result (Grows parts.now (S.state scans.old).world (asks_of parts.now.timeline) []) }
 
-    ensures scan { LeavesScan S.world S.faults S.same (result ≡ Err JobFault.SourceFault) scans.old scans.new }
+    ensures scan { LeavesScan (result ≡ Err JobFault.SourceFault) (S.state scans.old) (S.state scans.new) }
 
-    ensures heads { IfOk result (λ infos. HeadsGrow (S.heads scans.old) (S.heads scans.new) 0 (length infos)) }
-    ensures end { IfErr result (EndInTurn parts.now (S.world scans.old) (S.heads scans.old) (S.heads scans.new)) }
-    ensures loads { S.loads scans.new ≡ S.loads scans.old }
+    ensures heads { IfOk result (λ infos. HeadsGrow (S.state scans.old).heads (S.state scans.new).heads 0 (length infos)) }
+    ensures end { IfErr result (EndInTurn parts.now (S.state scans.old).world (S.state scans.old).heads (S.state scans.new).heads) }
+    ensures loads { (S.state scans.new).loads ≡ (S.state scans.old).loads }
 {
     let mut infos = Infos::new(alloc);
     for i in 0..parts.timeline.count() {

@@ -13,7 +13,7 @@ ghost use Rattle.conform_job.specs.Infos.{HasEachOnce};
 ghost use Rattle.conform_job.specs.Job.{ArePlanned, IsByLines, IsNeeded, file_of};
 ghost use Rattle.conform_job.specs.inside.Lines.{ArePlaces, IsPlacedUnless};
 ghost use Rattle.conform_job.specs.Refusals.{first_refusal, told_refusal};
-ghost use Rattle.scan_source.specs.Leaves.{LeavesScan};
+ghost use Rattle.scan_source.specs.State.{LeavesScan};
 
 use crate::cuts::{cut_numbers, record_reel, reel_span};
 use crate::frames::{events_of, frame_of, infos_of, path_of_key, shot_of};
@@ -68,21 +68,21 @@ impl Job {
         requires { ArePlanned parts }
 
         // What is accepted and refused, and 15.5 and 15.1 also where the scan tells nothing.
-        ensures told { IfSome (S.world scans.old) (λ world. IsStep result (first_refusal parts (file_at world))) }
+        ensures told { IfSome (S.state scans.old).world (λ world. IsStep result (first_refusal parts (file_at world))) }
         ensures lines { MatchResult result (λ _. told_refusal parts ≡ None) (λ why. IsByLines why (told_refusal parts)) }
 
         // The job has these parts, and one info for each needed key, which was inspected once.
-        ensures job { IfOk result (λ job. (job.parts ≡ parts) × Grows parts (S.world scans.old) (asks_of parts.timeline) [] job.infos) }
+        ensures job { IfOk result (λ job. (job.parts ≡ parts) × Grows parts (S.state scans.old).world (asks_of parts.timeline) [] job.infos) }
         ensures once { IfOk result (λ job. HasEachOnce job.infos) }
-        ensures heads { IfOk result (λ job. HeadsGrow (S.heads scans.old) (S.heads scans.new) 0 (length job.infos)) }
+        ensures heads { IfOk result (λ job. HeadsGrow (S.state scans.old).heads (S.state scans.new).heads 0 (length job.infos)) }
 
         // Where it is refused: no head for 15.5 and 15.1, and else one for each frame before the refused one, which is named, and
         // its own, if it has a path.
-        ensures asked { IfErr result (HasAsked parts (S.world scans.old) (S.heads scans.old) (S.heads scans.new)) }
+        ensures asked { IfErr result (HasAsked parts (S.state scans.old).world (S.state scans.old).heads (S.state scans.new).heads) }
 
-        ensures scan { LeavesScan S.world S.faults S.same (result ≡ Err JobFault.SourceFault) scans.old scans.new }
+        ensures scan { LeavesScan (result ≡ Err JobFault.SourceFault) (S.state scans.old) (S.state scans.new) }
 
-        ensures loads { S.loads scans.new ≡ S.loads scans.old }
+        ensures loads { (S.state scans.new).loads ≡ (S.state scans.old).loads }
     {
         match found_of(alloc, &parts, scans) {
             Ok(found) => Ok(Job {
@@ -254,15 +254,15 @@ struct Found {
 /// What a job has beside its parts, or the first refusal: the cuts first, then the lines, then the frames.
 fn found_of<S: Scans>(alloc: Global, parts: &JobParts, scans: &mut S) -> Result<Found, JobFault>
     requires { ArePlanned parts.now }
-    ensures told { IfSome (S.world scans.old) (λ world. IsStep result (first_refusal parts.now (file_at world))) }
+    ensures told { IfSome (S.state scans.old).world (λ world. IsStep result (first_refusal parts.now (file_at world))) }
     ensures lines { MatchResult result (λ _. told_refusal parts.now ≡ None) (λ why. IsByLines why (told_refusal parts.now)) }
-    ensures found { IfOk result (IsFound parts.now (S.world scans.old)) }
-    ensures heads { IfOk result (λ found. HeadsGrow (S.heads scans.old) (S.heads scans.new) 0 (length found.infos)) }
-    ensures asked { IfErr result (HasAsked parts.now (S.world scans.old) (S.heads scans.old) (S.heads scans.new)) }
+    ensures found { IfOk result (IsFound parts.now (S.state scans.old).world) }
+    ensures heads { IfOk result (λ found. HeadsGrow (S.state scans.old).heads (S.state scans.new).heads 0 (length found.infos)) }
+    ensures asked { IfErr result (HasAsked parts.now (S.state scans.old).world (S.state scans.old).heads (S.state scans.new).heads) }
 
-    ensures scan { LeavesScan S.world S.faults S.same (result ≡ Err JobFault.SourceFault) scans.old scans.new }
+    ensures scan { LeavesScan (result ≡ Err JobFault.SourceFault) (S.state scans.old) (S.state scans.new) }
 
-    ensures loads { S.loads scans.new ≡ S.loads scans.old }
+    ensures loads { (S.state scans.new).loads ≡ (S.state scans.old).loads }
 {
     let cuts = match cut_numbers(alloc, parts) {
         Ok(cuts) => cuts,

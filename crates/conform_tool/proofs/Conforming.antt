@@ -2,8 +2,9 @@
 use Rattle.std.proofs.Common.{◌≡◌, ℕ, ◌≤◌, List, Vec, Option, Some, None, Result, Ok, Err, IfErr, MatchResult, refl, sym, ◌∙◌, ap, subst, inl, inr}
 use Rattle.std.specs.declared.alloc.Global.{Global}
 use Rattle.std.proofs.lemmas.Option.{same_Some}
+use Rattle.cf_base.specs.Sink.{SinkState}
 use Rattle.cf_base.specs.Count.{HasRisen}
-use Rattle.scan_source.specs.World.{World}
+use Rattle.scan_source.specs.State.{ScanState}
 use Rattle.frame_range.specs.declared.range.Extent.{Extent}
 use Rattle.command_words.specs.Commands.{Spells}
 use Rattle.command_words.specs.declared.command.Command.{Command}
@@ -13,17 +14,17 @@ use Rattle.outcome_line.specs.Output.{line_of, IsMade}
 use Rattle.outcome_line.specs.declared.outcome.Outcome.{Outcome}
 use Rattle.outcome_line.specs.declared.outcome.Outcome.TheVariants as outcomes
 use Rattle.project_crew.specs.Crew.{HasFailed, IsCrewReply, told_by}
-use Rattle.project_run.specs.Calls.{DiskState, IsLeftAlone}
+use Rattle.project_run.specs.Calls.{FolderState, IsLeftAlone}
 use Rattle.project_run.specs.Run.{IsOfRun}
-use Rattle.command_answers.specs.Answer.{SinkState, IsFoundIn, IsPut, IsLinePut}
+use Rattle.command_answers.specs.Answer.{IsFoundIn, IsPut, IsLinePut}
 use Rattle.command_answers.proofs.Answering.{done_unrefused, put_refused}
 use Rattle.command_answers.proofs.Replies.{told_any}
 use Rattle.conform_tool.specs.Conform.{AnsweredByCrew, IsAlone, IsCausedByCrew}
 
-module _ {S : Type 0} (world : S → Option World) (faults loads : S → ℕ) (same : S → S → Type 0) (path : List ℕ) (extent : Extent) (workers share : ℕ) (scans scans_after : List S) (disk disk_after : DiskState) where
+module _ {S : Type 0} (state : S → ScanState) (path : List ℕ) (extent : Extent) (workers share : ℕ) (scans scans_after : List S) (disk disk_after : FolderState) where
   -- a line for which no memory is left: the outcome is another, and all else is as it was
-  crew_memory : (outcome : Outcome) (output : List ℕ) → IsMade outcome → IsCrewReply world faults loads same path extent workers share scans scans_after disk disk_after outcome output
-      → IsCrewReply world faults loads same path extent workers share scans scans_after disk disk_after outcomes.NoMemory (line_of outcomes.NoMemory)
+  crew_memory : (outcome : Outcome) (output : List ℕ) → IsMade outcome → IsCrewReply state path extent workers share scans scans_after disk disk_after outcome output
+      → IsCrewReply state path extent workers share scans scans_after disk disk_after outcomes.NoMemory (line_of outcomes.NoMemory)
   crew_memory outcome output made (inl crewed) = inl (record {
     job = crewed.job;
     comes = crewed.comes;
@@ -43,7 +44,7 @@ module _ {S : Type 0} (world : S → Option World) (faults loads : S → ℕ) (s
     };
   })
   crew_memory outcome output made (inr uncrewed) = inr (record {
-    why = told_any (told_by world scans) (λ files. tt);
+    why = told_any (told_by state scans) (λ files. tt);
     kind = tt;
     untouched = uncrewed.untouched;
     size = uncrewed.size;
@@ -56,8 +57,8 @@ module _ {S : Type 0} (world : S → Option World) (faults loads : S → ℕ) (s
     others = uncrewed.others;
   })
 
-  crewed_memory : (outcome : Outcome) (output : List ℕ) → IsMade outcome → IsCausedByCrew world faults loads same path extent workers share scans scans_after disk disk_after outcome output
-      → IsCausedByCrew world faults loads same path extent workers share scans scans_after disk disk_after outcomes.NoMemory (line_of outcomes.NoMemory)
+  crewed_memory : (outcome : Outcome) (output : List ℕ) → IsMade outcome → IsCausedByCrew state path extent workers share scans scans_after disk disk_after outcome output
+      → IsCausedByCrew state path extent workers share scans scans_after disk disk_after outcomes.NoMemory (line_of outcomes.NoMemory)
   crewed_memory outcome output made crewed = record {
     reply = crew_memory outcome output made crewed.reply;
     line = λ _. refl;
@@ -69,12 +70,12 @@ module _ {S : Type 0} (world : S → Option World) (faults loads : S → ℕ) (s
 
   pub crew_answered : (r : Result (Vec ℕ Global) Outcome) (sink sink_after : SinkState) (result : Outcome)
       → MatchResult r (λ output. IsPut sink sink_after outcomes.Done output.items result) (λ outcome. IsLinePut sink sink_after outcome result)
-      → MatchResult r (λ text. IsCrewReply world faults loads same path extent workers share scans scans_after disk disk_after outcomes.Done text.items) (λ outcome. IsCrewReply world faults loads same path extent workers share scans scans_after disk disk_after outcome (line_of outcome))
+      → MatchResult r (λ text. IsCrewReply state path extent workers share scans scans_after disk disk_after outcomes.Done text.items) (λ outcome. IsCrewReply state path extent workers share scans scans_after disk disk_after outcome (line_of outcome))
       → MatchResult r (λ text. Unit {0}) IsOfRun
-      → (r ≡ Err outcomes.SourceFault → HasFailed faults scans scans_after)
+      → (r ≡ Err outcomes.SourceFault → HasFailed state scans scans_after)
       → (r ≡ Err outcomes.DiskFault → HasRisen disk.faults disk_after.faults)
       → disk.faults ≤ disk_after.faults
-      → AnsweredByCrew world faults loads same path extent workers share scans scans_after disk disk_after sink sink_after result
+      → AnsweredByCrew state path extent workers share scans scans_after disk disk_after sink sink_after result
   crew_answered (Ok text) sink sink_after result put reply kind source failed later = record {
     reached = outcomes.Done;
     output = text.items;
@@ -116,7 +117,7 @@ module _ {S : Type 0} (world : S → Option World) (faults loads : S → ℕ) (s
   }
 
   pub crew_unread : (sink sink_after : SinkState) (result : Outcome) → scans_after ≡ scans → disk_after ≡ disk → IsLinePut sink sink_after outcomes.NoMemory result
-      → AnsweredByCrew world faults loads same path extent workers share scans scans_after disk disk_after sink sink_after result
+      → AnsweredByCrew state path extent workers share scans scans_after disk disk_after sink sink_after result
   crew_unread sink sink_after result untouched_scans untouched_disk (inl put) = record {
     reached = outcomes.NoMemory;
     output = line_of outcomes.NoMemory;
@@ -157,10 +158,10 @@ pub alone_found : (words : List (List ℕ)) (found : Option Command) → IsFound
 alone_found words found says none path extent workers share spells = none path extent workers share (spelled_found words found (commands.Run path extent workers share) says spells)
 
 -- the same answer, by the words
-pub crew_as : {S : Type 0} (world : S → Option World) (faults loads : S → ℕ) (same : S → S → Type 0) (p path : List ℕ) (e extent : Extent) (w workers s share : ℕ) (scans scans_after : List S) (disk disk_after : DiskState) (sink sink_after : SinkState) (result : Outcome)
-    → (p ≡ path) × (e ≡ extent) × (w ≡ workers) × (s ≡ share) → AnsweredByCrew world faults loads same p e w s scans scans_after disk disk_after sink sink_after result → AnsweredByCrew world faults loads same path extent workers share scans scans_after disk disk_after sink sink_after result
-crew_as world faults loads same p path e extent w workers s share scans scans_after disk disk_after sink sink_after result is answered =
-    subst (λ q. AnsweredByCrew world faults loads same q extent workers share scans scans_after disk disk_after sink sink_after result) is.0
-    (subst (λ (x : Extent). AnsweredByCrew world faults loads same p x workers share scans scans_after disk disk_after sink sink_after result) is.1
-    (subst (λ n. AnsweredByCrew world faults loads same p e n share scans scans_after disk disk_after sink sink_after result) is.2
-    (subst (λ n. AnsweredByCrew world faults loads same p e w n scans scans_after disk disk_after sink sink_after result) is.3 answered)))
+pub crew_as : {S : Type 0} (state : S → ScanState) (p path : List ℕ) (e extent : Extent) (w workers s share : ℕ) (scans scans_after : List S) (disk disk_after : FolderState) (sink sink_after : SinkState) (result : Outcome)
+    → (p ≡ path) × (e ≡ extent) × (w ≡ workers) × (s ≡ share) → AnsweredByCrew state p e w s scans scans_after disk disk_after sink sink_after result → AnsweredByCrew state path extent workers share scans scans_after disk disk_after sink sink_after result
+crew_as state p path e extent w workers s share scans scans_after disk disk_after sink sink_after result is answered =
+    subst (λ q. AnsweredByCrew state q extent workers share scans scans_after disk disk_after sink sink_after result) is.0
+    (subst (λ (x : Extent). AnsweredByCrew state p x workers share scans scans_after disk disk_after sink sink_after result) is.1
+    (subst (λ n. AnsweredByCrew state p e n share scans scans_after disk disk_after sink sink_after result) is.2
+    (subst (λ n. AnsweredByCrew state p e w n scans scans_after disk disk_after sink sink_after result) is.3 answered)))

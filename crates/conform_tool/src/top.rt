@@ -5,16 +5,16 @@ ghost use Rattle.frame_range.specs.Parts.{IsExtent};
 ghost use Rattle.frame_range.specs.declared.range.Extent.{Extent};
 ghost use Rattle.command_words.specs.Lines.{HasCount, texts_of};
 ghost use Rattle.command_words.specs.declared.command.Command.TheVariants as commands;
-ghost use Rattle.command_answers.specs.Answer.{Answered, IsFoundIn, IsUncalled, OnSink};
+ghost use Rattle.command_answers.specs.Answer.{Answered, IsFoundIn, IsUncalled};
 ghost use Rattle.conform_tool.specs.Conform.{AnsweredByCrew, IsAlone, IsFirst};
 ghost use Rattle.conform_tool.specs.inside.Conform.{IsCrewOf};
-ghost use Rattle.command_answers.specs.Complete.{IsAccepted, IsComplete, IsUnfailed, NoCallFailed};
+ghost use Rattle.command_answers.specs.Complete.{HasNotRisen, IsAccepted, IsComplete, IsUnfailed};
 ghost use Rattle.command_answers.specs.Adoption.{KeepsItAdopting};
 ghost use Rattle.command_answers.specs.Headline.{HasEnded, KeepsHeadline};
 ghost use Rattle.command_answers.specs.Reply.{CallsDisk, CallsOld};
-ghost use Rattle.command_answers.specs.States.{OnFolders, OnScan, folders_of, house_of};
+ghost use Rattle.command_answers.specs.States.{folders_of, house_of};
 ghost use Rattle.project_crew.specs.Crew.{HasFailed, told_by};
-ghost use Rattle.project_run.specs.Calls.{IsLeftAlone, OnDisk};
+ghost use Rattle.project_run.specs.Calls.{IsLeftAlone, folder_state};
 ghost use Rattle.scan_source.specs.World.{World};
 
 use cf_base::{PathText, Sink};
@@ -60,28 +60,30 @@ pub fn conform<S: Scans + Send, D: Disk + Send, K: Sink, R: Threads + Wait + Syn
     requires some { 1 ≤ vec_len scans }
     requires few { vec_len scans ≤ 16 }
     requires few_probes { length probes.now ≤ 16 }
-    requires one_world { AllPairs (λ a b. S.world a ≡ S.world b) scans.items }
-    requires no_fault { D.faults disk ≡ 0 }
-    requires first_moment { D.tells ≡ true → (D.history disk).now ≡ 0 }
+    requires one_world { AllPairs (λ a b. (S.state a).world ≡ (S.state b).world) scans.items }
+    requires no_fault { (D.state disk).faults ≡ 0 }
+    requires first_moment { D.tells ≡ true → (D.state disk).history.now ≡ 0 }
 
     // A run with several workers.
     ensures crew { (path : List ℕ) (extent : Extent) (workers share : ℕ)
         → Spells (texts_of words.now) (commands.Run path extent workers share)
         → 2 ≤ workers
-        → OnSink K.written K.faults out.old out.new (OnDisk D.tells D.history D.faults disk result.disk
-        (AnsweredByCrew S.world S.faults S.loads S.same path extent workers share scans.items result.scans.items)) result.outcome }
+        → AnsweredByCrew S.state path extent workers share scans.items result.scans.items
+        (folder_state D.tells (D.state disk)) (folder_state D.tells (D.state result.disk))
+        (K.state out.old) (K.state out.new) result.outcome }
 
     // All else, with the first scan.
     ensures answered { IsAlone (texts_of words.now) → (first last : S) → IsFirst scans.items first → IsFirst result.scans.items last
-        → OnSink K.written K.faults out.old out.new (OnFolders D.tells D.history D.faults disk old.old result.disk old.new
-        (OnScan S.world S.faults S.loads S.heads first last
-        (Answered (house_of (map (λ p. p.kind) probes.now) tone.now.table) (texts_of words.now)))) result.outcome }
+        → Answered (house_of (map (λ p. p.kind) probes.now) tone.now.table) (texts_of words.now)
+        (S.state first) (S.state last)
+        (folders_of D.tells (D.state disk) (D.state old.old)) (folders_of D.tells (D.state result.disk) (D.state old.new))
+        (K.state out.old) (K.state out.new) result.outcome }
     ensures others { IsAlone (texts_of words.now) → drop 1 result.scans.items ≡ drop 1 scans.items }
     ensures same { IsAlone (texts_of words.now) → (first last : S) → IsFirst scans.items first → IsFirst result.scans.items last
-        → S.same first last }
+        → (S.state last).loans ≡ (S.state first).loans }
 
     ensures handed_back { vec_len result.scans ≡ vec_len scans }
-    ensures later { K.faults out.old ≤ K.faults out.new }
+    ensures later { (K.state out.old).faults ≤ (K.state out.new).faults }
     ensures old_folder { (path : List ℕ) (extent : Extent) (workers share : ℕ)
         → Spells (texts_of words.now) (commands.Run path extent workers share)
         → 2 ≤ workers → old.new ≡ old.old }
@@ -91,27 +93,29 @@ pub fn conform<S: Scans + Send, D: Disk + Send, K: Sink, R: Threads + Wait + Syn
     ensures old_untouched { IsLeftAlone old.old old.new result.outcome }
     ensures no_call { IsUncalled CallsDisk (texts_of words.now) → result.disk ≡ disk }
     ensures no_old_call { IsUncalled CallsOld (texts_of words.now) → old.new ≡ old.old }
-    ensures disk_same { D.loans result.disk ≡ D.loans disk }
-    ensures old_same { D.loans old.new ≡ D.loans old.old }
+    ensures disk_same { (D.state result.disk).loans ≡ (D.state disk).loans }
+    ensures old_same { (D.state old.new).loans ≡ (D.state old.old).loans }
 
     // The headline, for any number of workers.
-    ensures headline { KeepsHeadline (texts_of words.now) (told_by S.world scans.items) D.tells
-        (D.history disk) (D.history result.disk) (HasEnded result.outcome) }
+    ensures headline { KeepsHeadline (texts_of words.now) (told_by S.state scans.items) D.tells
+        (D.state disk).history (D.state result.disk).history (HasEnded result.outcome) }
 
     // The same of an adoption, whose old folder is sound.
-    ensures adopted { KeepsItAdopting (texts_of words.now) (told_by S.world scans.items) D.tells
-        (D.history old.old) (D.history disk) (D.history result.disk) (HasEnded result.outcome) }
+    ensures adopted { KeepsItAdopting (texts_of words.now) (told_by S.state scans.items) D.tells
+        (D.state old.old).history (D.state disk).history (D.state result.disk).history (HasEnded result.outcome) }
 
     // Where nothing stands in the way of the command and no call failed, it is done, or memory ran out.
     ensures complete { (command : Command) (world : World) → Spells (texts_of words.now) command
-        → told_by S.world scans.items ≡ Some world
-        → IsAccepted command world (folders_of D.tells D.history D.faults disk old.old)
-        → (HasFailed S.faults scans.items result.scans.items → ⊥)
-        → NoCallFailed D.faults disk result.disk → NoCallFailed D.faults old.old old.new → NoCallFailed K.faults out.old out.new
+        → told_by S.state scans.items ≡ Some world
+        → IsAccepted command world (folders_of D.tells (D.state disk) (D.state old.old))
+        → (HasFailed S.state scans.items result.scans.items → ⊥)
+        → HasNotRisen (D.state disk).faults (D.state result.disk).faults
+        → HasNotRisen (D.state old.old).faults (D.state old.new).faults → HasNotRisen (K.state out.old).faults (K.state out.new).faults
         → IsComplete command result.outcome }
     ensures unfailed { (command : Command) → Spells (texts_of words.now) command
-        → (HasFailed S.faults scans.items result.scans.items → ⊥)
-        → NoCallFailed D.faults disk result.disk → NoCallFailed D.faults old.old old.new → NoCallFailed K.faults out.old out.new
+        → (HasFailed S.state scans.items result.scans.items → ⊥)
+        → HasNotRisen (D.state disk).faults (D.state result.disk).faults
+        → HasNotRisen (D.state old.old).faults (D.state old.new).faults → HasNotRisen (K.state out.old).faults (K.state out.new).faults
         → IsUnfailed command result.outcome }
 {
     job_laws();
@@ -189,17 +193,17 @@ fn by_crew<S: Scans + Send, D: Disk + Send, K: Sink, R: Threads + Wait + Sync>(
     requires workers { HasCount crew.now.workers }
     requires share { HasCount crew.now.share }
     requires scans { (1 ≤ vec_len scans) × (vec_len scans ≤ 16) }
-    requires one_world { AllPairs (λ a b. S.world a ≡ S.world b) scans.items }
-    requires no_fault { D.faults disk ≡ 0 }
-    requires first_moment { D.tells ≡ true → (D.history disk).now ≡ 0 }
-    ensures crew { OnSink K.written K.faults out.old out.new (OnDisk D.tells D.history D.faults disk result.disk
-        (AnsweredByCrew S.world S.faults S.loads S.same crew.now.project crew.now.extent crew.now.workers crew.now.share
-        scans.items result.scans.items))
-        result.outcome }
+    requires one_world { AllPairs (λ a b. (S.state a).world ≡ (S.state b).world) scans.items }
+    requires no_fault { (D.state disk).faults ≡ 0 }
+    requires first_moment { D.tells ≡ true → (D.state disk).history.now ≡ 0 }
+    ensures crew { AnsweredByCrew S.state crew.now.project crew.now.extent crew.now.workers crew.now.share
+        scans.items result.scans.items
+        (folder_state D.tells (D.state disk)) (folder_state D.tells (D.state result.disk))
+        (K.state out.old) (K.state out.new) result.outcome }
     ensures handed_back { vec_len result.scans ≡ vec_len scans }
-    ensures later { K.faults out.old ≤ K.faults out.new }
+    ensures later { (K.state out.old).faults ≤ (K.state out.new).faults }
     ensures untouched { IsLeftAlone disk result.disk result.outcome }
-    ensures disk_same { D.loans result.disk ≡ D.loans disk }
+    ensures disk_same { (D.state result.disk).loans ≡ (D.state disk).loans }
 {
     let CrewEnded {
         result,
@@ -241,19 +245,21 @@ fn by_one<S: Scans, D: Disk, K: Sink, C: Counter + Hasher>(
     requires counts { IfSome found HasCounts }
     ensures answered { (words : List (List ℕ)) → IsFoundIn words found
         → (first last : S) → IsFirst scans.items first → IsFirst result.scans.items last
-        → OnSink K.written K.faults out.old out.new (OnFolders D.tells D.history D.faults disk old.old result.disk old.new
-        (OnScan S.world S.faults S.loads S.heads first last
-        (Answered (house_of (map (λ p. p.kind) probes.now) tone.now.table) words))) result.outcome }
+        → Answered (house_of (map (λ p. p.kind) probes.now) tone.now.table) words
+        (S.state first) (S.state last)
+        (folders_of D.tells (D.state disk) (D.state old.old)) (folders_of D.tells (D.state result.disk) (D.state old.new))
+        (K.state out.old) (K.state out.new) result.outcome }
     ensures others { drop 1 result.scans.items ≡ drop 1 scans.items }
     ensures handed_back { vec_len result.scans ≡ vec_len scans }
-    ensures same { (first last : S) → IsFirst scans.items first → IsFirst result.scans.items last → S.same first last }
-    ensures later { K.faults out.old ≤ K.faults out.new }
+    ensures same { (first last : S) → IsFirst scans.items first → IsFirst result.scans.items last
+        → (S.state last).loans ≡ (S.state first).loans }
+    ensures later { (K.state out.old).faults ≤ (K.state out.new).faults }
     ensures untouched { IsLeftAlone disk result.disk result.outcome }
     ensures old_untouched { IsLeftAlone old.old old.new result.outcome }
     ensures no_call { (words : List (List ℕ)) → IsFoundIn words found → IsUncalled CallsDisk words → result.disk ≡ disk }
     ensures no_old_call { (words : List (List ℕ)) → IsFoundIn words found → IsUncalled CallsOld words → old.new ≡ old.old }
-    ensures disk_same { D.loans result.disk ≡ D.loans disk }
-    ensures old_same { D.loans old.new ≡ D.loans old.old }
+    ensures disk_same { (D.state result.disk).loans ≡ (D.state disk).loans }
+    ensures old_same { (D.state old.new).loans ≡ (D.state old.old).loans }
 {
     let outcome = answer_found(
         alloc,

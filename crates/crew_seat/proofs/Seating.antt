@@ -5,6 +5,7 @@ use Rattle.std.proofs.Math.ListN.{get_or-map}
 use Rattle.std.proofs.Math.Seq.{get_or-append_seam}
 use Rattle.std.proofs.lemmas.Bool.{cases_lt}
 use Rattle.std.proofs.lemmas.List.{append-nil, get_or_append_left, length-append, length-map, nil_from_length, take-append-le, take_all}
+use Rattle.scan_source.specs.State.{ScanState}
 use Rattle.frame_share.specs.Units.{Tally, fresh as unasked, joined as units_joined}
 use Rattle.shared_station.specs.Marks.{HasMoreThan, Tallies, fresh, joined}
 use Rattle.crew_seat.specs.Seats.{HasGiven, HasTaken, IsOnePart}
@@ -104,9 +105,9 @@ pub units_closed : (before now out : Tally) → units_joined now out ≡ before 
 units_closed before now out joins none = let pending = ap (λ (u : Tally). u.pending) joins in omega (arith, pending, none)
 
 -- a seat that was worked in from its first state on is to be handed in
-pub was_counted : {S N C A B D E F : Type 0} (told : Option World) (world : S → Option World) (faults loads : S → ℕ) (same : S → S → Type 0) (old new : Seat S N C A B D E F)
-    → IsFresh old → HasWorked told world faults loads same 2097152 old new → WasCounted new
-was_counted told world faults loads same old new is work = record {
+pub was_counted : {S N C A B D E F : Type 0} (told : Option World) (state : S → ScanState) (old new : Seat S N C A B D E F)
+    → IsFresh old → HasWorked told state 2097152 old new → WasCounted new
+was_counted told state old new is work = record {
   few = work.few;
   marks = record {
     source = work.causes.parts.source ∙ ap (λ (x : Tallies). x.source.parts) is.marks;

@@ -3,6 +3,7 @@ use Rattle.std.proofs.Common.{◌≡◌, inl, inr, ℕ, ◌+◌, ◌-◌, ◌<�
 use Rattle.std.specs.Prelude.{◌↔◌, Option, Result, Ok, Err, IfErr, OnErr, OnOk}
 use Rattle.std.proofs.lemmas.Bool.{true≢false, cases_lt}
 use Rattle.cf_base.specs.Count.{HasRisen}
+use Rattle.scan_source.specs.State.{ScanState}
 use Rattle.scan_source.specs.World.{World}
 use Rattle.render_board.specs.declared.step.Why.{Why}
 use Rattle.render_board.specs.declared.step.Why.TheVariants.{Source, Disk, Memory, Changed}
@@ -47,19 +48,19 @@ pub failed_alone : (had failed : Bool) → had ≡ false → failed ≡ (had || 
 failed_alone true failed none = absurd (true≢false none)
 failed_alone false failed none = refl
 
-module _ {S : Type 0} (told : Option World) (world : S → Option World) (faults loads : S → ℕ) where
-  both_scanned : (old mid new : S) (n m : ℕ) (a b : Bool) → IsScanned world faults loads n (a ≡ true) old mid → IsScanned world faults loads m (b ≡ true) mid new → IsScanned world faults loads (n + m) ((a || b) ≡ true) old new
+module _ {S : Type 0} (told : Option World) (state : S → ScanState) where
+  both_scanned : (old mid new : S) (n m : ℕ) (a b : Bool) → IsScanned n (a ≡ true) (state old) (state mid) → IsScanned m (b ≡ true) (state mid) (state new) → IsScanned (n + m) ((a || b) ≡ true) (state old) (state new)
   both_scanned old mid new n m a b first second = record {
-    asked = second.asked ∙ ap (count_after m) first.asked ∙ loads_along n m (loads old);
+    asked = second.asked ∙ ap (count_after m) first.asked ∙ loads_along n m (state old).loads;
     later = omega (arith, first.later, second.later);
     failed = rose a b first second;
     steady = λ never. second.steady (λ is. never (or_right a b is)) ∙ first.steady (λ is. never (or_left a b is));
     told = second.told ∙ first.told;
   }
     where
-      rose : (a b : Bool) → IsScanned world faults loads n (a ≡ true) old mid → IsScanned world faults loads m (b ≡ true) mid new → (a || b) ≡ true → HasRisen (faults old) (faults new)
+      rose : (a b : Bool) → IsScanned n (a ≡ true) (state old) (state mid) → IsScanned m (b ≡ true) (state mid) (state new) → (a || b) ≡ true → HasRisen (state old).faults (state new).faults
       rose true b first second is = let up = first.failed refl in let on = second.later in omega (arith, up, on)
-      rose false b first second is = let still = first.steady (λ e. true≢false (sym e)) in subst (λ (k : ℕ). HasRisen k (faults new)) still (second.failed is)
+      rose false b first second is = let still = first.steady (λ e. true≢false (sym e)) in subst (λ (k : ℕ). HasRisen k (state new).faults) still (second.failed is)
 
   both_cause : (a b c : Tallies) (n m : ℕ) (f g : Bool) → HasCauses told n f a b → HasCauses told m g b c → HasCauses told (n + m) (f || g) a c
   both_cause a b c n m f g first second = record {
@@ -120,51 +121,51 @@ module _ (told : Option World) {T : Type 0} (made : Result T RunEnd) (before now
   marked_left Is leaves.Stopped (why, is, same) each = each why is same
   marked_left Is (leaves.Away reason) same each = marked_none same
 
-module _ {S N C A B D E F : Type 0} (told : Option World) (world : S → Option World) (faults loads : S → ℕ) (same : S → S → Type 0) where
+module _ {S N C A B D E F : Type 0} (told : Option World) (state : S → ScanState) where
   abbrev Stepped : ℕ → Seat S N C A B D E F → Seat S N C A B D E F → Type 0
-  Stepped most old new = HasStepped told world faults loads same most old new
+  Stepped most old new = HasStepped told state most old new
 
   abbrev Worked : ℕ → Seat S N C A B D E F → Seat S N C A B D E F → Type 0
-  Worked most old new = HasWorked told world faults loads same most old new
+  Worked most old new = HasWorked told state most old new
 
   -- nothing was loaded, and a stop may be counted that is not for a source file
-  pub stepped_marked : ((s : S) → same s s) → (most : ℕ) (old new : Seat S N C A B D E F) → new.scan ≡ old.scan → new.units ≡ old.units → new.loads ≡ old.loads → new.has_failed ≡ old.has_failed → HasCauses told 0 false old.marks new.marks → Stepped most old new
-  stepped_marked itself most old new scan units count has causes = record {
+  pub stepped_marked : (most : ℕ) (old new : Seat S N C A B D E F) → new.scan ≡ old.scan → new.units ≡ old.units → new.loads ≡ old.loads → new.has_failed ≡ old.has_failed → HasCauses told 0 false old.marks new.marks → Stepped most old new
+  stepped_marked most old new scan units count has causes = record {
     more = 0;
     failed = false;
     few = omega arith;
     counts = omega (arith, count);
     fails = has ∙ or_none old.has_failed;
     units = record { parts = ap (λ (u : Tally). u.parts) units; amount = let amount = ap (λ (u : Tally). u.amount) units in omega (arith, amount) };
-    scanned = subst (λ (s : S). IsScanned world faults loads 0 (false ≡ true) old.scan s) (sym scan) (scanned_itself world faults loads (false ≡ true) (λ e. true≢false (sym e)) old.scan);
-    lent = subst (λ (s : S). same old.scan s) (sym scan) (itself old.scan);
+    scanned = subst (λ (s : S). IsScanned 0 (false ≡ true) (state old.scan) (state s)) (sym scan) (scanned_itself (false ≡ true) (λ e. true≢false (sym e)) (state old.scan));
+    lent = subst (λ (s : S). (state s).loans ≡ (state old.scan).loans) (sym scan) refl;
     causes = causes;
   }
 
-  pub stepped_itself : ((s : S) → same s s) → (most : ℕ) (seat : Seat S N C A B D E F) → Stepped most seat seat
-  stepped_itself itself most seat = stepped_marked itself most seat seat refl refl refl refl (causes_none told seat.marks seat.marks 0 false (record { source = refl; disk = refl; memory = refl; changed = refl }) (record { source = refl; changed = refl }))
+  pub stepped_itself : (most : ℕ) (seat : Seat S N C A B D E F) → Stepped most seat seat
+  stepped_itself most seat = stepped_marked most seat seat refl refl refl refl (causes_none told seat.marks seat.marks 0 false (record { source = refl; disk = refl; memory = refl; changed = refl }) (record { source = refl; changed = refl }))
 
   -- the worker has stopped for want of memory, or was turned away
-  pub stepped_left : ((s : S) → same s s) → (most : ℕ) (old new : Seat S N C A B D E F) (leave : Leave) → new.scan ≡ old.scan → new.units ≡ old.units → new.loads ≡ old.loads → new.has_failed ≡ old.has_failed
+  pub stepped_left : (most : ℕ) (old new : Seat S N C A B D E F) (leave : Leave) → new.scan ≡ old.scan → new.units ≡ old.units → new.loads ≡ old.loads → new.has_failed ≡ old.has_failed
       → HasLeft (λ why. why ≡ Memory) old.marks new.marks leave → Stepped most old new
-  stepped_left itself most old new leave scan units count has left =
-      stepped_marked itself most old new scan units count has (by leave left)
+  stepped_left most old new leave scan units count has left =
+      stepped_marked most old new scan units count has (by leave left)
     where
       by : (leave : Leave) → HasLeft (λ why. why ≡ Memory) old.marks new.marks leave → HasCauses told 0 false old.marks new.marks
       by leaves.Stopped (why, is, raised) = subst (HasCauses told 0 false old.marks) (sym (raised ∙ ap (λ (w : Why). raised_by w old.marks) is)) (quiet_causes told Memory 0 false old.marks tt)
       by (leaves.Away reason) still = subst (HasCauses told 0 false old.marks) (sym still) (causes_none told old.marks old.marks 0 false (record { source = refl; disk = refl; memory = refl; changed = refl }) (record { source = refl; changed = refl }))
 
-  pub stepped_along : ((a b c : S) → same a b → same b c → same a c) → (n m most : ℕ) (old mid new : Seat S N C A B D E F) → n + m ≤ most → Stepped n old mid → Stepped m mid new → Stepped most old new
-  stepped_along along n m most old mid new le first second = record {
+  pub stepped_along : (n m most : ℕ) (old mid new : Seat S N C A B D E F) → n + m ≤ most → Stepped n old mid → Stepped m mid new → Stepped most old new
+  stepped_along n m most old mid new le first second = record {
     more = first.more + second.more;
     failed = first.failed || second.failed;
     few = let p = first.few in let q = second.few in omega (arith, p, q, le);
     counts = let p = first.counts in let q = second.counts in omega (arith, p, q);
     fails = second.fails ∙ ap (λ (o : Bool). o || second.failed) first.fails ∙ or_same old.has_failed first.failed second.failed;
     units = record { parts = second.units.parts ∙ first.units.parts; amount = let p = first.units.amount in let q = second.units.amount in omega (arith, p, q) };
-    scanned = both_scanned told world faults loads old.scan mid.scan new.scan first.more second.more first.failed second.failed first.scanned second.scanned;
-    lent = along old.scan mid.scan new.scan first.lent second.lent;
-    causes = both_cause told world faults loads old.marks mid.marks new.marks first.more second.more first.failed second.failed first.causes second.causes;
+    scanned = both_scanned told state old.scan mid.scan new.scan first.more second.more first.failed second.failed first.scanned second.scanned;
+    lent = second.lent ∙ first.lent;
+    causes = both_cause told state old.marks mid.marks new.marks first.more second.more first.failed second.failed first.causes second.causes;
   }
 
   pub stepped_within : (most more : ℕ) (old new : Seat S N C A B D E F) → most ≤ more → Stepped most old new → Stepped more old new
@@ -172,7 +173,7 @@ module _ {S N C A B D E F : Type 0} (told : Option World) (world : S → Option 
 
   -- a frame was made or could not be, and its stop was counted
   pub stepped_made : {T : Type 0} (most : ℕ) (old new : Seat S N C A B D E F) (made : Result T RunEnd) (fault : Bool) → (fault ≡ true) ↔ (made ≡ Err SourceFault) → new.has_failed ≡ (old.has_failed || fault)
-      → HasFetched world faults loads same most made old.loads new.loads old.units new.units old.scan new.scan → HasMarked told made old.marks new.marks → Stepped most old new
+      → HasFetched most made old.loads new.loads old.units new.units (state old.scan) (state new.scan) → HasMarked told made old.marks new.marks → Stepped most old new
   stepped_made {T = T} most old new made fault is has fetched marked =
       let counted = fetched.loaded in
       record {
@@ -182,7 +183,7 @@ module _ {S N C A B D E F : Type 0} (told : Option World) (world : S → Option 
         counts = omega (arith, counted.later);
         fails = has;
         units = record { parts = counted.parts; amount = omega (arith, counted.misses, counted.later) };
-        scanned = scanned_as world faults loads old.scan new.scan _ _ _ (fault ≡ true) refl is.0 is.1 fetched.scan;
+        scanned = scanned_as (state old.scan) (state new.scan) _ _ _ (fault ≡ true) refl is.0 is.1 fetched.scan;
         lent = fetched.lent;
         causes = marked (new.loads - old.loads) fault is.1 (loaded made fetched.changed);
       }
@@ -199,22 +200,22 @@ module _ {S N C A B D E F : Type 0} (told : Option World) (world : S → Option 
       record {
         few = omega (arith, step.few, count, le);
         units = record { parts = step.units.parts; amount = omega (arith, step.units.amount, count) };
-        scanned = subst (λ (n : ℕ). IsScanned world faults loads n (new.has_failed ≡ true) old.scan new.scan) (sym count) (subst (λ (b : Bool). IsScanned world faults loads step.more (b ≡ true) old.scan new.scan) (sym has) step.scanned);
+        scanned = subst (λ (n : ℕ). IsScanned n (new.has_failed ≡ true) (state old.scan) (state new.scan)) (sym count) (subst (λ (b : Bool). IsScanned step.more (b ≡ true) (state old.scan) (state new.scan)) (sym has) step.scanned);
         lent = step.lent;
         causes = subst (λ (n : ℕ). HasCauses told n new.has_failed old.marks new.marks) (sym count) (subst (λ (b : Bool). HasCauses told step.more b old.marks new.marks) (sym has) step.causes);
       }
 
-  pub worked_on : ((a b c : S) → same a b → same b c → same a c) → (n m most : ℕ) (old mid new : Seat S N C A B D E F) → n + m ≤ most → Worked n old mid → Stepped m mid new → Worked most old new
-  worked_on along n m most old mid new le first second =
+  pub worked_on : (n m most : ℕ) (old mid new : Seat S N C A B D E F) → n + m ≤ most → Worked n old mid → Stepped m mid new → Worked most old new
+  worked_on n m most old mid new le first second =
       let count = second.counts in
       record {
         few = omega (arith, first.few, second.few, count, le);
         units = record { parts = second.units.parts ∙ first.units.parts; amount = let p = first.units.amount in let q = second.units.amount in omega (arith, p, q, count) };
-        scanned = subst (λ (n : ℕ). IsScanned world faults loads n (new.has_failed ≡ true) old.scan new.scan) (sym count)
-            (subst (λ (b : Bool). IsScanned world faults loads (mid.loads + second.more) (b ≡ true) old.scan new.scan) (sym second.fails)
-            (both_scanned told world faults loads old.scan mid.scan new.scan mid.loads second.more mid.has_failed second.failed first.scanned second.scanned));
-        lent = along old.scan mid.scan new.scan first.lent second.lent;
+        scanned = subst (λ (n : ℕ). IsScanned n (new.has_failed ≡ true) (state old.scan) (state new.scan)) (sym count)
+            (subst (λ (b : Bool). IsScanned (mid.loads + second.more) (b ≡ true) (state old.scan) (state new.scan)) (sym second.fails)
+            (both_scanned told state old.scan mid.scan new.scan mid.loads second.more mid.has_failed second.failed first.scanned second.scanned));
+        lent = second.lent ∙ first.lent;
         causes = subst (λ (n : ℕ). HasCauses told n new.has_failed old.marks new.marks) (sym count)
             (subst (λ (b : Bool). HasCauses told (mid.loads + second.more) b old.marks new.marks) (sym second.fails)
-            (both_cause told world faults loads old.marks mid.marks new.marks mid.loads second.more mid.has_failed second.failed first.causes second.causes));
+            (both_cause told state old.marks mid.marks new.marks mid.loads second.more mid.has_failed second.failed first.causes second.causes));
       }

@@ -4,6 +4,7 @@
 --     HasWorked      a worker's whole part of a run
 --     WasCounted     what a seat has then to hand in
 use Rattle.std.specs.Prelude.{◌≡◌, ℕ, ◌+◌, ◌≤◌, Bool, true, false, ◌||◌, Option}
+use Rattle.scan_source.specs.State.{ScanState}
 use Rattle.scan_source.specs.World.{World}
 use Rattle.frame_share.specs.Units.{fresh as unasked}
 use Rattle.shared_station.specs.Marks.{fresh}
@@ -15,16 +16,15 @@ use Rattle.crew_seat.specs.declared.seat.Seat.{Seat}
 module _ {S N C A B D E F : Type 0} where
   -- So many loads at most were made, each counted at the seat and as a miss of its units. One of them may have failed, and each
   -- stop for a source file has its cause in them. The scan is the same loan.
-  pub record HasStepped (told : Option World) (world : S → Option World) (faults loads : S → ℕ) (same : S
-      → S → Type 0) (most : ℕ) (old new : Seat S N C A B D E F) : Type 0 where
+  pub record HasStepped (told : Option World) (state : S → ScanState) (most : ℕ) (old new : Seat S N C A B D E F) : Type 0 where
     pub more : ℕ
     pub failed : Bool
     pub few : more ≤ most
     pub counts : new.loads ≡ old.loads + more
     pub fails : new.has_failed ≡ (old.has_failed || failed)
     pub units : HasCounted old.units more new.units
-    pub scanned : IsScanned world faults loads more (failed ≡ true) old.scan new.scan
-    pub lent : same old.scan new.scan
+    pub scanned : IsScanned more (failed ≡ true) (state old.scan) (state new.scan)
+    pub lent : (state new.scan).loans ≡ (state old.scan).loans
     pub causes : HasCauses told more failed old.marks new.marks
 
   -- it has one part of each total, and nothing was counted
@@ -36,12 +36,11 @@ module _ {S N C A B D E F : Type 0} where
 
   -- What a worker did from its start on: so many loads at most, each counted as a miss, and the cause of each stop for a source
   -- file among them. The scan is the same loan.
-  pub record HasWorked (told : Option World) (world : S → Option World) (faults loads : S → ℕ) (same : S
-      → S → Type 0) (most : ℕ) (old new : Seat S N C A B D E F) : Type 0 where
+  pub record HasWorked (told : Option World) (state : S → ScanState) (most : ℕ) (old new : Seat S N C A B D E F) : Type 0 where
     pub few : new.loads ≤ most
     pub units : HasCounted old.units new.loads new.units
-    pub scanned : IsScanned world faults loads new.loads (new.has_failed ≡ true) old.scan new.scan
-    pub lent : same old.scan new.scan
+    pub scanned : IsScanned new.loads (new.has_failed ≡ true) (state old.scan) (state new.scan)
+    pub lent : (state new.scan).loans ≡ (state old.scan).loans
     pub causes : HasCauses told new.loads new.has_failed old.marks new.marks
 
   -- A seat to hand in: one part of each total of stops and one of the misses, which are as many as its loads.

@@ -111,14 +111,14 @@ impl<D: Disk, N: Work + Start, C: Crewed, R: Threads + Wait + Sync> Shared<'_, D
         room: FrameBuf,
     ) -> Result<FrameBuf, Leave>
         requires job { self.now.job.now ≡ N.job }
-        requires files { Tells N.files (S.world seat.old.scan) }
+        requires files { Tells N.files (S.state seat.old.scan).world }
         requires infos { AreInfosOf N.job.parts N.files N.job.infos }
         requires room { length room ≡ frame_size N.job }
         requires few { seat.old.loads + 2 < 2 ^ 64 }
         requires unfailed { seat.old.has_failed ≡ false }
         requires closed { seat.old.units.pending ≡ 0 }
         ensures number { seat.new.number ≡ seat.old.number }
-        ensures stepped { HasStepped N.files S.world S.faults S.loads S.same 2 seat.old seat.new }
+        ensures stepped { HasStepped N.files S.state 2 seat.old seat.new }
         ensures closed { OnOk result (seat.new.units.pending ≡ 0) }
         ensures room { IfOk result (λ back. length back ≡ frame_size N.job) }
         ensures goes_on { OnOk result ((seat.new.marks ≡ seat.old.marks) × (seat.new.has_failed ≡ false)) }
@@ -149,14 +149,14 @@ impl<D: Disk, N: Work + Start, C: Crewed, R: Threads + Wait + Sync> Shared<'_, D
     /// Rounds, from the first one on, in this room, until the worker stops or is turned away.
     fn rounds<S: Scans>(&self, seat: &mut Seat<S, N, C>, room: FrameBuf) -> Leave
         requires job { self.now.job.now ≡ N.job }
-        requires files { Tells N.files (S.world seat.old.scan) }
+        requires files { Tells N.files (S.state seat.old.scan).world }
         requires infos { AreInfosOf N.job.parts N.files N.job.infos }
         requires room { length room ≡ frame_size N.job }
         requires none { seat.old.loads ≡ 0 }
         requires unfailed { seat.old.has_failed ≡ false }
         requires closed { seat.old.units.pending ≡ 0 }
         ensures number { seat.new.number ≡ seat.old.number }
-        ensures worked { HasWorked N.files S.world S.faults S.loads S.same 524288 seat.old seat.new }
+        ensures worked { HasWorked N.files S.state 524288 seat.old seat.new }
         ensures left { HasLeft (λ why. seat.new.has_failed ≡ true → why ≡ whys.Source) seat.old.marks seat.new.marks result }
     {
         let mut room = room;
@@ -183,13 +183,13 @@ impl<D: Disk, N: Work + Start, C: Crewed, R: Threads + Wait + Sync> Shared<'_, D
     /// has turned it away: a frame that it took can't be let go, and a station alone says that it has no step for a worker.
     pub fn worker<S: Scans>(&self, seat: &mut Seat<S, N, C>) -> Leave
         requires job { self.now.job.now ≡ N.job }
-        requires files { Tells N.files (S.world seat.old.scan) }
+        requires files { Tells N.files (S.state seat.old.scan).world }
         requires infos { AreInfosOf N.job.parts N.files N.job.infos }
         requires none { seat.old.loads ≡ 0 }
         requires unfailed { seat.old.has_failed ≡ false }
         requires closed { seat.old.units.pending ≡ 0 }
         ensures number { seat.new.number ≡ seat.old.number }
-        ensures worked { HasWorked N.files S.world S.faults S.loads S.same 524288 seat.old seat.new }
+        ensures worked { HasWorked N.files S.state 524288 seat.old seat.new }
         ensures left { HasLeft (λ why. seat.new.has_failed ≡ true → why ≡ whys.Source) seat.old.marks seat.new.marks result }
     {
         match FrameBuf::new(self.alloc, self.job) {

@@ -35,11 +35,11 @@ fn frame_of<N: Work, F: Ledger, S: Scans, R: Wait>(
     units: &mut Units<F>,
     loads: &mut u64,
 ) -> Result<Arc<Decoded<N>>, RunEnd>
-    requires ready { CanFetch N.job N.files job.now (S.world scan.old) 1 loads.old units.old }
+    requires ready { CanFetch N.job N.files job.now (S.state scan.old).world 1 loads.old units.old }
     requires known { info_at N.job.infos key ≡ Some info }
     ensures key { IfOk result (λ frame. (arc_value frame).key ≡ key) }
     ensures stop { IfErr result (IsUnrendered N.job N.files) }
-    ensures fetched { HasFetched S.world S.faults S.loads S.same 1 result loads.old loads.new units.old units.new scan.old scan.new }
+    ensures fetched { HasFetched 1 result loads.old loads.new units.old units.new (S.state scan.old) (S.state scan.new) }
 {
     let ticket = match share.ask(rt, key, units) {
         Ask::Hit(frame) => return Ok(frame),
@@ -69,11 +69,11 @@ fn side_of<N: Work, F: Ledger, S: Scans, R: Wait>(
     units: &mut Units<F>,
     loads: &mut u64,
 ) -> Result<Option<Arc<Decoded<N>>>, RunEnd>
-    requires ready { CanFetch N.job N.files job.now (S.world scan.old) 1 loads.old units.old }
+    requires ready { CanFetch N.job N.files job.now (S.state scan.old).world 1 loads.old units.old }
     requires known { IfSome need (λ n. info_at N.job.infos n.0 ≡ Some n.1) }
     ensures key { IfOk result (λ frame. HasKeyOf need (option_map (λ f. arc_value f) frame)) }
     ensures stop { IfErr result (IsUnrendered N.job N.files) }
-    ensures fetched { HasFetched S.world S.faults S.loads S.same 1 result loads.old loads.new units.old units.new scan.old scan.new }
+    ensures fetched { HasFetched 1 result loads.old loads.new units.old units.new (S.state scan.old) (S.state scan.new) }
 {
     let Some((key, info)) = need else {
         return Ok(None);
@@ -103,12 +103,12 @@ pub(crate) fn make_shared<N: Work, F: Ledger, S: Scans, R: Threads + Wait + Sync
     units: &mut Units<F>,
     loads: &mut u64,
 ) -> Result<Rendered<N>, RunEnd>
-    requires ready { CanFetch N.job N.files job.now (S.world scan.old) 2 loads.old units.old }
+    requires ready { CanFetch N.job N.files job.now (S.state scan.old).world 2 loads.old units.old }
     requires index { i < frames_of N.job }
     requires room { length room ≡ frame_size N.job }
     ensures index { IfOk result (λ frame. frame.index ≡ i) }
     ensures stop { IfErr result (IsUnrendered N.job N.files) }
-    ensures fetched { HasFetched S.world S.faults S.loads S.same 2 result loads.old loads.new units.old units.new scan.old scan.new }
+    ensures fetched { HasFetched 2 result loads.old loads.new units.old units.new (S.state scan.old) (S.state scan.new) }
 {
     let need = job.need(i);
     let old = match side_of(

@@ -1,3 +1,3 @@
--- The words of private clauses: no caller sees one, and nothing public is said by them.
+-- The words of private clauses, of this crate or of one above: nothing public is said by them.
 pub mod Scan
 pub mod Whole

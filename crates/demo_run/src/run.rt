@@ -26,10 +26,10 @@ pub(crate) fn run(
     scan: &mut UnfailingScans,
     disk: &mut MemoryDisk,
 ) -> Result<u32, Fail<Never>>
-    requires infos { AreInfosOf job.now.parts (⟦<UnfailingScans as Scans>⟧.world scan.old) job.now.infos }
+    requires infos { AreInfosOf job.now.parts (⟦<UnfailingScans as Scans>⟧.state scan.old).world job.now.infos }
     requires empty { IsNewDisk (λ id. None) (history_in disk.old) (faults_in disk.old) }
     ensures acknowledged { IfOk result (λ acknowledged. acknowledged ≡ frames_of job.now) }
-    ensures whole { OnOk result (IfSome (⟦<UnfailingScans as Scans>⟧.world scan.old) (IsWholeOn disk.new job.now)) }
+    ensures whole { OnOk result (IfSome (⟦<UnfailingScans as Scans>⟧.state scan.old).world (IsWholeOn disk.new job.now)) }
 {
     let (end, report, _) = run_alone::<Brand, UnfailingScans, MemoryDisk>(
         alloc,

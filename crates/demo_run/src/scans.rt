@@ -10,7 +10,7 @@ use std::alloc::Global;
 #[derive(Drop)]
 pub(crate) struct UnfailingScans {
     scans: MemoryScans,
-    ghost unfailing: { fails_of (⟦<MemoryScans as Scans>⟧.plan scans) ≡ Some [] },
+    ghost unfailing: { fails_of (⟦<MemoryScans as Scans>⟧.state scans).plan ≡ Some [] },
 }
 
 impl UnfailingScans {
@@ -19,7 +19,7 @@ impl UnfailingScans {
 
     /// The files by path, of which the first of two equal paths counts.
     pub(crate) fn new(alloc: Global, files: Vec<(PathText, Vec<u8>)>) -> Self
-        ensures { ⟦<UnfailingScans as Scans>⟧.world result ≡ Some (world_of (map (λ f. (f.0, f.1.items)) files.items)) }
+        ensures { (⟦<UnfailingScans as Scans>⟧.state result).world ≡ Some (world_of (map (λ f. (f.0, f.1.items)) files.items)) }
     {
         UnfailingScans {
             scans: MemoryScans::new(files, Vec::new(alloc)),
@@ -30,15 +30,7 @@ impl UnfailingScans {
 impl Scans for UnfailingScans {
     ghost use Rattle.std.proofs.Common.{arith};
 
-    ghost world = { λ s. ⟦<MemoryScans as Scans>⟧.world s.scans };
-
-    ghost faults = { λ _. 0 };
-
-    ghost loads = { λ s. ⟦<MemoryScans as Scans>⟧.loads s.scans };
-
-    ghost heads = { λ s. ⟦<MemoryScans as Scans>⟧.heads s.scans };
-
-    ghost plan = { λ s. ⟦<MemoryScans as Scans>⟧.plan s.scans };
+    ghost state = { λ scan. record (⟦<MemoryScans as Scans>⟧.state scan.scans) { faults = 0 } };
 
     fn load(&mut self, path: &PathText, most: u64, into: &mut Vec<u8>) -> Loaded {
         self.scans.load(path, most, into)
@@ -47,10 +39,6 @@ impl Scans for UnfailingScans {
     fn head(&mut self, path: &PathText, into: &mut [u8; 2048]) -> Head {
         self.scans.head(path, into)
     }
-
-    ghost same_refl = { λ _. tt };
-
-    ghost same_trans = { λ _ _ _ _ _. tt };
 
     ghost bounded = { λ _. (Prim.omega arith, Prim.omega arith, Prim.omega arith) };
 }

@@ -52,8 +52,8 @@ pub fn demo(alloc: Global, events: u32) -> Result<Vec<u8>, Outcome>
 
 /// What is printed of a job that is run over an empty disk.
 fn shown(alloc: Global, job: &Job, scan: &mut UnfailingScans) -> Result<Vec<u8>, Fail<Never>>
-    requires infos { AreInfosOf job.now.parts (⟦<UnfailingScans as Scans>⟧.world scan.old) job.now.infos }
-    ensures { IfSome (⟦<UnfailingScans as Scans>⟧.world scan.old) (λ world. IfOk result (IsReelText job.now world)) }
+    requires infos { AreInfosOf job.now.parts (⟦<UnfailingScans as Scans>⟧.state scan.old).world job.now.infos }
+    ensures { IfSome (⟦<UnfailingScans as Scans>⟧.state scan.old).world (λ world. IfOk result (IsReelText job.now world)) }
 {
     let mut disk = MemoryDisk::new(alloc)?;
     let acknowledged = run(alloc, job, scan, &mut disk)?;

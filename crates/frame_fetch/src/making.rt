@@ -30,14 +30,14 @@ pub fn make_frame<N: Work, L: Ledger, S: Scans>(
     units: &mut Units<L>,
     loads: &mut u64,
 ) -> Result<Rendered<N>, RunEnd>
-    requires ready { CanFetch N.job N.files job.now (S.world scan.old) 2 loads.old units.old }
+    requires ready { CanFetch N.job N.files job.now (S.state scan.old).world 2 loads.old units.old }
     requires index { i < frame_count N.job.parts.timeline.events }
     requires room { length room ≡ frame_size N.job }
     ensures index { IfOk result (λ frame. frame.index ≡ i) }
     ensures stop { IfErr result (IsUnrendered N.job N.files) }
     ensures asked { OnOk result (HasAsked share.old share.new (keys_of_need (need_at N.job i))) }
     ensures tried { OnErr result (HasTried share.old share.new (keys_of_need (need_at N.job i))) }
-    ensures fetched { HasFetched S.world S.faults S.loads S.same 2 result loads.old loads.new units.old units.new scan.old scan.new }
+    ensures fetched { HasFetched 2 result loads.old loads.new units.old units.new (S.state scan.old) (S.state scan.new) }
 {
     let need = job.need(i);
     let old = match side_of(alloc, job, scan, need.old, rooms, share, units, loads) {

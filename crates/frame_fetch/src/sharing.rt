@@ -34,13 +34,13 @@ fn frame_of<N: Work, L: Ledger, S: Scans>(
     units: &mut Units<L>,
     loads: &mut u64,
 ) -> Result<Arc<Decoded<N>>, RunEnd>
-    requires ready { CanFetch N.job N.files job.now (S.world scan.old) 1 loads.old units.old }
+    requires ready { CanFetch N.job N.files job.now (S.state scan.old).world 1 loads.old units.old }
     requires known { info_at N.job.infos key ≡ Some info }
     ensures key { IfOk result (λ frame. (arc_value frame).key ≡ key) }
     ensures stop { IfErr result (IsUnrendered N.job N.files) }
     ensures asked { OnOk result (HasAsked share.old share.new (key ∷ [])) }
     ensures tried { OnErr result (HasTried share.old share.new (key ∷ [])) }
-    ensures fetched { HasFetched S.world S.faults S.loads S.same 1 result loads.old loads.new units.old units.new scan.old scan.new }
+    ensures fetched { HasFetched 1 result loads.old loads.new units.old units.new (S.state scan.old) (S.state scan.new) }
 {
     let ticket = match share.ask(key, units) {
         Ask::Hit(frame) => return Ok(frame),
@@ -68,13 +68,13 @@ pub(crate) fn side_of<N: Work, L: Ledger, S: Scans>(
     units: &mut Units<L>,
     loads: &mut u64,
 ) -> Result<Option<Arc<Decoded<N>>>, RunEnd>
-    requires ready { CanFetch N.job N.files job.now (S.world scan.old) 1 loads.old units.old }
+    requires ready { CanFetch N.job N.files job.now (S.state scan.old).world 1 loads.old units.old }
     requires known { IfSome need (λ n. info_at N.job.infos n.0 ≡ Some n.1) }
     ensures key { IfOk result (λ frame. HasKeyOf need (option_map (λ f. arc_value f) frame)) }
     ensures stop { IfErr result (IsUnrendered N.job N.files) }
     ensures asked { OnOk result (HasAsked share.old share.new (key_of_side need)) }
     ensures tried { OnErr result (HasTried share.old share.new (key_of_side need)) }
-    ensures fetched { HasFetched S.world S.faults S.loads S.same 1 result loads.old loads.new units.old units.new scan.old scan.new }
+    ensures fetched { HasFetched 1 result loads.old loads.new units.old units.new (S.state scan.old) (S.state scan.new) }
 {
     let Some((key, info)) = need else {
         return Ok(None);

@@ -1,11 +1,11 @@
-//! The ledger over disks in memory: its calls in order, reads that fall short, and a stop at each call.
+//! The ledger over disks in memory: its calls in order, and a stop at each call.
 ghost use Rattle.std.specs.Prelude.{◌≡◌, ◌<◌, ℕ, true, false, length, slice_index_or};
 ghost use Rattle.reel_disk.specs.Disk.{moment_of};
 ghost use Rattle.resume_ledger.specs.Ledger.{Agrees};
 ghost use Rattle.resume_ledger.specs.Sound.{IsFrameFile, file_at};
 
 use cf_base::FileId;
-use reel_disk::{Did, Disk, DiskFault, Got, Length, MemoryDisk};
+use reel_disk::{Disk, DiskFault, MemoryDisk};
 use resume_ledger::{Ledger, OpenFault, ledger_laws};
 use std::alloc::Global;
 use test_stand_ins::{Call, Noted};
@@ -54,7 +54,7 @@ fn acknowledge<D: Disk>(alloc: Global, disk: &mut D) -> Option<Result<(), DiskFa
 /// Keeps frame 1, or frame 3 where that one is acknowledged.
 fn keep_next<D: Disk>(ledger: &mut Ledger, disk: &mut D) -> Option<Result<(), DiskFault>>
     requires is_open { ledger.old.closed ≡ false }
-    requires agrees { D.tells ≡ true → Agrees (moment_of (D.history disk.old)) ledger.old }
+    requires agrees { D.tells ≡ true → Agrees (moment_of (D.state disk.old).history) ledger.old }
     requires size { length ledger.old.gates ≡ 24 }
 {
     if !ledger.is_acked(1) {
@@ -69,7 +69,7 @@ fn keep_next<D: Disk>(ledger: &mut Ledger, disk: &mut D) -> Option<Result<(), Di
 /// Keeps the record of a frame and acknowledges it.
 fn keep<D: Disk>(ledger: &mut Ledger, disk: &mut D, i: u32) -> Result<(), DiskFault>
     requires is_open { ledger.old.closed ≡ false }
-    requires agrees { D.tells ≡ true → Agrees (moment_of (D.history disk.old)) ledger.old }
+    requires agrees { D.tells ≡ true → Agrees (moment_of (D.state disk.old).history) ledger.old }
     requires within { i < length ledger.old.gates }
     requires fresh { slice_index_or ledger.old.gates i false ≡ false }
 {
@@ -161,68 +161,6 @@ fn a_peek_fails_where_a_call_does(rt: HostRuntime) {
             .expect(&rt, "a disk");
         assert!(rt; attached(alloc, &mut disk) == Ok(0), "stop at {stop}");
         assert!(rt; peeked(alloc, &mut disk) == want, "stop at {stop}");
-    }
-}
-
-/// A disk that tells nothing, and whose reads of one file give a byte less than there is.
-#[derive(Drop)]
-struct Short<D: Disk + Drop> {
-    disk: D,
-    file: FileId,
-}
-
-impl<D: Disk + Drop> Disk for Short<D> {
-    ghost use Rattle.std.specs.Prelude.{false};
-
-    ghost tells = { false };
-
-    ghost history = { λ short. D.history short.disk };
-
-    ghost faults = { λ short. D.faults short.disk };
-
-    ghost loans = { λ a. D.loans a.disk };
-
-    ghost bounded = { λ d. D.bounded d.disk };
-
-    fn length(&mut self, id: FileId) -> Length {
-        self.disk.length(id)
-    }
-
-    fn read(&mut self, id: FileId, start: u64, into: &mut [u8]) -> Got {
-        match self.disk.read(id, start, into) {
-            Got::Bytes(n) if id == self.file && 0 < n => Got::Bytes(n - 1),
-            got => got,
-        }
-    }
-
-    fn write_whole(&mut self, id: FileId, bytes: &[u8]) -> Did {
-        self.disk.write_whole(id, bytes)
-    }
-
-    fn write_at(&mut self, id: FileId, _: u64, bytes: &[u8]) -> Did {
-        self.disk.write_whole(id, bytes)
-    }
-
-    fn sync(&mut self, id: FileId) -> Did {
-        self.disk.sync(id)
-    }
-}
-
-/// A seal that is read with another length than was told counts as none, and such a body as not well formed.
-#[test]
-fn a_read_of_another_length_counts_for_nothing(rt: HostRuntime) {
-    let alloc = rt.alloc();
-    for (file, want) in [
-        (FileId::Sheet, Ok(2)),
-        (FileId::Seal2, Ok(0)),
-        (FileId::Body2, Err(OpenFault::BadLedger { len: 856 })),
-    ] {
-        let mut disk = MemoryDisk::new(alloc).ok().expect(&rt, "a disk");
-        assert!(rt; acknowledge(alloc, &mut disk) == Some(Ok(())));
-        assert!(rt; acknowledge(alloc, &mut disk) == Some(Ok(())));
-        let mut short = Short { disk, file };
-        assert!(rt; peeked(alloc, &mut short) == want);
-        assert!(rt; attached(alloc, &mut short) == want);
     }
 }
 

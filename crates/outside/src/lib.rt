@@ -8,6 +8,7 @@ mod places;
 ghost use Rattle.std.specs.Prelude.{◌≡◌, drop, vec_len, IfOk};
 ghost use Rattle.std.specs.Vec.Iter.{into_iter_items};
 ghost use Rattle.outside.specs.Places.{folders_of, old_folder, reel_folder};
+ghost use Rattle.reel_disk.specs.Folder.{folder_in};
 
 pub use causes::tell_cause;
 use cf_base::PathText;
@@ -44,7 +45,8 @@ pub fn outside_of<R: Runtime + LockFiles + AllocGlobal>(
     places: &Places,
 ) -> Result<Outside<R>, AllocError>
     ensures scans { IfOk result (λ outside. vec_len outside.scans ≡ 16) }
-    ensures disk { IfOk result (λ outside. ⟦<FolderDisk<R> as Disk>⟧.faults outside.disk ≡ 0) }
+    ensures folders { IfOk result (λ outside. (folder_in outside.disk, folder_in outside.old) ≡ folders_of places.now) }
+    ensures disk { IfOk result (λ outside. (⟦<FolderDisk<R> as Disk>⟧.state outside.disk).faults ≡ 0) }
 {
     let (reel, old) = folders_of(places);
     Ok(Outside {
@@ -102,7 +104,8 @@ fn folders_of(places: &Places) -> (PathText, PathText)
 
 /// The folder of that name in the current folder, before the first call on it.
 fn folder_at<R: Runtime + LockFiles>(rt: &R, name: PathText) -> Result<FolderDisk<R>, AllocError>
-    ensures { IfOk result (λ disk. ⟦<FolderDisk<R> as Disk>⟧.faults disk ≡ 0) }
+    ensures folder { IfOk result (λ disk. folder_in disk ≡ name) }
+    ensures faults { IfOk result (λ disk. (⟦<FolderDisk<R> as Disk>⟧.state disk).faults ≡ 0) }
 {
     Ok(FolderDisk::new(rt.clone()?, name))
 }

@@ -27,7 +27,7 @@ use Rattle.frame_fetch.specs.declared.run_end.RunEnd.TheVariants as ends
 use Rattle.single_run.proofs.Closing.{whole_reel}
 use Rattle.outcome_line.specs.declared.outcome.Outcome.{Outcome}
 use Rattle.outcome_line.specs.declared.outcome.Outcome.TheVariants as outcome
-use Rattle.project_run.specs.Calls.{DiskState}
+use Rattle.project_run.specs.Calls.{FolderState}
 use Rattle.project_run.specs.Run.{IsOfRun, outcome_of_end}
 use Rattle.project_adopt.specs.Adopt.{IsAdoption, IsOfAdopt, IsPromised, IsRest, outcome_of_fault}
 
@@ -126,13 +126,13 @@ kept_on job old_job tells old_files before after done adopted told two k kept =
     (((adopted.exit told).flags_are k).0 acked, λ one. absurd (one.0 two))
 
 -- the rest of the same job
-pub rest_of : {job other : JobData} {told : Option World} {done : Adopted} {disk disk_after : DiskState} {loads loads_after : ℕ} {reached : Outcome} {output : List ℕ} → other ≡ job
+pub rest_of : {job other : JobData} {told : Option World} {done : Adopted} {disk disk_after : FolderState} {loads loads_after : ℕ} {reached : Outcome} {output : List ℕ} → other ≡ job
     → IsRest other done told loads loads_after disk disk_after reached output → IsRest job done told loads loads_after disk disk_after reached output
 rest_of {told = told} {done = done} {disk = disk} {disk_after = disk_after} {loads = loads} {loads_after = loads_after} {reached = reached} {output = output} same rest =
     subst (λ (j : JobData). IsRest j done told loads loads_after disk disk_after reached output) same rest
 
 -- what a disk is at a moment
-abbrev at : Bool → History → ℕ → DiskState
+abbrev at : Bool → History → ℕ → FolderState
 at tells history faults = record { tells = tells; history = history; faults = faults }
 
 module _ (job old_job : JobData) (lent told : Option World) (tells_lent : Tells lent told) (tells : Bool) (h h_after before between after : History) (f f_after f_before f_between f_after_all : ℕ) (sound_has : (world : World) (files : Files) → IsSoundReel job world files → HasFrameFiles job files) (still : tells ≡ true → IsStill h h_after) (run : tells ≡ true → IsReelRun job lent before between)

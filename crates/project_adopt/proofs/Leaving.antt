@@ -10,7 +10,7 @@ use Rattle.outcome_line.specs.declared.outcome.Outcome.TheVariants as outcome
 use Rattle.outcome_line.specs.declared.outcome.Refused.{Refused}
 use Rattle.project_job.specs.Asked.{HasInspectedFor}
 use Rattle.project_job.specs.Jobs.{IsOfJob}
-use Rattle.project_run.specs.Calls.{DiskState, IsRefusal}
+use Rattle.project_run.specs.Calls.{FolderState, IsRefusal}
 use Rattle.project_run.proofs.Leaving.{run_unrefused}
 use Rattle.project_adopt.specs.Adopt.{GoesOn, IsAdoption, IsRest, IsUnadopted, of_old_project, outcome_of_fault}
 
@@ -23,7 +23,7 @@ no_fault fault.DiskFault refused = refused
 no_fault fault.NoMemory refused = refused
 
 -- where frames were taken over no project was refused
-pub adoption_unrefused : (job old_job : JobData) (told : Option World) (old old_after disk disk_after : DiskState) (loads loads_after : ℕ) (reached : Outcome) (output : List ℕ)
+pub adoption_unrefused : (job old_job : JobData) (told : Option World) (old old_after disk disk_after : FolderState) (loads loads_after : ℕ) (reached : Outcome) (output : List ℕ)
     → IsAdoption job old_job told loads loads_after old old_after disk disk_after reached output → IsRefusal reached → ⊥
 adoption_unrefused job old_job told old old_after disk disk_after loads loads_after reached output went = by went.adopted went.went
   where
@@ -50,14 +50,14 @@ old_refused (outcome.Changed reel key was now) refusal kind is = kind
 old_refused outcome.DiskFault refusal kind is = kind
 old_refused (outcome.SinkFault instead) refusal kind is = kind
 
-onward_unrefused : (job : JobData) (told : Option World) (old_path : List ℕ) (old old_after disk disk_after : DiskState) (loads loads_after : ℕ) (reached : Outcome) (output : List ℕ) (refusal : Refused)
+onward_unrefused : (job : JobData) (told : Option World) (old_path : List ℕ) (old old_after disk disk_after : FolderState) (loads loads_after : ℕ) (reached : Outcome) (output : List ℕ) (refusal : Refused)
     → GoesOn job old_path told loads loads_after old old_after disk disk_after reached output → reached ≡ outcome.Refused refusal → ⊥
 onward_unrefused job told old_path old old_after disk disk_after loads loads_after reached output refusal (inl has) is =
     adoption_unrefused job has.old_job told old old_after disk disk_after has.planned loads_after reached output has.went (subst IsRefusal (sym is) tt)
 onward_unrefused job told old_path old old_after disk disk_after loads loads_after reached output refusal (inr none) is =
     old_refused none.found refusal none.unplanned.kind (subst (λ r. r ≡ outcome.Refused refusal) none.reached_is is)
 
-pub asked_onward : {A : Type 0} (r : Result A Outcome) (P : A → Type 0) (job : JobData) (told here : Option World) (path old_path : List ℕ) (old old_after disk disk_after : DiskState)
+pub asked_onward : {A : Type 0} (r : Result A Outcome) (P : A → Type 0) (job : JobData) (told here : Option World) (path old_path : List ℕ) (old old_after disk disk_after : FolderState)
     (loads loads_after before after : ℕ) (output : Outcome → List ℕ)
     → MatchResult r P (λ reached. GoesOn job old_path here loads loads_after old old_after disk disk_after reached (output reached)) → IfErr r (HasInspectedFor told path before after)
 asked_onward (Ok a) P job told here path old_path old old_after disk disk_after loads loads_after before after output went = tt

@@ -8,7 +8,7 @@ use Rattle.reel_disk.specs.Disk.{Files}
 use Rattle.reel_writer.specs.Reel.{frames_of, reel_of}
 use Rattle.reconform.specs.Adopt.{CanServe, HaveOneLook}
 use Rattle.outcome_line.specs.declared.outcome.Outcome.{Outcome}
-use Rattle.project_run.specs.Calls.{DiskState}
+use Rattle.project_run.specs.Calls.{FolderState}
 use Rattle.project_adopt.specs.Adopt.{IsOldSound, IsPromised}
 use Rattle.project_adopt.proofs.Deciding.{Decision, decide_sound}
 
@@ -45,7 +45,7 @@ module _ (old : JobData) (files : Files) where
       by (inl is) = record { told = refl; sound = is; look = look }
       by (inr not) = tt
 
-  module _ (job : JobData) (disk disk_after : DiskState) (reached : Outcome) where
+  module _ (job : JobData) (disk disk_after : FolderState) (reached : Outcome) where
     -- what is promised by any files is promised by none
     untold : (told : Option World) → IsPromised job told disk disk_after reached → IsPromised job None disk disk_after reached
     untold told promised = record {

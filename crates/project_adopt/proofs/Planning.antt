@@ -8,7 +8,7 @@ use Rattle.reel_disk.specs.Disk.{view_of}
 use Rattle.outcome_line.specs.declared.outcome.Outcome.{Outcome}
 use Rattle.outcome_line.specs.declared.outcome.Outcome.TheVariants as outcome
 use Rattle.project_job.specs.Jobs.{HasPlanned, IsOfJob, cube_count}
-use Rattle.project_run.specs.Calls.{DiskState}
+use Rattle.project_run.specs.Calls.{FolderState}
 use Rattle.project_run.proofs.Runs.{of_job}
 use Rattle.project_adopt.specs.Adopt.{GoesOn, IsAdoptReply, IsAdoption, IsOfAdopt, IsOldSound, IsPromised, of_old_project}
 use Rattle.project_adopt.specs.inside.Adopt.{IsJobOver}
@@ -26,7 +26,7 @@ all_three (Ok a) P P' P'' Q Q' Q'' first second third = (first, second, third)
 all_three (Err b) P P' P'' Q Q' Q'' first second third = (first, second, third)
 
 -- The world is that before the old project was planned.
-pub adopted_in : (here told : Option World) (job old_job : JobData) (old_path : List ℕ) (old old_after disk disk_after : DiskState) (loads planned loads_after : ℕ) (reached : Outcome) (output : List ℕ) → here ≡ told
+pub adopted_in : (here told : Option World) (job old_job : JobData) (old_path : List ℕ) (old old_after disk disk_after : FolderState) (loads planned loads_after : ℕ) (reached : Outcome) (output : List ℕ) → here ≡ told
     → IfSome told (λ world. HasPlanned (file_at world) old_path (Ok old_job)) → planned ≡ count_after (2 + cube_count old_job.parts.project.cube) loads
     → IsAdoption job old_job here planned loads_after old old_after disk disk_after reached output
     → (disk.tells ≡ true → IsPromised job None disk disk_after reached)
@@ -41,7 +41,7 @@ adopted_in here told job old_job old_path old old_after disk disk_after loads pl
   sound = subst (λ (t : Option World). disk.tells ≡ true → IfSome t (λ world. IsOldSound old_job world (view_of old.history)) → IsPromised job t disk disk_after reached) same sound;
 })
 
-pub job_in : (here told : Option World) (job : JobData) (path old_path : List ℕ) (old old_after disk disk_after : DiskState) (loads planned loads_after : ℕ) (reached : Outcome) (output : List ℕ) → here ≡ told
+pub job_in : (here told : Option World) (job : JobData) (path old_path : List ℕ) (old old_after disk disk_after : FolderState) (loads planned loads_after : ℕ) (reached : Outcome) (output : List ℕ) → here ≡ told
     → IfSome told (λ world. HasPlanned (file_at world) path (Ok job)) → planned ≡ count_after (2 + cube_count job.parts.project.cube) loads
     → GoesOn job old_path here planned loads_after old old_after disk disk_after reached output
     → IsAdoptReply path old_path told loads loads_after old old_after disk disk_after reached output

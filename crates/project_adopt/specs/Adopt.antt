@@ -14,8 +14,9 @@ use Rattle.std.specs.Prelude.{◌≡◌, ◌⊎◌, ℕ, ◌+◌, Bool, true, Li
 use Rattle.scan_source.specs.World.{World, file_at}
 use Rattle.conform_job.specs.Answers.{count_after}
 use Rattle.conform_job.specs.Job.{JobData}
-use Rattle.reel_disk.specs.Disk.{Files, History, moment_of, view_of, IsStill}
+use Rattle.reel_disk.specs.Disk.{Files, moment_of, view_of, IsStill}
 use Rattle.reel_disk.specs.Runs.{Spares}
+use Rattle.reel_disk.specs.State.{DiskState}
 use Rattle.resume_ledger.specs.Ledger.{IsInForce}
 use Rattle.resume_ledger.specs.Sound.{IsSound, WritesOnly}
 use Rattle.resume_ledger.specs.declared.layout.Version.TheVariants.{Two}
@@ -31,7 +32,7 @@ use Rattle.printed_text.specs.Text.{spaced_line}
 use Rattle.outcome_line.specs.declared.outcome.Outcome.{Outcome}
 use Rattle.outcome_line.specs.declared.outcome.Outcome.TheVariants as outcome
 use Rattle.project_job.specs.Jobs.{ComesTo, cube_count}
-use Rattle.project_run.specs.Calls.{DiskState, OnDisk}
+use Rattle.project_run.specs.Calls.{FolderState, OnDisk}
 use Rattle.frame_range.specs.Parts.{range_of}
 use Rattle.frame_range.specs.declared.range.Extent.TheVariants.{Whole}
 use Rattle.project_run.specs.Run.{IsJobRun, IsOfRun, IsUnplanned}
@@ -72,36 +73,35 @@ share_count = 8
 
 -- The rest was run in the folder as `run` does, and its report put with the number of frames that were taken over.
 pub record IsRest (job : JobData) (done : Adopted) (told : Option World) (loads loads_after : ℕ)
-    (disk disk_after : DiskState) (reached : Outcome) (output : List ℕ) : Type 0 where
+    (disk disk_after : FolderState) (reached : Outcome) (output : List ℕ) : Type 0 where
   -- what `run` would have put
   pub run_output : List ℕ
   pub run : IsJobRun job Whole (range_of Whole (frames_of job)) share_count told loads loads_after disk disk_after reached run_output
   pub form : reached ≡ outcome.Done → output ≡ adopt_text done run.report
 
 -- The adoption didn't come to its end, and nothing was loaded or written after it.
-pub record IsUnadopted (why : AdoptFault) (disk disk_after : DiskState) (loads loads_after : ℕ) (reached : Outcome) : Type 0 where
+pub record IsUnadopted (why : AdoptFault) (disk disk_after : FolderState) (loads loads_after : ℕ) (reached : Outcome) : Type 0 where
   pub reached_is : reached ≡ outcome_of_fault why
   pub unchanged : disk_after ≡ disk
   pub unloaded : loads_after ≡ loads
 
 -- what a call made of the old folder and of the new one, as `OnDisk` says it of one
-abbrev pub OnDisks : {D : Type 0} {A : Type 1} → Bool → (D → History) → (D → ℕ) → (old old_after disk disk_after : D)
-    → (DiskState → DiskState → DiskState → DiskState → A) → A
-OnDisks tells history faults old old_after disk disk_after Made =
-    OnDisk tells history faults disk disk_after (OnDisk tells history faults old old_after Made)
+abbrev pub OnDisks : {A : Type 1} → Bool → (old old_after disk disk_after : DiskState)
+    → (FolderState → FolderState → FolderState → FolderState → A) → A
+OnDisks tells old old_after disk disk_after Made = OnDisk tells disk disk_after (OnDisk tells old old_after Made)
 
 -- The crash promise. At every moment each frame that a crash leaves acknowledged is the definition's, and no acknowledgement
 -- is lost; at Done the folder has the whole reel.
-pub record IsPromised (job : JobData) (told : Option World) (disk disk_after : DiskState) (reached : Outcome) : Type 0 where
+pub record IsPromised (job : JobData) (told : Option World) (disk disk_after : FolderState) (reached : Outcome) : Type 0 where
   pub run : IsReelRun job told disk.history disk_after.history
   pub whole : reached ≡ outcome.Done → HasWhole job 0 (frames_of job) told disk.history disk_after.history
 
 -- Frames of the old folder were taken over into the new one, as far as they have an intact donor, and the rest was run.
 pub record IsAdoption (job old_job : JobData) (told : Option World) (loads loads_after : ℕ)
-    (old old_after disk disk_after : DiskState) (reached : Outcome) (output : List ℕ) : Type 0 where
+    (old old_after disk disk_after : FolderState) (reached : Outcome) (output : List ℕ) : Type 0 where
   -- what the adoption came to, and the new folder behind it
   pub adopted : Result Adopted AdoptFault
-  pub between : DiskState
+  pub between : FolderState
   pub tells : between.tells ≡ disk.tells
   pub answer : HasAnswered job old_job disk.tells old.history old_after.history disk.history between.history adopted
   pub went : MatchResult adopted
@@ -126,7 +126,7 @@ pub record CameTo (told : Option World) (path : List ℕ) (job : JobData) (loads
   pub texts : loads_after ≡ count_after (2 + cube_count job.parts.project.cube) loads
 
 -- The old project came to this job, frames were taken over, and the rest was run.
-pub record HasAdopted (job : JobData) (told : Option World) (old_path : List ℕ) (old old_after disk disk_after : DiskState)
+pub record HasAdopted (job : JobData) (told : Option World) (old_path : List ℕ) (old old_after disk disk_after : FolderState)
     (loads loads_after : ℕ) (reached : Outcome) (output : List ℕ) : Type 0 where
   pub old_job : JobData
   -- the loads when it was planned
@@ -138,7 +138,7 @@ pub record HasAdopted (job : JobData) (told : Option World) (old_path : List ℕ
   pub sound : disk.tells ≡ true → IsOldSoundIn told old_job (view_of old.history) → IsPromised job told disk disk_after reached
 
 -- The old project came to no job, and both folders are as they were.
-pub record HasNoOldJob (told : Option World) (old_path : List ℕ) (old old_after disk disk_after : DiskState)
+pub record HasNoOldJob (told : Option World) (old_path : List ℕ) (old old_after disk disk_after : FolderState)
     (loads loads_after : ℕ) (reached : Outcome) : Type 0 where
   -- what it came to
   pub found : Outcome
@@ -148,13 +148,13 @@ pub record HasNoOldJob (told : Option World) (old_path : List ℕ) (old old_afte
 
 -- what the command comes to once its project came to this job
 abbrev pub GoesOn : JobData → (old_path : List ℕ) → Option World → (loads loads_after : ℕ)
-    → (old old_after disk disk_after : DiskState) → Outcome → List ℕ → Type 0
+    → (old old_after disk disk_after : FolderState) → Outcome → List ℕ → Type 0
 GoesOn job old_path told loads loads_after old old_after disk disk_after reached output =
     HasAdopted job told old_path old old_after disk disk_after loads loads_after reached output
     ⊎ HasNoOldJob told old_path old old_after disk disk_after loads loads_after reached
 
 -- The project came to a job, and then the old one was looked at.
-pub record HasJob (told : Option World) (path old_path : List ℕ) (old old_after disk disk_after : DiskState)
+pub record HasJob (told : Option World) (path old_path : List ℕ) (old old_after disk disk_after : FolderState)
     (loads loads_after : ℕ) (reached : Outcome) (output : List ℕ) : Type 0 where
   pub job : JobData
   -- the loads when it was planned
@@ -163,13 +163,13 @@ pub record HasJob (told : Option World) (path old_path : List ℕ) (old old_afte
   pub went : GoesOn job old_path told planned loads_after old old_after disk disk_after reached output
 
 -- The project came to no job. Both folders are as they were, and the old project was not looked at.
-pub record HasNoJob (told : Option World) (path : List ℕ) (old old_after disk disk_after : DiskState)
+pub record HasNoJob (told : Option World) (path : List ℕ) (old old_after disk disk_after : FolderState)
     (loads loads_after : ℕ) (reached : Outcome) : Type 0 where
   pub unplanned : IsUnplanned told path disk disk_after loads loads_after reached
   pub untouched : old_after ≡ old
 
 abbrev pub IsAdoptReply : (path old_path : List ℕ) → Option World → (loads loads_after : ℕ)
-    → (old old_after disk disk_after : DiskState) → Outcome → List ℕ → Type 0
+    → (old old_after disk disk_after : FolderState) → Outcome → List ℕ → Type 0
 IsAdoptReply path old_path told loads loads_after old old_after disk disk_after reached output =
     HasJob told path old_path old old_after disk disk_after loads loads_after reached output
     ⊎ HasNoJob told path old old_after disk disk_after loads loads_after reached

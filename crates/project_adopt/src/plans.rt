@@ -1,9 +1,9 @@
 //! From the paths of two projects to their jobs.
 ghost use Rattle.std.specs.Prelude.{◌≡◌, Err, IfErr, MatchResult};
 ghost use Rattle.conform_job.specs.Answers.{AreInfosOf};
-ghost use Rattle.scan_source.specs.Leaves.{LeavesScan};
+ghost use Rattle.scan_source.specs.State.{LeavesScan};
 ghost use Rattle.project_run.specs.Calls.{IsLeftAlone, LeavesScanFor, Replies, OverScan};
-ghost use Rattle.reconform.specs.Adopt.{LeavesDisks};
+ghost use Rattle.reconform.specs.Adopt.{LeavesBoth};
 ghost use Rattle.project_adopt.specs.Adopt.{GoesOn, IsAdoptReply, IsOfAdopt, OnDisks};
 ghost use Rattle.project_adopt.specs.inside.Adopt.{IsJobOver};
 
@@ -38,12 +38,12 @@ pub fn adopt<S: Scans, D: Disk, H: Hasher>(
     hasher: &H,
 ) -> Result<Vec<u8>, Outcome>
     requires can_hash { H.can_hash }
-    ensures folders { Replies result (OnDisks D.tells D.history D.faults old.old old.new disk.old disk.new
-        (OverScan S.world S.loads scan.old scan.new (IsAdoptReply path.now old_path.now))) }
+    ensures folders { Replies result (OnDisks D.tells (D.state old.old) (D.state old.new) (D.state disk.old) (D.state disk.new)
+        (OverScan (S.state scan.old) (S.state scan.new) (IsAdoptReply path.now old_path.now))) }
     ensures kind { MatchResult result (λ text. Unit {0}) IsOfAdopt }
 
-    ensures scan { LeavesScanFor S.world S.faults S.heads S.same path.now result scan.old scan.new }
-    ensures disks { LeavesDisks D.faults D.loans (result ≡ Err Outcome.DiskFault) old.old old.new disk.old disk.new }
+    ensures scan { LeavesScanFor path.now result (S.state scan.old) (S.state scan.new) }
+    ensures disks { LeavesBoth (result ≡ Err Outcome.DiskFault) (D.state old.old) (D.state old.new) (D.state disk.old) (D.state disk.new) }
     ensures untouched { IfErr result (IsLeftAlone disk.old disk.new) }
     ensures old_untouched { IfErr result (IsLeftAlone old.old old.new) }
 {
@@ -68,15 +68,15 @@ fn adopt_onto<S: Scans, D: Disk, H: Hasher>(
     hasher: &H,
 ) -> Result<Vec<u8>, Outcome>
     requires can_hash { H.can_hash }
-    requires infos { AreInfosOf job.now.parts (S.world scan.old) job.now.infos }
-    requires over { IsJobOver (S.world scan.old) job.now }
-    ensures folders { Replies result (OnDisks D.tells D.history D.faults old.old old.new disk.old disk.new
-        (OverScan S.world S.loads scan.old scan.new (GoesOn job.now old_path.now))) }
+    requires infos { AreInfosOf job.now.parts (S.state scan.old).world job.now.infos }
+    requires over { IsJobOver (S.state scan.old).world job.now }
+    ensures folders { Replies result (OnDisks D.tells (D.state old.old) (D.state old.new) (D.state disk.old) (D.state disk.new)
+        (OverScan (S.state scan.old) (S.state scan.new) (GoesOn job.now old_path.now))) }
     ensures kind { MatchResult result (λ text. Unit {0}) IsOfAdopt }
 
-    ensures scan { LeavesScan S.world S.faults S.same (result ≡ Err Outcome.SourceFault) scan.old scan.new }
+    ensures scan { LeavesScan (result ≡ Err Outcome.SourceFault) (S.state scan.old) (S.state scan.new) }
 
-    ensures disks { LeavesDisks D.faults D.loans (result ≡ Err Outcome.DiskFault) old.old old.new disk.old disk.new }
+    ensures disks { LeavesBoth (result ≡ Err Outcome.DiskFault) (D.state old.old) (D.state old.new) (D.state disk.old) (D.state disk.new) }
     ensures untouched { IfErr result (IsLeftAlone disk.old disk.new) }
     ensures old_untouched { IfErr result (IsLeftAlone old.old old.new) }
 {

@@ -2,11 +2,11 @@
 ghost use Rattle.std.specs.Prelude.{◌≡◌, true, None, Err, IfSome, MatchResult};
 ghost use Rattle.conform_job.specs.Answers.{AreInfosOf};
 ghost use Rattle.conform_job.specs.Names.{Tells};
-ghost use Rattle.scan_source.specs.Leaves.{LeavesScan};
+ghost use Rattle.scan_source.specs.State.{LeavesScan};
 ghost use Rattle.project_run.specs.Calls.{OnDisk, Replies, OverScan};
-ghost use Rattle.reel_writer.specs.Leaves.{LeavesDisk};
+ghost use Rattle.reel_disk.specs.State.{LeavesDisk};
 ghost use Rattle.project_run.specs.Run.{IsOfRun};
-ghost use Rattle.reconform.specs.Adopt.{CanServe, LeavesDisks};
+ghost use Rattle.reconform.specs.Adopt.{CanServe, LeavesBoth};
 ghost use Rattle.reel_disk.specs.Disk.{view_of};
 ghost use Rattle.project_adopt.specs.Adopt.{IsAdoption, IsOfAdopt, IsOldSoundIn, IsPromised, IsRest, OnDisks};
 ghost use Rattle.project_adopt.specs.inside.Adopt.{Ends, IsJobOver};
@@ -39,20 +39,20 @@ pub(crate) fn adopt_jobs<S: Scans, D: Disk, H: Hasher>(
     hasher: &H,
 ) -> Result<Vec<u8>, Outcome>
     requires can_hash { H.can_hash }
-    requires infos { AreInfosOf job.now.parts (S.world scan.old) job.now.infos }
-    requires over { IsJobOver (S.world scan.old) job.now }
-    requires old_over { IsJobOver (S.world scan.old) old_job.now }
-    ensures went { Replies result (OnDisks D.tells D.history D.faults old.old old.new disk.old disk.new
-        (OverScan S.world S.loads scan.old scan.new (IsAdoption job.now old_job.now))) }
-    ensures promise { D.tells ≡ true → Ends result (OnDisk D.tells D.history D.faults disk.old disk.new
+    requires infos { AreInfosOf job.now.parts (S.state scan.old).world job.now.infos }
+    requires over { IsJobOver (S.state scan.old).world job.now }
+    requires old_over { IsJobOver (S.state scan.old).world old_job.now }
+    ensures went { Replies result (OnDisks D.tells (D.state old.old) (D.state old.new) (D.state disk.old) (D.state disk.new)
+        (OverScan (S.state scan.old) (S.state scan.new) (IsAdoption job.now old_job.now))) }
+    ensures promise { D.tells ≡ true → Ends result (OnDisk D.tells (D.state disk.old) (D.state disk.new)
         (IsPromised job.now None)) }
-    ensures sound { D.tells ≡ true → IsOldSoundIn (S.world scan.old) old_job.now (view_of (D.history old.old))
-        → Ends result (OnDisk D.tells D.history D.faults disk.old disk.new (IsPromised job.now (S.world scan.old))) }
+    ensures sound { D.tells ≡ true → IsOldSoundIn (S.state scan.old).world old_job.now (view_of (D.state old.old).history)
+        → Ends result (OnDisk D.tells (D.state disk.old) (D.state disk.new) (IsPromised job.now (S.state scan.old).world)) }
     ensures kind { MatchResult result (λ text. Unit {0}) IsOfAdopt }
 
-    ensures scan { LeavesScan S.world S.faults S.same (result ≡ Err Outcome.SourceFault) scan.old scan.new }
+    ensures scan { LeavesScan (result ≡ Err Outcome.SourceFault) (S.state scan.old) (S.state scan.new) }
 
-    ensures disks { LeavesDisks D.faults D.loans (result ≡ Err Outcome.DiskFault) old.old old.new disk.old disk.new }
+    ensures disks { LeavesBoth (result ≡ Err Outcome.DiskFault) (D.state old.old) (D.state old.new) (D.state disk.old) (D.state disk.new) }
 {
     adopt_and_run::<Brand, Brand, S, D, H>(alloc, job, old_job, scan, old, disk, hasher)
 }
@@ -71,18 +71,18 @@ fn adopt_and_run<N: Work, O: Work, S: Scans, D: Disk, H: Hasher>(
     requires job { job.now ≡ N.job }
     requires old_job { old_job.now ≡ O.job }
     requires one_world { O.files ≡ N.files }
-    requires files { Tells N.files (S.world scan.old) }
-    requires infos { AreInfosOf N.job.parts (S.world scan.old) N.job.infos }
-    requires can_serve { IfSome N.files (λ world. CanServe N.job O.job world D.tells (view_of (D.history old.old))) }
-    ensures went { Replies result (OnDisks D.tells D.history D.faults old.old old.new disk.old disk.new
-        (OverScan S.world S.loads scan.old scan.new (IsAdoption N.job O.job))) }
-    ensures promise { D.tells ≡ true → Ends result (OnDisk D.tells D.history D.faults disk.old disk.new
+    requires files { Tells N.files (S.state scan.old).world }
+    requires infos { AreInfosOf N.job.parts (S.state scan.old).world N.job.infos }
+    requires can_serve { IfSome N.files (λ world. CanServe N.job O.job world D.tells (view_of (D.state old.old).history)) }
+    ensures went { Replies result (OnDisks D.tells (D.state old.old) (D.state old.new) (D.state disk.old) (D.state disk.new)
+        (OverScan (S.state scan.old) (S.state scan.new) (IsAdoption N.job O.job))) }
+    ensures promise { D.tells ≡ true → Ends result (OnDisk D.tells (D.state disk.old) (D.state disk.new)
         (IsPromised N.job N.files)) }
     ensures kind { MatchResult result (λ text. Unit {0}) IsOfAdopt }
 
-    ensures scan { LeavesScan S.world S.faults S.same (result ≡ Err Outcome.SourceFault) scan.old scan.new }
+    ensures scan { LeavesScan (result ≡ Err Outcome.SourceFault) (S.state scan.old) (S.state scan.new) }
 
-    ensures disks { LeavesDisks D.faults D.loans (result ≡ Err Outcome.DiskFault) old.old old.new disk.old disk.new }
+    ensures disks { LeavesBoth (result ≡ Err Outcome.DiskFault) (D.state old.old) (D.state old.new) (D.state disk.old) (D.state disk.new) }
 {
     match reconform::adopt::<N, O, D, H>(alloc, job, old_job, old, disk, hasher) {
         Ok(done) => run_rest(alloc, job, done, scan, disk),
@@ -98,14 +98,14 @@ fn run_rest<S: Scans, D: Disk>(
     scan: &mut S,
     disk: &mut D,
 ) -> Result<Vec<u8>, Outcome>
-    requires infos { AreInfosOf job.now.parts (S.world scan.old) job.now.infos }
-    ensures ran { Replies result (OnDisk D.tells D.history D.faults disk.old disk.new
-        (OverScan S.world S.loads scan.old scan.new (IsRest job.now done))) }
+    requires infos { AreInfosOf job.now.parts (S.state scan.old).world job.now.infos }
+    ensures ran { Replies result (OnDisk D.tells (D.state disk.old) (D.state disk.new)
+        (OverScan (S.state scan.old) (S.state scan.new) (IsRest job.now done))) }
     ensures kind { MatchResult result (λ text. Unit {0}) IsOfRun }
 
-    ensures scan { LeavesScan S.world S.faults S.same (result ≡ Err Outcome.SourceFault) scan.old scan.new }
+    ensures scan { LeavesScan (result ≡ Err Outcome.SourceFault) (S.state scan.old) (S.state scan.new) }
 
-    ensures disk { LeavesDisk D.faults D.loans (result ≡ Err Outcome.DiskFault) disk.old disk.new }
+    ensures disk { LeavesDisk (result ≡ Err Outcome.DiskFault) (D.state disk.old) (D.state disk.new) }
 {
     let (end, report, _) = run_alone::<Brand, S, D>(alloc, job, scan, disk, SHARE, 0, job.count());
     reply_of(alloc, job, done, end, &report)

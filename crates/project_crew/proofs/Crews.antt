@@ -1,6 +1,7 @@
 -- From a crew to the reply of its command.
 use Rattle.std.proofs.Common.{◌≡◌, ℕ, zero, suc, ◌+◌, ◌<◌, ◌≤◌, min, List, [], ◌∷◌, All, AllPairs, ◌≢◌, set, length, get_or, Option, IfSome, Result, Ok, Err, MatchOption, true, refl, sym, ◌∙◌, ap, subst, arith, inl, inr}
 use Rattle.cf_base.specs.Count.{HasRisen}
+use Rattle.scan_source.specs.State.{ScanState}
 use Rattle.scan_source.specs.World.{World, file_at}
 use Rattle.conform_job.specs.Answers.{count_after}
 use Rattle.conform_job.specs.Job.{JobData}
@@ -24,7 +25,7 @@ use Rattle.project_job.specs.Jobs.{HasPlanned, IsOfJob, AreLoaded, cube_count}
 use Rattle.outcome_line.specs.declared.outcome.Outcome.{Outcome}
 use Rattle.outcome_line.specs.declared.outcome.Outcome.TheVariants as outcomes
 use Rattle.project_crew.specs.Crew.{HasFailed, HasFirstLoaded, IsJobRunByCrew, IsCrewReply, told_by}
-use Rattle.project_run.specs.Calls.{DiskState}
+use Rattle.project_run.specs.Calls.{FolderState}
 use Rattle.project_run.specs.Run.{ReportsEnd, report_text}
 
 -- an error is the same error of another result
@@ -34,14 +35,14 @@ same_error a b same = cc
 pub error_as : {A B : Type 0} (a b : Outcome) → ◌≡◌ {A = Result A Outcome} (Err a) (Err b) → ◌≡◌ {A = Result B Outcome} (Err a) (Err b)
 error_as a b same = ap Err (same_error a b same)
 
-module _ {S : Type 0} (world : S → Option World) (faults loads : S → ℕ) (same : S → S → Type 0) where
+module _ {S : Type 0} (state : S → ScanState) where
   -- a load that failed raised the count of its scan
-  pub has_failed : (workers all : ℕ) (Failed : Type 0) (old new : List S) → AreWorked world faults loads same workers all Failed old new → Failed → HasFailed faults old new
+  pub has_failed : (workers all : ℕ) (Failed : Type 0) (old new : List S) → AreWorked state workers all Failed old new → Failed → HasFailed state old new
   has_failed workers all Failed old new worked is =
       let at = worked.failed is in
       (at.0, at.1, λ scan. (worked.each at.0 scan at.1).failed at.2)
 
-  pub crew_job_run : (log : List ShareStep) (job : JobData) (extent : Extent) (range : FrameRange) (told : Option World) (workers share given count : ℕ) (old new : List S) (disk disk_after : DiskState) (how : RunEnd) (report : Report) (steps : Option (List Step)) → count ≡ length old → given ≡ share
+  pub crew_job_run : (log : List ShareStep) (job : JobData) (extent : Extent) (range : FrameRange) (told : Option World) (workers share given count : ℕ) (old new : List S) (disk disk_after : FolderState) (how : RunEnd) (report : Report) (steps : Option (List Step)) → count ≡ length old → given ≡ share
       → report.frames ≡ frames_of job
       → MatchOption steps (TookNoSteps job disk.tells disk.history disk_after.history how report log) (λ all. TookSteps job range.low range.high told (min workers count) given disk.tells disk.history disk_after.history all how report log)
       → (disk.tells ≡ true → IsReelRun job told disk.history disk_after.history)
@@ -50,10 +51,10 @@ module _ {S : Type 0} (world : S → Option World) (faults loads : S → ℕ) (s
       → ((world : World) (files : Files) → IsSoundReel job world files → HasFrameFiles job files)
       → (disk.tells ≡ true → Spares disk.history disk_after.history (IsOwnFileOf job range.low range.high (view_of disk.history)))
       → (disk.tells ≡ true → WritesOnly disk.history disk_after.history (MayWriteOf job range.low range.high (view_of disk.history)))
-      → AreWorked world faults loads same (min workers count) report.loads (how ≡ ends.SourceFault) old new
+      → AreWorked state (min workers count) report.loads (how ≡ ends.SourceFault) old new
       → (IsChange how → 1 ≤ report.loads)
       → (reached : Outcome) (output : List ℕ) → ReportsEnd job how (report_text extent range report) reached output
-      → IsJobRunByCrew world faults loads same job extent range told workers share old new disk disk_after reached output
+      → IsJobRunByCrew state job extent range told workers share old new disk disk_after reached output
   crew_job_run log job extent range told workers share given count old new disk disk_after how report steps all shared frames ran run acked whole sound_has spares writes scans changed reached output reply = record {
     how = how;
     report = report;
@@ -65,88 +66,88 @@ module _ {S : Type 0} (world : S → Option World) (faults loads : S → ℕ) (s
         subst (λ n. MatchOption steps (TookNoSteps job disk.tells disk.history disk_after.history how report log) (λ all. TookSteps job range.low range.high told (min workers n) share disk.tells disk.history disk_after.history all how report log)) all
         (subst (λ n. MatchOption steps (TookNoSteps job disk.tells disk.history disk_after.history how report log) (λ all. TookSteps job range.low range.high told (min workers count) n disk.tells disk.history disk_after.history all how report log)) shared ran);
     keeps = record { run = run; acked = acked; whole = whole; sound_has = sound_has; spares = spares; writes = writes };
-    scans = subst (λ n. AreWorked world faults loads same (min workers n) report.loads (how ≡ ends.SourceFault) old new) all scans;
+    scans = subst (λ n. AreWorked state (min workers n) report.loads (how ≡ ends.SourceFault) old new) all scans;
     changed = changed;
   }
 
   -- what the first scan tells, all tell
-  pub all_tell : (scans : List S) → AllPairs (λ a b. world a ≡ world b) scans → All (λ scan. world scan ≡ told_by world scans) scans
+  pub all_tell : (scans : List S) → AllPairs (λ a b. (state a).world ≡ (state b).world) scans → All (λ scan. (state scan).world ≡ told_by state scans) scans
   all_tell [] pairs k d lt = absurd (omega (arith, lt))
   all_tell (first ∷ scans) pairs zero d lt = refl
   all_tell (first ∷ scans) pairs (suc k) d lt = sym (pairs 0 (suc k) d (omega arith) lt)
 
   -- the first of some scans, which was used
   module _ (used : S) where
-    pub told_still : (scans : List S) (first : S) → 0 < length scans → get_or scans 0 first ≡ first → world used ≡ world first → told_by world (set scans 0 used) ≡ told_by world scans
+    pub told_still : (scans : List S) (first : S) → 0 < length scans → get_or scans 0 first ≡ first → (state used).world ≡ (state first).world → told_by state (set scans 0 used) ≡ told_by state scans
     told_still [] first some is told = absurd (omega (arith, some))
-    told_still (scan ∷ scans) first some is told = told ∙ ap world (sym is)
+    told_still (scan ∷ scans) first some is told = told ∙ ap (λ s. (state s).world) (sym is)
 
-    pub still_tell : (scans : List S) (first : S) → 0 < length scans → get_or scans 0 first ≡ first → world used ≡ world first
-        → All (λ scan. world scan ≡ told_by world scans) scans → All (λ scan. world scan ≡ told_by world (set scans 0 used)) (set scans 0 used)
+    pub still_tell : (scans : List S) (first : S) → 0 < length scans → get_or scans 0 first ≡ first → (state used).world ≡ (state first).world
+        → All (λ scan. (state scan).world ≡ told_by state scans) scans → All (λ scan. (state scan).world ≡ told_by state (set scans 0 used)) (set scans 0 used)
     still_tell [] first some is told all k d lt = absurd (omega (arith, some))
     still_tell (scan ∷ scans) first some is told all zero d lt = refl
-    still_tell (scan ∷ scans) first some is told all (suc k) d lt = all (suc k) d lt ∙ sym (told ∙ ap world (sym is))
+    still_tell (scan ∷ scans) first some is told all (suc k) d lt = all (suc k) d lt ∙ sym (told ∙ ap (λ s. (state s).world) (sym is))
 
-    pub first_loaded : (texts : ℕ) (scans : List S) (first : S) → 0 < length scans → get_or scans 0 first ≡ first → loads used ≡ count_after texts (loads first) → faults used ≡ faults first → world used ≡ world first → same first used
-        → HasFirstLoaded world faults loads same texts scans (set scans 0 used)
+    pub first_loaded : (texts : ℕ) (scans : List S) (first : S) → 0 < length scans → get_or scans 0 first ≡ first → (state used).loads ≡ count_after texts (state first).loads → (state used).faults ≡ (state first).faults → (state used).world ≡ (state first).world → (state used).loans ≡ (state first).loans
+        → HasFirstLoaded state texts scans (set scans 0 used)
     first_loaded texts [] first some is loaded steady told lent = absurd (omega (arith, some))
     first_loaded texts (scan ∷ scans) first some is loaded steady told lent = record {
       size = refl;
-      loaded = λ d. loaded ∙ ap (λ s. count_after texts (loads s)) (sym is);
-      steady = λ d. steady ∙ ap faults (sym is);
-      told = λ d. told ∙ ap world (sym is);
-      lent = λ d. subst (λ s. same s used) (sym is) lent;
+      loaded = λ d. loaded ∙ ap (λ s. count_after texts (state s).loads) (sym is);
+      steady = λ d. steady ∙ ap (λ s. (state s).faults) (sym is);
+      told = λ d. told ∙ ap (λ s. (state s).world) (sym is);
+      lent = λ d. subst (λ s. (state used).loans ≡ (state s).loans) (sym is) lent;
       others = refl;
     }
 
     -- a count that rose later rose over both
-    pub failed_before : (scans new : List S) (first : S) → 0 < length scans → get_or scans 0 first ≡ first → faults used ≡ faults first
-        → HasFailed faults (set scans 0 used) new → HasFailed faults scans new
+    pub failed_before : (scans new : List S) (first : S) → 0 < length scans → get_or scans 0 first ≡ first → (state used).faults ≡ (state first).faults
+        → HasFailed state (set scans 0 used) new → HasFailed state scans new
     failed_before [] new first some is steady failed = absurd (omega (arith, some))
     failed_before (scan ∷ scans) new first some is steady failed = by failed.0 failed.1 failed.2
       where
-        by : (k : ℕ) → k < length (used ∷ scans) → ((d : S) → HasRisen (faults (get_or (used ∷ scans) k d)) (faults (get_or new k d))) → HasFailed faults (scan ∷ scans) new
-        by zero lt rose = (zero, omega arith, λ d. subst (λ n. HasRisen n (faults (get_or new 0 d))) (steady ∙ ap faults (sym is)) (rose d))
+        by : (k : ℕ) → k < length (used ∷ scans) → ((d : S) → HasRisen (state (get_or (used ∷ scans) k d)).faults (state (get_or new k d)).faults) → HasFailed state (scan ∷ scans) new
+        by zero lt rose = (zero, omega arith, λ d. subst (λ n. HasRisen n (state (get_or new 0 d)).faults) (steady ∙ ap (λ s. (state s).faults) (sym is)) (rose d))
         by (suc k) lt rose = (suc k, lt, λ d. rose d)
 
-    pub failed_first : (scans : List S) (first : S) → 0 < length scans → get_or scans 0 first ≡ first → HasRisen (faults first) (faults used) → HasFailed faults scans (set scans 0 used)
+    pub failed_first : (scans : List S) (first : S) → 0 < length scans → get_or scans 0 first ≡ first → HasRisen (state first).faults (state used).faults → HasFailed state scans (set scans 0 used)
     failed_first [] first some is rose = absurd (omega (arith, some))
-    failed_first (scan ∷ scans) first some is rose = (0, omega arith, λ d. subst (λ n. HasRisen n (faults used)) (ap faults (sym is)) rose)
+    failed_first (scan ∷ scans) first some is rose = (0, omega arith, λ d. subst (λ n. HasRisen n (state used).faults) (ap (λ s. (state s).faults) (sym is)) rose)
 
-    pub uncrewed : {extent : Extent} (path : List ℕ) (workers share : ℕ) (scans : List S) (first : S) (disk : DiskState) (reached : Outcome) (output : List ℕ) → 0 < length scans → get_or scans 0 first ≡ first
-        → IfSome (world first) (λ files. HasPlanned (file_at files) path (Err reached)) → IsOfJob reached → AreLoaded 1 3 (loads first) (loads used)
-        → HasLoadedFor (world first) path (loads first) (loads used) reached → (reached ≢ outcomes.SourceFault → faults used ≡ faults first)
-        → faults first ≤ faults used → world used ≡ world first → same first used
-        → IsCrewReply world faults loads same path extent workers share scans (set scans 0 used) disk disk reached output
+    pub uncrewed : {extent : Extent} (path : List ℕ) (workers share : ℕ) (scans : List S) (first : S) (disk : FolderState) (reached : Outcome) (output : List ℕ) → 0 < length scans → get_or scans 0 first ≡ first
+        → IfSome (state first).world (λ files. HasPlanned (file_at files) path (Err reached)) → IsOfJob reached → AreLoaded 1 3 (state first).loads (state used).loads
+        → HasLoadedFor (state first).world path (state first).loads (state used).loads reached → (reached ≢ outcomes.SourceFault → (state used).faults ≡ (state first).faults)
+        → (state first).faults ≤ (state used).faults → (state used).world ≡ (state first).world → (state used).loans ≡ (state first).loans
+        → IsCrewReply state path extent workers share scans (set scans 0 used) disk disk reached output
     uncrewed path workers share [] first disk reached output some is why kind texts refused steady later told lent = absurd (omega (arith, some))
     uncrewed path workers share (scan ∷ scans) first disk reached output some is why kind texts refused steady later told lent = inr (record {
-      why = subst (λ s. IfSome (world s) (λ files. HasPlanned (file_at files) path (Err reached))) (sym is) why;
+      why = subst (λ s. IfSome (state s).world (λ files. HasPlanned (file_at files) path (Err reached))) (sym is) why;
       kind = kind;
       untouched = refl;
       size = refl;
-      texts = λ d. subst (λ s. AreLoaded 1 3 (loads s) (loads used)) (sym is) texts;
-      refused = λ d. subst (λ s. HasLoadedFor (world s) path (loads s) (loads used) reached) (sym is) refused;
-      steady = λ other d. steady other ∙ ap faults (sym is);
-      later = λ d. subst (λ s. faults s ≤ faults used) (sym is) later;
-      told = λ d. told ∙ ap world (sym is);
-      lent = λ d. subst (λ s. same s used) (sym is) lent;
+      texts = λ d. subst (λ s. AreLoaded 1 3 (state s).loads (state used).loads) (sym is) texts;
+      refused = λ d. subst (λ s. HasLoadedFor (state s).world path (state s).loads (state used).loads reached) (sym is) refused;
+      steady = λ other d. steady other ∙ ap (λ s. (state s).faults) (sym is);
+      later = λ d. subst (λ s. (state s).faults ≤ (state used).faults) (sym is) later;
+      told = λ d. told ∙ ap (λ s. (state s).world) (sym is);
+      lent = λ d. subst (λ s. (state used).loans ≡ (state s).loans) (sym is) lent;
       others = refl;
     })
 
-    pub crewed : (job : JobData) (extent : Extent) (range : FrameRange) (path : List ℕ) (workers share : ℕ) (scans new : List S) (first : S) (disk disk_after : DiskState) (reached : Outcome) (output : List ℕ) → range ≡ range_of extent (frames_of job) → 0 < length scans → get_or scans 0 first ≡ first
-        → IfSome (world first) (λ files. HasPlanned (file_at files) path (Ok job)) → world used ≡ world first
-        → HasFirstLoaded world faults loads same (2 + cube_count job.parts.project.cube) scans (set scans 0 used)
-        → IsJobRunByCrew world faults loads same job extent range (told_by world (set scans 0 used)) workers share (set scans 0 used) new disk disk_after reached output
-        → IsCrewReply world faults loads same path extent workers share scans new disk disk_after reached output
+    pub crewed : (job : JobData) (extent : Extent) (range : FrameRange) (path : List ℕ) (workers share : ℕ) (scans new : List S) (first : S) (disk disk_after : FolderState) (reached : Outcome) (output : List ℕ) → range ≡ range_of extent (frames_of job) → 0 < length scans → get_or scans 0 first ≡ first
+        → IfSome (state first).world (λ files. HasPlanned (file_at files) path (Ok job)) → (state used).world ≡ (state first).world
+        → HasFirstLoaded state (2 + cube_count job.parts.project.cube) scans (set scans 0 used)
+        → IsJobRunByCrew state job extent range (told_by state (set scans 0 used)) workers share (set scans 0 used) new disk disk_after reached output
+        → IsCrewReply state path extent workers share scans new disk disk_after reached output
     crewed job extent range path workers share scans new first disk disk_after reached output whole some is comes told texts ran = inl (record {
       job = job;
       comes = subst (λ o. IfSome o (λ files. HasPlanned (file_at files) path (Ok job))) (told_first scans some is) comes;
       planned = set scans 0 used;
       texts = texts;
-      ran = subst (λ (r : FrameRange). IsJobRunByCrew world faults loads same job extent r (told_by world scans) workers share (set scans 0 used) new disk disk_after reached output) whole
-          (subst (λ o. IsJobRunByCrew world faults loads same job extent range o workers share (set scans 0 used) new disk disk_after reached output) (told_still scans first some is told) ran);
+      ran = subst (λ (r : FrameRange). IsJobRunByCrew state job extent r (told_by state scans) workers share (set scans 0 used) new disk disk_after reached output) whole
+          (subst (λ o. IsJobRunByCrew state job extent range o workers share (set scans 0 used) new disk disk_after reached output) (told_still scans first some is told) ran);
     })
       where
-        told_first : (scans : List S) → 0 < length scans → get_or scans 0 first ≡ first → world first ≡ told_by world scans
+        told_first : (scans : List S) → 0 < length scans → get_or scans 0 first ≡ first → (state first).world ≡ told_by state scans
         told_first [] some is = absurd (omega (arith, some))
-        told_first (scan ∷ scans) some is = ap world (sym is)
+        told_first (scan ∷ scans) some is = ap (λ s. (state s).world) (sym is)

@@ -7,6 +7,7 @@
 --     IsUnplannedByCrew      it came to none, and the folder is as it was
 use Rattle.std.specs.Prelude.{◌≡◌, ◌≢◌, ◌⊎◌, ℕ, ◌+◌, ◌<◌, ◌≤◌, min, List, [], ◌∷◌, drop, length, slice_index_or, Option, None, IfSome, MatchOption, Ok, Err}
 use Rattle.cf_base.specs.Count.{HasRisen}
+use Rattle.scan_source.specs.State.{ScanState}
 use Rattle.scan_source.specs.World.{World, file_at}
 use Rattle.frame_share.specs.declared.step.ShareStep.{ShareStep}
 use Rattle.reel_writer.specs.Reel.{frames_of}
@@ -22,35 +23,35 @@ use Rattle.project_job.specs.Asked.{HasLoadedFor}
 use Rattle.project_job.specs.Jobs.{ComesTo, HasPlanned, IsOfJob, AreLoaded, cube_count}
 use Rattle.outcome_line.specs.declared.outcome.Outcome.{Outcome}
 use Rattle.outcome_line.specs.declared.outcome.Outcome.TheVariants as outcome
-use Rattle.project_run.specs.Calls.{DiskState}
+use Rattle.project_run.specs.Calls.{FolderState}
 use Rattle.frame_range.specs.Parts.{range_of}
 use Rattle.frame_range.specs.declared.range.Extent.{Extent}
 use Rattle.frame_range.specs.declared.range.FrameRange.{FrameRange}
 use Rattle.project_run.specs.Run.{IsSafeRun, ReportsEnd, report_text}
 
 -- what the first of some scans tells
-abbrev pub told_by : {S : Type 0} → (S → Option World) → List S → Option World
-told_by world [] = None
-told_by world (scan ∷ scans) = world scan
+abbrev pub told_by : {S : Type 0} → (S → ScanState) → List S → Option World
+told_by state [] = None
+told_by state (scan ∷ scans) = (state scan).world
 
 -- the count of one of the scans rose
-abbrev pub HasFailed : {S : Type 0} → (S → ℕ) → List S → List S → Type 0
-HasFailed faults old new = (k : ℕ) × (k < length old) × ((scan : _)
-    → HasRisen (faults (slice_index_or old k scan)) (faults (slice_index_or new k scan)))
+abbrev pub HasFailed : {S : Type 0} → (S → ScanState) → List S → List S → Type 0
+HasFailed state old new = (k : ℕ) × (k < length old) × ((scan : _)
+    → HasRisen (state (slice_index_or old k scan)).faults (state (slice_index_or new k scan)).faults)
 
-module _ {S : Type 0} (world : S → Option World) (faults loads : S → ℕ) (same : S → S → Type 0) where
+module _ {S : Type 0} (state : S → ScanState) where
   -- so many loads were made of the first scan, and none of them failed; the others are untouched
   pub record HasFirstLoaded (texts : ℕ) (old new : List S) : Type 0 where
     pub size : length new ≡ length old
-    pub loaded : (scan : S) → loads (slice_index_or new 0 scan) ≡ count_after texts (loads (slice_index_or old 0 scan))
-    pub steady : (scan : S) → faults (slice_index_or new 0 scan) ≡ faults (slice_index_or old 0 scan)
-    pub told : (scan : S) → world (slice_index_or new 0 scan) ≡ world (slice_index_or old 0 scan)
-    pub lent : (scan : S) → same (slice_index_or old 0 scan) (slice_index_or new 0 scan)
+    pub loaded : (scan : S) → (state (slice_index_or new 0 scan)).loads ≡ count_after texts (state (slice_index_or old 0 scan)).loads
+    pub steady : (scan : S) → (state (slice_index_or new 0 scan)).faults ≡ (state (slice_index_or old 0 scan)).faults
+    pub told : (scan : S) → (state (slice_index_or new 0 scan)).world ≡ (state (slice_index_or old 0 scan)).world
+    pub lent : (scan : S) → (state (slice_index_or new 0 scan)).loans ≡ (state (slice_index_or old 0 scan)).loans
     pub others : drop 1 new ≡ drop 1 old
 
   -- The job was run in the folder by a crew, over a range of its frames.
   pub record IsJobRunByCrew (job : JobData) (extent : Extent) (range : FrameRange) (told : Option World)
-      (workers share : ℕ) (old new : List S) (disk disk_after : DiskState) (reached : Outcome) (output : List ℕ) : Type 0 where
+      (workers share : ℕ) (old new : List S) (disk disk_after : FolderState) (reached : Outcome) (output : List ℕ) : Type 0 where
     pub how : RunEnd
     pub report : Report
     pub reply : ReportsEnd job how (report_text extent range report) reached output
@@ -64,36 +65,36 @@ module _ {S : Type 0} (world : S → Option World) (faults loads : S → ℕ) (s
         disk_after.history all how report log)
     pub keeps : IsSafeRun job range told how disk disk_after
     -- what was done with the scans: as many loads as were reported
-    pub scans : AreWorked world faults loads same (min workers (length old)) report.loads (how ≡ ends.SourceFault) old new
+    pub scans : AreWorked state (min workers (length old)) report.loads (how ≡ ends.SourceFault) old new
     pub changed : IsChange how → 1 ≤ report.loads
 
   -- The project came to this job, which a crew ran in the folder, as far as it was asked for.
   pub record RanItsJobByCrew (path : List ℕ) (extent : Extent) (workers share : ℕ) (old new : List S)
-      (disk disk_after : DiskState) (reached : Outcome) (output : List ℕ) : Type 0 where
+      (disk disk_after : FolderState) (reached : Outcome) (output : List ℕ) : Type 0 where
     pub job : JobData
-    pub comes : IfSome (told_by world old) (λ files. ComesTo (file_at files) path (Ok job.parts))
+    pub comes : IfSome (told_by state old) (λ files. ComesTo (file_at files) path (Ok job.parts))
     -- the scans when it was planned, with the first of them
     pub planned : List S
     pub texts : HasFirstLoaded (2 + cube_count job.parts.project.cube) old planned
-    pub ran : IsJobRunByCrew job extent (range_of extent (frames_of job)) (told_by world old) workers share
+    pub ran : IsJobRunByCrew job extent (range_of extent (frames_of job)) (told_by state old) workers share
         planned new disk disk_after reached output
 
   -- The project came to no job, the folder is as it was, and so are all scans but the first, which is handed back as it was lent.
-  pub record IsUnplannedByCrew (path : List ℕ) (old new : List S) (disk disk_after : DiskState) (reached : Outcome) : Type 0 where
-    pub why : IfSome (told_by world old) (λ files. HasPlanned (file_at files) path (Err reached))
+  pub record IsUnplannedByCrew (path : List ℕ) (old new : List S) (disk disk_after : FolderState) (reached : Outcome) : Type 0 where
+    pub why : IfSome (told_by state old) (λ files. HasPlanned (file_at files) path (Err reached))
     pub kind : IsOfJob reached
     pub untouched : disk_after ≡ disk
     pub size : length new ≡ length old
-    pub texts : (scan : S) → AreLoaded 1 3 (loads (slice_index_or old 0 scan)) (loads (slice_index_or new 0 scan))
+    pub texts : (scan : S) → AreLoaded 1 3 (state (slice_index_or old 0 scan)).loads (state (slice_index_or new 0 scan)).loads
     -- of a refused one the files up to the one that has the fault
-    pub refused : (scan : S) → HasLoadedFor (told_by world old) path (loads (slice_index_or old 0 scan))
-        (loads (slice_index_or new 0 scan)) reached
-    pub steady : reached ≢ outcome.SourceFault → (scan : S) → faults (slice_index_or new 0 scan) ≡ faults (slice_index_or old 0 scan)
-    pub later : (scan : S) → faults (slice_index_or old 0 scan) ≤ faults (slice_index_or new 0 scan)
-    pub told : (scan : S) → world (slice_index_or new 0 scan) ≡ world (slice_index_or old 0 scan)
-    pub lent : (scan : S) → same (slice_index_or old 0 scan) (slice_index_or new 0 scan)
+    pub refused : (scan : S) → HasLoadedFor (told_by state old) path (state (slice_index_or old 0 scan)).loads
+        (state (slice_index_or new 0 scan)).loads reached
+    pub steady : reached ≢ outcome.SourceFault → (scan : S) → (state (slice_index_or new 0 scan)).faults ≡ (state (slice_index_or old 0 scan)).faults
+    pub later : (scan : S) → (state (slice_index_or old 0 scan)).faults ≤ (state (slice_index_or new 0 scan)).faults
+    pub told : (scan : S) → (state (slice_index_or new 0 scan)).world ≡ (state (slice_index_or old 0 scan)).world
+    pub lent : (scan : S) → (state (slice_index_or new 0 scan)).loans ≡ (state (slice_index_or old 0 scan)).loans
     pub others : drop 1 new ≡ drop 1 old
 
-  abbrev pub IsCrewReply : List ℕ → Extent → ℕ → ℕ → List S → List S → DiskState → DiskState → Outcome → List ℕ → Type 0
+  abbrev pub IsCrewReply : List ℕ → Extent → ℕ → ℕ → List S → List S → FolderState → FolderState → Outcome → List ℕ → Type 0
   IsCrewReply path extent workers share old new disk disk_after reached output =
       RanItsJobByCrew path extent workers share old new disk disk_after reached output ⊎ IsUnplannedByCrew path old new disk disk_after reached

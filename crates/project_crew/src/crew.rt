@@ -48,21 +48,21 @@ pub fn run_crewed<S: Scans + Send, D: Disk + Send, R: Threads + Wait + Sync>(
     disk: D,
 ) -> CrewEnded<S, D>
     requires scans { (1 ≤ vec_len scans) × (vec_len scans ≤ 16) }
-    requires one_world { AllPairs (λ a b. S.world a ≡ S.world b) scans.items }
+    requires one_world { AllPairs (λ a b. (S.state a).world ≡ (S.state b).world) scans.items }
     requires extent { IsExtent extent }
     requires workers { (1 ≤ workers) × (workers ≤ 16) }
     requires share { IsShareCount share }
-    requires no_fault { D.faults disk ≡ 0 }
-    requires first_moment { D.tells ≡ true → (D.history disk).now ≡ 0 }
-    ensures reply { Replies result.result (OnDisk D.tells D.history D.faults disk result.disk
-        (IsCrewReply S.world S.faults S.loads S.same path.now extent workers share scans.items result.scans.items)) }
+    requires no_fault { (D.state disk).faults ≡ 0 }
+    requires first_moment { D.tells ≡ true → (D.state disk).history.now ≡ 0 }
+    ensures reply { Replies result.result (OnDisk D.tells (D.state disk) (D.state result.disk)
+        (IsCrewReply S.state path.now extent workers share scans.items result.scans.items)) }
     ensures kind { MatchResult result.result (λ text. Unit {0}) IsOfRun }
     ensures handed_back { vec_len result.scans ≡ vec_len scans }
 
-    ensures failed { result.result ≡ Err Outcome.SourceFault → HasFailed S.faults scans.items result.scans.items }
-    ensures disk_fault { result.result ≡ Err Outcome.DiskFault → HasRisen (D.faults disk) (D.faults result.disk) }
-    ensures disk_later { D.faults disk ≤ D.faults result.disk }
-    ensures disk_same { D.loans result.disk ≡ D.loans disk }
+    ensures failed { result.result ≡ Err Outcome.SourceFault → HasFailed S.state scans.items result.scans.items }
+    ensures disk_fault { result.result ≡ Err Outcome.DiskFault → HasRisen (D.state disk).faults (D.state result.disk).faults }
+    ensures disk_later { (D.state disk).faults ≤ (D.state result.disk).faults }
+    ensures disk_same { (D.state result.disk).loans ≡ (D.state disk).loans }
     ensures untouched { IfErr result.result (IsLeftAlone disk result.disk) }
 {
     let job = match planned(alloc, path, &mut scans[0]) {
@@ -96,22 +96,22 @@ fn run_job<S: Scans + Send, D: Disk + Send, R: Threads + Wait + Sync>(
 ) -> CrewEnded<S, D>
     requires range { (range.low ≤ range.high) × (range.high ≤ frames_of job.now) }
     requires scans { (1 ≤ vec_len scans) × (vec_len scans ≤ 16) }
-    requires one_world { All (λ scan. S.world scan ≡ told_by S.world scans.items) scans.items }
+    requires one_world { All (λ scan. (S.state scan).world ≡ told_by S.state scans.items) scans.items }
     requires workers { (1 ≤ workers) × (workers ≤ 16) }
     requires share { IsShareCount share }
-    requires infos { AreInfosOf job.now.parts (told_by S.world scans.items) job.now.infos }
-    requires no_fault { D.faults disk ≡ 0 }
-    requires first_moment { D.tells ≡ true → (D.history disk).now ≡ 0 }
-    ensures ran { Replies result.result (OnDisk D.tells D.history D.faults disk result.disk
-        (IsJobRunByCrew S.world S.faults S.loads S.same job.now extent range (told_by S.world scans.items)
+    requires infos { AreInfosOf job.now.parts (told_by S.state scans.items) job.now.infos }
+    requires no_fault { (D.state disk).faults ≡ 0 }
+    requires first_moment { D.tells ≡ true → (D.state disk).history.now ≡ 0 }
+    ensures ran { Replies result.result (OnDisk D.tells (D.state disk) (D.state result.disk)
+        (IsJobRunByCrew S.state job.now extent range (told_by S.state scans.items)
         workers share scans.items result.scans.items)) }
     ensures kind { MatchResult result.result (λ text. Unit {0}) IsOfRun }
     ensures handed_back { vec_len result.scans ≡ vec_len scans }
 
-    ensures failed { result.result ≡ Err Outcome.SourceFault → HasFailed S.faults scans.items result.scans.items }
-    ensures disk_fault { result.result ≡ Err Outcome.DiskFault → HasRisen (D.faults disk) (D.faults result.disk) }
-    ensures disk_later { D.faults disk ≤ D.faults result.disk }
-    ensures disk_same { D.loans result.disk ≡ D.loans disk }
+    ensures failed { result.result ≡ Err Outcome.SourceFault → HasFailed S.state scans.items result.scans.items }
+    ensures disk_fault { result.result ≡ Err Outcome.DiskFault → HasRisen (D.state disk).faults (D.state result.disk).faults }
+    ensures disk_later { (D.state disk).faults ≤ (D.state result.disk).faults }
+    ensures disk_same { (D.state result.disk).loans ≡ (D.state disk).loans }
 {
     job.recall();
     let Crew {

@@ -2,7 +2,7 @@
 ghost use Rattle.std.specs.Prelude.{◌≡◌, min, length, Err, IfSome, IfOk, IfErr};
 ghost use Rattle.scan_source.specs.Plan.{one_more};
 ghost use Rattle.scan_source.specs.World.{file_at};
-ghost use Rattle.scan_source.specs.Leaves.{LeavesScan};
+ghost use Rattle.scan_source.specs.State.{LeavesScan};
 ghost use Rattle.project_job.specs.Load.{IsLoadOf, IsOfLoad};
 
 use cf_base::PathText;
@@ -27,13 +27,13 @@ pub fn load<S: Scans>(
     absent: Which,
     scan: &mut S,
 ) -> Result<Front, Outcome>
-    ensures told { IfSome (S.world scan.old) (λ world. IsLoadOf absent most (file_at world path.now) result) }
+    ensures told { IfSome (S.state scan.old).world (λ world. IsLoadOf absent most (file_at world path.now) result) }
     ensures fills { IfOk result (λ front. length front.bytes.items ≡ min front.len most) }
     ensures kind { IfErr result (IsOfLoad absent) }
 
-    ensures scan { LeavesScan S.world S.faults S.same (result ≡ Err Outcome.SourceFault) scan.old scan.new }
-    ensures loads { S.loads scan.new ≡ one_more (S.loads scan.old) }
-    ensures heads { S.heads scan.new ≡ S.heads scan.old }
+    ensures scan { LeavesScan (result ≡ Err Outcome.SourceFault) (S.state scan.old) (S.state scan.new) }
+    ensures loads { (S.state scan.new).loads ≡ one_more (S.state scan.old).loads }
+    ensures heads { (S.state scan.new).heads ≡ (S.state scan.old).heads }
 {
     let mut bytes = Vec::new(alloc);
     match scan.load(path, most, &mut bytes) {

@@ -13,7 +13,7 @@ ghost use Rattle.project_job.specs.Asked.{HasInspectedFor, HasLoadedFor};
 ghost use Rattle.project_job.specs.inside.Asked.{ComesBehind, HasLoadedBehind, IsOfTexts};
 ghost use Rattle.project_job.specs.Jobs.{list_in, cube_in, look_in, look_of_text, parts_of, HasPlanned, unless_refused, IsOfJob, cube_count, AreCounted, AreLoaded};
 ghost use Rattle.project_job.specs.inside.Jobs.{itself, list_and_text, look_and_text, outcome_of_fault, Reaches, MeansFile};
-ghost use Rattle.scan_source.specs.Leaves.{LeavesScan};
+ghost use Rattle.scan_source.specs.State.{LeavesScan};
 ghost use Rattle.outcome_line.specs.declared.outcome.Refused.TheVariants as refused;
 
 use crate::loads::load;
@@ -61,18 +61,20 @@ struct LookText {
 
 /// The job of the project at a path, or what was reached in its place.
 pub fn planned<S: Scans>(alloc: Global, path: &PathText, scan: &mut S) -> Result<Job, Outcome>
-    ensures told { IfSome (S.world scan.old) (λ world. HasPlanned (file_at world) path.now result) }
+    ensures told { IfSome (S.state scan.old).world (λ world. HasPlanned (file_at world) path.now result) }
     ensures kind { IfErr result IsOfJob }
-    ensures job { IfOk result (λ job. Grows job.parts (S.world scan.old) (asks_of job.parts.timeline) [] job.infos) }
+    ensures job { IfOk result (λ job. Grows job.parts (S.state scan.old).world (asks_of job.parts.timeline) [] job.infos) }
     ensures once { IfOk result (λ job. HasEachOnce job.infos) }
-    ensures heads { IfOk result (λ job. HeadsGrow (S.heads scan.old) (S.heads scan.new) 0 (length job.infos)) }
+    ensures heads { IfOk result (λ job. HeadsGrow (S.state scan.old).heads (S.state scan.new).heads 0 (length job.infos)) }
     ensures counted { IfOk result (λ job. AreCounted job.parts.project.rate job.parts.reels) }
 
-    ensures scan { LeavesScan S.world S.faults S.same (result ≡ Err Outcome.SourceFault) scan.old scan.new }
-    ensures loads { AreLoaded 1 3 (S.loads scan.old) (S.loads scan.new) }
-    ensures refused { IfErr result (HasLoadedFor (S.world scan.old) path.now (S.loads scan.old) (S.loads scan.new)) }
-    ensures refused_heads { IfErr result (HasInspectedFor (S.world scan.old) path.now (S.heads scan.old) (S.heads scan.new)) }
-    ensures loaded { IfOk result (λ job. S.loads scan.new ≡ count_after (2 + cube_count job.parts.project.cube) (S.loads scan.old)) }
+    ensures scan { LeavesScan (result ≡ Err Outcome.SourceFault) (S.state scan.old) (S.state scan.new) }
+    ensures loads { AreLoaded 1 3 (S.state scan.old).loads (S.state scan.new).loads }
+    ensures refused { IfErr result (HasLoadedFor (S.state scan.old).world path.now (S.state scan.old).loads (S.state scan.new).loads) }
+    ensures refused_heads { IfErr result
+        (HasInspectedFor (S.state scan.old).world path.now (S.state scan.old).heads (S.state scan.new).heads) }
+    ensures loaded { IfOk result
+        (λ job. (S.state scan.new).loads ≡ count_after (2 + cube_count job.parts.project.cube) (S.state scan.old).loads) }
 {
     let ProjectText { text, project } = match project_in(alloc, path, scan) {
         Ok(read) => read,
@@ -105,15 +107,15 @@ fn project_in<S: Scans>(
     path: &PathText,
     scan: &mut S,
 ) -> Result<ProjectText, Outcome>
-    ensures told { IfSome (S.world scan.old) (λ world. MeansFile (file_at world path.now) result) }
+    ensures told { IfSome (S.state scan.old).world (λ world. MeansFile (file_at world path.now) result) }
     ensures kind { IfErr result IsOfJob }
     ensures stage { IfErr result (ComesBehind 1) }
     ensures range { IfOk result (λ read. IsInRange read.project) }
     ensures counted { IfOk result (λ read. AreCounted read.project.rate read.project.reels) }
 
-    ensures scan { LeavesScan S.world S.faults S.same (result ≡ Err Outcome.SourceFault) scan.old scan.new }
-    ensures loads { S.loads scan.new ≡ count_after 1 (S.loads scan.old) }
-    ensures heads { S.heads scan.new ≡ S.heads scan.old }
+    ensures scan { LeavesScan (result ≡ Err Outcome.SourceFault) (S.state scan.old) (S.state scan.new) }
+    ensures loads { (S.state scan.new).loads ≡ count_after 1 (S.state scan.old).loads }
+    ensures heads { (S.state scan.new).heads ≡ (S.state scan.old).heads }
 {
     let front = match load(alloc, path, MOST_PROJECT, Which::Project, scan) {
         Ok(front) => front,
@@ -137,17 +139,18 @@ fn parts_of<S: Scans>(
     scan: &mut S,
 ) -> Result<JobParts, Outcome>
     requires { IsInRange project }
-    ensures told { IfSome (S.world scan.old) (λ world. Reaches itself result (parts_of (file_at world) text.now project)) }
+    ensures told { IfSome (S.state scan.old).world (λ world. Reaches itself result (parts_of (file_at world) text.now project)) }
     ensures kind { IfErr result IsOfJob }
     ensures planned { IfOk result ArePlanned }
     ensures project { IfOk result (λ parts. parts.project ≡ project) }
 
-    ensures scan { LeavesScan S.world S.faults S.same (result ≡ Err Outcome.SourceFault) scan.old scan.new }
-    ensures loads { AreLoaded 0 2 (S.loads scan.old) (S.loads scan.new) }
-    ensures refused { IfErr result (HasLoadedBehind project.cube (S.loads scan.old) (S.loads scan.new)) }
+    ensures scan { LeavesScan (result ≡ Err Outcome.SourceFault) (S.state scan.old) (S.state scan.new) }
+    ensures loads { AreLoaded 0 2 (S.state scan.old).loads (S.state scan.new).loads }
+    ensures refused { IfErr result (HasLoadedBehind project.cube (S.state scan.old).loads (S.state scan.new).loads) }
     ensures texts { IfErr result IsOfTexts }
-    ensures loaded { IfOk result (λ parts. S.loads scan.new ≡ count_after (1 + cube_count parts.project.cube) (S.loads scan.old)) }
-    ensures heads { S.heads scan.new ≡ S.heads scan.old }
+    ensures loaded { IfOk result
+        (λ parts. (S.state scan.new).loads ≡ count_after (1 + cube_count parts.project.cube) (S.state scan.old).loads) }
+    ensures heads { (S.state scan.new).heads ≡ (S.state scan.old).heads }
 {
     let reels = match reels_of(alloc, &project) {
         Ok(reels) => reels,
@@ -200,14 +203,14 @@ fn list_in<S: Scans>(
     path: &PathText,
     scan: &mut S,
 ) -> Result<ListText, Outcome>
-    ensures told { IfSome (S.world scan.old) (λ world. Reaches list_and_text result (list_in rate (file_at world path.now))) }
+    ensures told { IfSome (S.state scan.old).world (λ world. Reaches list_and_text result (list_in rate (file_at world path.now))) }
     ensures kind { IfErr result IsOfJob }
     ensures stage { IfErr result (ComesBehind 2) }
     ensures made { IfOk result (λ read. IsWellMade rate read.list.mode read.list.events) }
 
-    ensures scan { LeavesScan S.world S.faults S.same (result ≡ Err Outcome.SourceFault) scan.old scan.new }
-    ensures loads { S.loads scan.new ≡ count_after 1 (S.loads scan.old) }
-    ensures heads { S.heads scan.new ≡ S.heads scan.old }
+    ensures scan { LeavesScan (result ≡ Err Outcome.SourceFault) (S.state scan.old) (S.state scan.new) }
+    ensures loads { (S.state scan.new).loads ≡ count_after 1 (S.state scan.old).loads }
+    ensures heads { (S.state scan.new).heads ≡ (S.state scan.old).heads }
 {
     let front = match load(alloc, path, MOST_LIST, Which::List, scan) {
         Ok(front) => front,
@@ -245,14 +248,14 @@ fn look_in<S: Scans>(
     named: &Option<PathText>,
     scan: &mut S,
 ) -> Result<LookText, Outcome>
-    ensures told { IfSome (S.world scan.old) (λ world. Reaches look_and_text result (look_in (file_at world) named.now)) }
+    ensures told { IfSome (S.state scan.old).world (λ world. Reaches look_and_text result (look_in (file_at world) named.now)) }
     ensures kind { IfErr result IsOfJob }
     ensures stage { IfErr result (ComesBehind 3) }
     ensures named { IfErr result (λ _. cube_count named.now ≡ 1) }
 
-    ensures scan { LeavesScan S.world S.faults S.same (result ≡ Err Outcome.SourceFault) scan.old scan.new }
-    ensures loads { S.loads scan.new ≡ count_after (cube_count named.now) (S.loads scan.old) }
-    ensures heads { S.heads scan.new ≡ S.heads scan.old }
+    ensures scan { LeavesScan (result ≡ Err Outcome.SourceFault) (S.state scan.old) (S.state scan.new) }
+    ensures loads { (S.state scan.new).loads ≡ count_after (cube_count named.now) (S.state scan.old).loads }
+    ensures heads { (S.state scan.new).heads ≡ (S.state scan.old).heads }
 {
     match named {
         Some(path) => cube_in(alloc, path, scan),
@@ -265,13 +268,13 @@ fn look_in<S: Scans>(
 
 /// The look of the cube at a path.
 fn cube_in<S: Scans>(alloc: Global, path: &PathText, scan: &mut S) -> Result<LookText, Outcome>
-    ensures told { IfSome (S.world scan.old) (λ world. Reaches look_and_text result (cube_in (file_at world path.now))) }
+    ensures told { IfSome (S.state scan.old).world (λ world. Reaches look_and_text result (cube_in (file_at world path.now))) }
     ensures kind { IfErr result IsOfJob }
     ensures stage { IfErr result (ComesBehind 3) }
 
-    ensures scan { LeavesScan S.world S.faults S.same (result ≡ Err Outcome.SourceFault) scan.old scan.new }
-    ensures loads { S.loads scan.new ≡ count_after 1 (S.loads scan.old) }
-    ensures heads { S.heads scan.new ≡ S.heads scan.old }
+    ensures scan { LeavesScan (result ≡ Err Outcome.SourceFault) (S.state scan.old) (S.state scan.new) }
+    ensures loads { (S.state scan.new).loads ≡ count_after 1 (S.state scan.old).loads }
+    ensures heads { (S.state scan.new).heads ≡ (S.state scan.old).heads }
 {
     let front = match load(alloc, path, MOST_CUBE, Which::Cube, scan) {
         Ok(front) => front,

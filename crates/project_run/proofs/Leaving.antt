@@ -2,11 +2,10 @@
 use Rattle.std.proofs.Common.{◌≡◌, ◌≢◌, ℕ, List, Vec, Global, Option, Result, Ok, Err, IfErr, MatchResult, refl, sym, subst, arith, inl, inr}
 use Rattle.std.specs.Prelude.{◌⊎◌}
 use Rattle.cf_base.specs.declared.reel.ReelEntry.{ReelEntry}
-use Rattle.scan_source.specs.Leaves.{LeavesScan}
+use Rattle.scan_source.specs.State.{LeavesScan, ScanState}
 use Rattle.scan_source.specs.World.{World}
 use Rattle.scan_source.proofs.Leaving.{leaves_as, leaves_done}
 use Rattle.conform_job.specs.Job.{JobData}
-use Rattle.reel_disk.specs.Loan.{Loan}
 use Rattle.resume_ledger.specs.Look.{ViewState}
 use Rattle.resume_ledger.specs.declared.attach.OpenFault.{OpenFault}
 use Rattle.resume_ledger.specs.declared.attach.OpenFault.TheVariants as faults
@@ -21,8 +20,8 @@ use Rattle.project_job.specs.Asked.{HasInspectedFor}
 use Rattle.project_job.specs.Jobs.{IsOfJob}
 use Rattle.project_run.specs.Look.{HasFound, IsBehindLook, outcome_of_fault}
 use Rattle.project_run.specs.Quality.{IsTabled}
-use Rattle.project_run.specs.Calls.{DiskState, IsLeftAlone, IsRefusal, LeavesDiskFor, LeavesScanFor}
-use Rattle.reel_writer.specs.Leaves.{LeavesDisk}
+use Rattle.project_run.specs.Calls.{FolderState, IsLeftAlone, IsRefusal, LeavesDiskFor, LeavesScanFor}
+use Rattle.reel_disk.specs.State.{DiskState, LeavesDisk}
 use Rattle.frame_range.specs.declared.range.Extent.{Extent}
 use Rattle.frame_range.specs.declared.range.FrameRange.{FrameRange}
 use Rattle.project_run.specs.Run.{IsJobRun, outcome_of_end}
@@ -82,15 +81,15 @@ behind outcomes.NoMemory kind refused = refused
 pub end_unrefused : (entries : List ReelEntry) (how : RunEnd) (reached : Outcome) → (reached ≡ outcome_of_end entries how) ⊎ (reached ≡ outcomes.NoMemory) → IsRefusal reached → ⊥
 end_unrefused entries how reached is = neither reached (outcome_of_end entries how) outcomes.NoMemory (no_end entries how) (λ no. no) is
 
-pub run_unrefused : {extent : Extent} {range : FrameRange} {share : ℕ} (job : JobData) (told : Option World) (disk disk_after : DiskState) (loads loads_after : ℕ) (reached : Outcome) (output : List ℕ)
+pub run_unrefused : {extent : Extent} {range : FrameRange} {share : ℕ} (job : JobData) (told : Option World) (disk disk_after : FolderState) (loads loads_after : ℕ) (reached : Outcome) (output : List ℕ)
     → IsJobRun job extent range share told loads loads_after disk disk_after reached output → IsRefusal reached → ⊥
 run_unrefused job told disk disk_after loads loads_after reached output ran = end_unrefused job.parts.reels ran.how reached ran.reply.reached_is
 
-pub status_unrefused : (job : JobData) (disk disk_after : DiskState) (reached : Outcome) (output : List ℕ) → IsStatus job disk disk_after reached output → IsRefusal reached → ⊥
+pub status_unrefused : (job : JobData) (disk disk_after : FolderState) (reached : Outcome) (output : List ℕ) → IsStatus job disk disk_after reached output → IsRefusal reached → ⊥
 status_unrefused job disk disk_after reached output status =
     neither reached (outcome_of_peek status.answer) outcomes.NoMemory (no_peek status.answer) (λ no. no) status.reached_is
 
-found_unrefused : (job : JobData) (disk disk_after : DiskState) (reached : Outcome) (Found : ViewState → Type 0) → ((view : ViewState) → Found view → IsRefusal reached → ⊥)
+found_unrefused : (job : JobData) (disk disk_after : FolderState) (reached : Outcome) (Found : ViewState → Type 0) → ((view : ViewState) → Found view → IsRefusal reached → ⊥)
     → HasFound job disk disk_after reached Found → IsRefusal reached → ⊥
 found_unrefused job disk disk_after reached Found each has = by has.ledger has.found
   where
@@ -98,19 +97,19 @@ found_unrefused job disk disk_after reached Found each has = by has.ledger has.f
     by (Ok view) found = each view found
     by (Err fault) is = neither reached (outcome_of_fault fault) outcomes.NoMemory (no_fault fault) (λ no. no) is
 
-pub sums_unrefused : (job : JobData) (disk disk_after : DiskState) (reached : Outcome) (output : List ℕ) → IsSummed job disk disk_after reached output → IsRefusal reached → ⊥
+pub sums_unrefused : (job : JobData) (disk disk_after : FolderState) (reached : Outcome) (output : List ℕ) → IsSummed job disk disk_after reached output → IsRefusal reached → ⊥
 sums_unrefused job disk disk_after reached output summed = found_unrefused job disk disk_after reached _
     (λ view sums. neither reached outcomes.Done outcomes.NoMemory (λ no. no) (λ no. no) sums.kind) summed.seen
 
-pub check_unrefused : (job : JobData) (disk disk_after : DiskState) (reached : Outcome) (output : List ℕ) → IsVerified job disk disk_after reached output → IsRefusal reached → ⊥
+pub check_unrefused : (job : JobData) (disk disk_after : FolderState) (reached : Outcome) (output : List ℕ) → IsVerified job disk disk_after reached output → IsRefusal reached → ⊥
 check_unrefused job disk disk_after reached output verified = found_unrefused job disk disk_after reached _
     (λ view checked. neither reached (outcome_of_check checked.answer) outcomes.NoMemory (no_check checked.answer) (λ no. no) checked.reached_is) verified.seen
 
-pub table_unrefused : (kinds : List ProbeKind) (job : JobData) (disk disk_after : DiskState) (reached : Outcome) (output : List ℕ) → IsTabled kinds job disk disk_after reached output
+pub table_unrefused : (kinds : List ProbeKind) (job : JobData) (disk disk_after : FolderState) (reached : Outcome) (output : List ℕ) → IsTabled kinds job disk disk_after reached output
     → IsRefusal reached → ⊥
 table_unrefused kinds job disk disk_after reached output tabled = found_unrefused job disk disk_after reached _ (λ view counted. behind reached counted.kind) tabled.seen
 
-pub sheet_unrefused : (tone : List ℕ) (job : JobData) (disk disk_after : DiskState) (reached : Outcome) (output : List ℕ) → HasSheet tone job disk disk_after reached output
+pub sheet_unrefused : (tone : List ℕ) (job : JobData) (disk disk_after : FolderState) (reached : Outcome) (output : List ℕ) → HasSheet tone job disk disk_after reached output
     → IsRefusal reached → ⊥
 sheet_unrefused tone job disk disk_after reached output made = found_unrefused job disk disk_after reached _ (λ view sheeted. behind reached sheeted.kind) made.seen
 
@@ -128,31 +127,31 @@ asked_by (Err reached) P Q told path before after is none = λ refusal same. abs
 
 -- ---- what is left of the scan and of the disk
 
-module _ {S : Type 0} (world : S → Option World) (faults heads : S → ℕ) (same : S → S → Type 0) (path : List ℕ) (before after : S) where
+module _ (path : List ℕ) (before after : ScanState) where
   pub scan_left : (result : Result (Vec ℕ Global) Outcome) (P : Vec ℕ Global → Type 0) (Q : Outcome → Type 0)
-      → LeavesScan world faults same (result ≡ Err outcomes.SourceFault) before after
-      → MatchResult result P Q → ((reached : Outcome) → Q reached → IsRefusal reached → ⊥) → LeavesScanFor world faults heads same path result before after
-  scan_left result P Q lent is none = record { lent = lent; refused_heads = asked_by result P Q (world before) path (heads before) (heads after) is none }
+      → LeavesScan (result ≡ Err outcomes.SourceFault) before after
+      → MatchResult result P Q → ((reached : Outcome) → Q reached → IsRefusal reached → ⊥) → LeavesScanFor path result before after
+  scan_left result P Q lent is none = record { lent = lent; refused_heads = asked_by result P Q before.world path before.heads after.heads is none }
 
   -- a look at the folder behind the plan makes no call on the scan
   pub scan_looked : {J : Type 0} (job : J) (result : Result (Vec ℕ Global) Outcome) (P : Vec ℕ Global → Type 0) (Q : Outcome → Type 0)
-      → LeavesScan world faults same (◌≡◌ {A = Result J Outcome} (Ok job) (Err outcomes.SourceFault)) before after → result ≢ Err outcomes.SourceFault
-      → MatchResult result P Q → ((reached : Outcome) → Q reached → IsRefusal reached → ⊥) → LeavesScanFor world faults heads same path result before after
-  scan_looked job result P Q planned never is none = scan_left result P Q (leaves_done world faults same before after (λ is. cc) never planned) is none
+      → LeavesScan (◌≡◌ {A = Result J Outcome} (Ok job) (Err outcomes.SourceFault)) before after → result ≢ Err outcomes.SourceFault
+      → MatchResult result P Q → ((reached : Outcome) → Q reached → IsRefusal reached → ⊥) → LeavesScanFor path result before after
+  scan_looked job result P Q planned never is none = scan_left result P Q (leaves_done (λ is. cc) never planned) is none
 
   -- no job was planned
-  pub scan_unplanned : {J : Type 0} (reached : Outcome) → LeavesScan world faults same (◌≡◌ {A = Result J Outcome} (Err reached) (Err outcomes.SourceFault)) before after
-      → HasInspectedFor (world before) path (heads before) (heads after) reached → LeavesScanFor world faults heads same path (Err reached) before after
-  scan_unplanned reached planned asked = record { lent = leaves_as world faults same before after (λ is. cc) (λ is. cc) planned; refused_heads = asked }
+  pub scan_unplanned : {J : Type 0} (reached : Outcome) → LeavesScan (◌≡◌ {A = Result J Outcome} (Err reached) (Err outcomes.SourceFault)) before after
+      → HasInspectedFor before.world path before.heads after.heads reached → LeavesScanFor path (Err reached) before after
+  scan_unplanned reached planned asked = record { lent = leaves_as (λ is. cc) (λ is. cc) planned; refused_heads = asked }
 
-module _ {D : Type 0} (faults : D → ℕ) (loans : D → List Loan) where
+module _ {D : Type 0} (state : D → DiskState) where
   pub disk_left : (result : Result (Vec ℕ Global) Outcome) (P : Vec ℕ Global → Type 0) (Q : Outcome → Type 0) (before after : D)
-      → LeavesDisk faults loans (result ≡ Err outcomes.DiskFault) before after
-      → MatchResult result P Q → ((reached : Outcome) → Q reached → IsRefusal reached → ⊥) → LeavesDiskFor faults loans result before after
+      → LeavesDisk (result ≡ Err outcomes.DiskFault) (state before) (state after)
+      → MatchResult result P Q → ((reached : Outcome) → Q reached → IsRefusal reached → ⊥) → LeavesDiskFor state result before after
   disk_left result P Q before after lent is none = record { lent = lent; untouched = left_by result P Q before after is none }
 
   -- no job was planned, and no call was made
-  pub disk_unplanned : (reached : Outcome) (disk : D) → IsOfJob reached → LeavesDiskFor faults loans (Err reached) disk disk
+  pub disk_unplanned : (reached : Outcome) (disk : D) → IsOfJob reached → LeavesDiskFor state (Err reached) disk disk
   disk_unplanned reached disk kind = record {
     lent = record {
       counts = record {

@@ -22,13 +22,13 @@ use Rattle.reel_qc.specs.Sheet.{sheet_file, sheet_peak, cell_frames}
 use Rattle.outcome_line.specs.declared.outcome.Outcome.{Outcome}
 use Rattle.project_run.specs.Look.{HasFound, HasSeen, outcome_of_fault}
 use Rattle.project_run.specs.Quality.{IsCounted, IsTabled}
-use Rattle.project_run.specs.Calls.{DiskState}
+use Rattle.project_run.specs.Calls.{FolderState}
 use Rattle.project_run.specs.Sheet.{HasSheet, IsSheeted, sheet_text}
 use Rattle.project_run.specs.Sums.{AreSums, IsSummed}
 use Rattle.project_run.specs.Verify.{IsChecked, IsVerified}
 
 -- what was found of the view of a look
-abbrev found_by : (Found : ViewState → Type 0) (job : JobData) (disk after : DiskState) (view : ViewState) (digest : List ℕ) (count : ℕ) → digest ≡ job.parts.digest → count ≡ frames_of job
+abbrev found_by : (Found : ViewState → Type 0) (job : JobData) (disk after : FolderState) (view : ViewState) (digest : List ℕ) (count : ℕ) → digest ≡ job.parts.digest → count ≡ frames_of job
     → (disk.tells ≡ true → IsViewOf digest count (view_of disk.history) view) → length view.gates ≡ count
     → (reached : Outcome) → Found view → HasFound job disk after reached Found
 found_by Found job disk after view digest count digest_is count_is shown size reached found = record {
@@ -38,7 +38,7 @@ found_by Found job disk after view digest count digest_is count_is shown size re
   found = found;
 }
 
-seen_by : (Found : ViewState → Type 0) (job : JobData) (disk mid after : DiskState) (view : ViewState) (digest : List ℕ) (count : ℕ) → digest ≡ job.parts.digest → count ≡ frames_of job
+seen_by : (Found : ViewState → Type 0) (job : JobData) (disk mid after : FolderState) (view : ViewState) (digest : List ℕ) (count : ℕ) → digest ≡ job.parts.digest → count ≡ frames_of job
     → (disk.tells ≡ true → IsStill disk.history mid.history) → (disk.tells ≡ true → IsStill mid.history after.history)
     → (disk.tells ≡ true → IsViewOf digest count (view_of disk.history) view) → length view.gates ≡ count
     → (reached : Outcome) → Found view → HasSeen job disk after reached Found
@@ -54,7 +54,7 @@ one_line_more line i =
     ∙ ap (λ (l : List ℕ). flat_map line (range_with_len 0 i) ++ l) (append-nil (line i))
 
 -- what a look left as it was, is checked as it was before the look
-checked_before : (job : JobData) (disk mid : DiskState) (view : ViewState) → mid.tells ≡ disk.tells → (disk.tells ≡ true → IsStill disk.history mid.history)
+checked_before : (job : JobData) (disk mid : FolderState) (view : ViewState) → mid.tells ≡ disk.tells → (disk.tells ≡ true → IsStill disk.history mid.history)
     → (reached : Outcome) (output : List ℕ) → IsChecked job view mid reached output → IsChecked job view disk reached output
 checked_before job disk mid view tells looked reached output was = record {
   answer = was.answer;
@@ -66,7 +66,7 @@ checked_before job disk mid view tells looked reached output was = record {
 }
 
 -- and is counted as it was
-counted_before : (kinds : List ProbeKind) (job : JobData) (disk mid : DiskState) (view : ViewState) → mid.tells ≡ disk.tells → (disk.tells ≡ true → IsStill disk.history mid.history)
+counted_before : (kinds : List ProbeKind) (job : JobData) (disk mid : FolderState) (view : ViewState) → mid.tells ≡ disk.tells → (disk.tells ≡ true → IsStill disk.history mid.history)
     → (reached : Outcome) (output : List ℕ) → IsCounted kinds job view mid reached output → IsCounted kinds job view disk reached output
 counted_before kinds job disk mid view tells looked reached output was = record {
   kind = was.kind;
@@ -76,7 +76,7 @@ counted_before kinds job disk mid view tells looked reached output was = record 
 }
 
 -- and a sheet is made of it as it was
-sheeted_before : (tone : List ℕ) (job : JobData) (disk mid after : DiskState) (view : ViewState) → mid.tells ≡ disk.tells → (disk.tells ≡ true → IsStill disk.history mid.history)
+sheeted_before : (tone : List ℕ) (job : JobData) (disk mid after : FolderState) (view : ViewState) → mid.tells ≡ disk.tells → (disk.tells ≡ true → IsStill disk.history mid.history)
     → (reached : Outcome) (output : List ℕ) → IsSheeted tone job view mid after reached output → IsSheeted tone job view disk after reached output
 sheeted_before tone job disk mid after view tells looked reached output was = record {
   kind = was.kind;
@@ -92,7 +92,7 @@ spared_along : (old mid new : History) (Mine : FileId → Type 0) → IsStill ol
 spared_along old mid new Mine still later spares = spares_along old mid new Mine (passes_extends old mid (moment_of old) still.passes) later (still_spares old mid Mine still) spares
 
 -- nothing was asked of the disk behind the look
-pub summed_by : (job : JobData) (disk after : DiskState) (view : ViewState) (digest : List ℕ) (count : ℕ) → digest ≡ job.parts.digest → count ≡ frames_of job
+pub summed_by : (job : JobData) (disk after : FolderState) (view : ViewState) (digest : List ℕ) (count : ℕ) → digest ≡ job.parts.digest → count ≡ frames_of job
     → (disk.tells ≡ true → IsStill disk.history after.history)
     → (disk.tells ≡ true → IsViewOf digest count (view_of disk.history) view) → length view.gates ≡ count
     → (reached : Outcome) (output : List ℕ) → AreSums job view reached output → IsSummed job disk after reached output
@@ -101,7 +101,7 @@ summed_by job disk after view digest count digest_is count_is looked shown size 
   still = looked;
 }
 
-module _ (job : JobData) (disk mid after : DiskState) (view : ViewState) (digest : List ℕ) (count : ℕ) where
+module _ (job : JobData) (disk mid after : FolderState) (view : ViewState) (digest : List ℕ) (count : ℕ) where
   pub verified_by : digest ≡ job.parts.digest → count ≡ frames_of job → mid.tells ≡ disk.tells
       → (disk.tells ≡ true → IsStill disk.history mid.history) → (disk.tells ≡ true → IsStill mid.history after.history)
       → (disk.tells ≡ true → IsViewOf digest count (view_of disk.history) view) → length view.gates ≡ count
@@ -132,7 +132,7 @@ module _ (job : JobData) (disk mid after : DiskState) (view : ViewState) (digest
   }
 
 -- the ledger can't be had, and there is no sheet
-pub unsheeted : (tone : List ℕ) (job : JobData) (disk after : DiskState) (fault : OpenFault) (digest : List ℕ) (count : ℕ) → digest ≡ job.parts.digest → count ≡ frames_of job
+pub unsheeted : (tone : List ℕ) (job : JobData) (disk after : FolderState) (fault : OpenFault) (digest : List ℕ) (count : ℕ) → digest ≡ job.parts.digest → count ≡ frames_of job
     → (disk.tells ≡ true → HasLooked digest count disk.history after.history (Err fault)) → IsLookFor digest count (Err fault)
     → (disk.tells ≡ true → IsStill disk.history after.history) → (output : List ℕ) → HasSheet tone job disk after (outcome_of_fault fault) output
 unsheeted tone job disk after fault digest count digest_is count_is looked known still output = record {

@@ -18,7 +18,7 @@ use Rattle.reel_writer.specs.Reel.{frames_of}
 use Rattle.frame_range.specs.Parts.{range_of}
 use Rattle.frame_range.specs.declared.range.Extent.{Extent}
 use Rattle.frame_range.specs.declared.range.FrameRange.{FrameRange}
-use Rattle.project_run.specs.Calls.{DiskState}
+use Rattle.project_run.specs.Calls.{FolderState}
 use Rattle.project_run.specs.Run.{IsKnown, IsOfRun, IsJobRun, IsRunReply, IsUnplanned}
 use Rattle.project_run.specs.Look.{IsLookReply, IsOfLook}
 use Rattle.project_run.specs.Verify.{IsOfVerify}
@@ -101,7 +101,7 @@ look_verifies other kind = kind
 pub job_verifies : (outcome : Outcome) → IsOfJob outcome → IsOfVerify outcome
 job_verifies outcome kind = look_verifies outcome (job_looks outcome kind)
 
-pub run_in : {share : ℕ} (job : JobData) (extent : Extent) (range : FrameRange) (here told : Option World) (path : List ℕ) (disk disk_after : DiskState) (loads between loads_after : ℕ) (reached : Outcome) (output : List ℕ) → range ≡ range_of extent (frames_of job) → here ≡ told
+pub run_in : {share : ℕ} (job : JobData) (extent : Extent) (range : FrameRange) (here told : Option World) (path : List ℕ) (disk disk_after : FolderState) (loads between loads_after : ℕ) (reached : Outcome) (output : List ℕ) → range ≡ range_of extent (frames_of job) → here ≡ told
     → IfSome told (λ world. HasPlanned (file_at world) path (Ok job)) → between ≡ count_after (2 + cube_count job.parts.project.cube) loads
     → IsJobRun job extent range share here between loads_after disk disk_after reached output → IsRunReply path extent share told loads loads_after disk disk_after reached output
 run_in {share = share} job extent range here told path disk disk_after loads between loads_after reached output all same comes texts ran = inl (record {
@@ -113,7 +113,7 @@ run_in {share = share} job extent range here told path disk disk_after loads bet
       (subst (λ told. IsJobRun job extent range share told between loads_after disk disk_after reached output) same ran);
 })
 
-pub looked_in : (Looked : JobData → Type 0) (job : JobData) (told : Option World) (path : List ℕ) (disk disk_after : DiskState) (loads loads_after : ℕ) (reached : Outcome)
+pub looked_in : (Looked : JobData → Type 0) (job : JobData) (told : Option World) (path : List ℕ) (disk disk_after : FolderState) (loads loads_after : ℕ) (reached : Outcome)
     → IfSome told (λ world. HasPlanned (file_at world) path (Ok job)) → loads_after ≡ count_after (2 + cube_count job.parts.project.cube) loads
     → Looked job → IsLookReply told path disk disk_after loads loads_after reached Looked
 looked_in Looked job told path disk disk_after loads loads_after reached comes texts looked = inl (record {
@@ -124,6 +124,6 @@ looked_in Looked job told path disk disk_after loads loads_after reached comes t
 })
 
 -- no job was planned, and the folder is as it was
-pub unplanned : (told : Option World) (path : List ℕ) (disk : DiskState) (loads loads_after : ℕ) (reached : Outcome) → IfSome told (λ world. HasPlanned (file_at world) path (Err reached))
+pub unplanned : (told : Option World) (path : List ℕ) (disk : FolderState) (loads loads_after : ℕ) (reached : Outcome) → IfSome told (λ world. HasPlanned (file_at world) path (Err reached))
     → IsOfJob reached → AreLoaded 1 3 loads loads_after → HasLoadedFor told path loads loads_after reached → IsUnplanned told path disk disk loads loads_after reached
 unplanned told path disk loads loads_after reached why kind texts refused = record { why = why; kind = kind; untouched = refl; texts = texts; refused = refused }

@@ -4,16 +4,15 @@
 --   of a folder, of which something is so before the call and after it, or of both folders of an adoption; what a refusal leaves
 --   alone; what a command of a project leaves of the scan and of the folder
 --     Replies result IsReply      what it came to is such a reply
---     DiskState, disk_state      what a disk tells at a moment, and its count of faults
+--     FolderState, folder_state      what a folder's disk tells at a moment, and its count of faults
 --     OnDisk, OverScan      what it made of a disk, and over which scan
 --     IsLeftAlone before after reached      where a project is refused, it left this alone
 --     LeavesScanFor, LeavesDiskFor      what a command of a project leaves of the scan and of the disk
 use Rattle.std.specs.Prelude.{◌≡◌, ℕ, Bool, List, Option, Result, Err, IfErr, MatchResult, Vec}
 use Rattle.std.specs.declared.alloc.Global.{Global}
 use Rattle.reel_disk.specs.Disk.{History}
-use Rattle.reel_disk.specs.Loan.{Loan}
-use Rattle.reel_writer.specs.Leaves.{LeavesDisk}
-use Rattle.scan_source.specs.Leaves.{LeavesScan}
+use Rattle.reel_disk.specs.State.{DiskState, LeavesDisk}
+use Rattle.scan_source.specs.State.{LeavesScan, ScanState}
 use Rattle.scan_source.specs.World.{World}
 use Rattle.outcome_line.specs.Output.{line_of}
 use Rattle.outcome_line.specs.declared.outcome.Outcome.{Outcome}
@@ -24,22 +23,21 @@ use Rattle.project_job.specs.Asked.{HasInspectedFor}
 abbrev pub Replies : Result (Vec ℕ Global) Outcome → (Outcome → List ℕ → Type 0) → Type 0
 Replies result IsReply = MatchResult result (λ output. IsReply outcome.Done output.items) (λ reached. IsReply reached (line_of reached))
 
-pub record DiskState : Type 0 where
+pub record FolderState : Type 0 where
   pub tells : Bool
   pub history : History
   pub faults : ℕ
 
--- of a disk, by its meanings
-abbrev pub disk_state : {D : Type 0} → Bool → (D → History) → (D → ℕ) → D → DiskState
-disk_state tells history faults disk = record { tells = tells; history = history disk; faults = faults disk }
+abbrev pub folder_state : Bool → DiskState → FolderState
+folder_state tells disk = record { tells = tells; history = disk.history; faults = disk.faults }
 
--- what it made of a disk, by its meanings: this is so of the disk before the call and of the disk after it
-abbrev pub OnDisk : {D : Type 0} {A : Type 1} → Bool → (D → History) → (D → ℕ) → (before after : D) → (DiskState → DiskState → A) → A
-OnDisk tells history faults before after Made = Made (disk_state tells history faults before) (disk_state tells history faults after)
+-- what it made of a disk: this is so of the folder before the call and of the folder after it
+abbrev pub OnDisk : {A : Type 1} → Bool → (before after : DiskState) → (FolderState → FolderState → A) → A
+OnDisk tells before after Made = Made (folder_state tells before) (folder_state tells after)
 
 -- what it made of it over what a scan tells, and by the loads before and after
-abbrev pub OverScan : {S : Type 0} {A : Type 1} → (S → Option World) → (S → ℕ) → (before after : S) → (Option World → ℕ → ℕ → A) → A
-OverScan world loads before after Made = Made (world before) (loads before) (loads after)
+abbrev pub OverScan : {A : Type 1} → (before after : ScanState) → (Option World → ℕ → ℕ → A) → A
+OverScan before after Made = Made before.world before.loads after.loads
 
 -- a project is refused, the new one or an old one
 abbrev pub IsRefusal : Outcome → Type 0
@@ -52,12 +50,10 @@ abbrev pub IsLeftAlone : {A : Type 0} → A → A → Outcome → Type 0
 IsLeftAlone before after reached = IsRefusal reached → after ≡ before
 
 -- Of a refused project no more heads were asked for than its refusal determines.
-pub record LeavesScanFor {S : Type 0} (world : S → Option World) (faults heads : S → ℕ) (same : S → S
-    → Type 0) (path : List ℕ) (result : Result (Vec ℕ Global) Outcome) (before after : S) : Type 0 where
-  pub lent : LeavesScan world faults same (result ≡ Err outcome.SourceFault) before after
-  pub refused_heads : IfErr result (HasInspectedFor (world before) path (heads before) (heads after))
+pub record LeavesScanFor (path : List ℕ) (result : Result (Vec ℕ Global) Outcome) (before after : ScanState) : Type 0 where
+  pub lent : LeavesScan (result ≡ Err outcome.SourceFault) before after
+  pub refused_heads : IfErr result (HasInspectedFor before.world path before.heads after.heads)
 
-pub record LeavesDiskFor {D : Type 0} (faults : D → ℕ) (loans : D → List Loan) (result : Result (Vec ℕ Global) Outcome)
-    (before after : D) : Type 0 where
-  pub lent : LeavesDisk faults loans (result ≡ Err outcome.DiskFault) before after
+pub record LeavesDiskFor {D : Type 0} (state : D → DiskState) (result : Result (Vec ℕ Global) Outcome) (before after : D) : Type 0 where
+  pub lent : LeavesDisk (result ≡ Err outcome.DiskFault) (state before) (state after)
   pub untouched : IfErr result (IsLeftAlone before after)

@@ -17,7 +17,7 @@ use Rattle.resume_ledger.specs.declared.attach.OpenFault.TheVariants as faults
 use Rattle.project_job.specs.Jobs.{ComesTo, cube_count}
 use Rattle.outcome_line.specs.declared.outcome.Outcome.{Outcome}
 use Rattle.outcome_line.specs.declared.outcome.Outcome.TheVariants as outcome
-use Rattle.project_run.specs.Calls.{DiskState}
+use Rattle.project_run.specs.Calls.{FolderState}
 use Rattle.project_run.specs.Run.{IsOfRun, IsUnplanned}
 
 -- the outcome of a ledger that can't be had
@@ -35,14 +35,14 @@ IsBehindLook outcome.NoMemory = Unit {0}
 IsBehindLook other = ⊥
 
 -- The ledger was looked at, and of what it has this was found, or it can't be had.
-pub record HasFound (job : JobData) (disk disk_after : DiskState) (reached : Outcome) (Found : ViewState → Type 0) : Type 0 where
+pub record HasFound (job : JobData) (disk disk_after : FolderState) (reached : Outcome) (Found : ViewState → Type 0) : Type 0 where
   pub ledger : Result ViewState OpenFault
   pub looked : disk.tells ≡ true → HasLooked job.parts.digest (frames_of job) disk.history disk_after.history ledger
   pub known : IsLookFor job.parts.digest (frames_of job) ledger
   pub found : MatchResult ledger Found (λ fault. (reached ≡ outcome_of_fault fault) ⊎ (reached ≡ outcome.NoMemory))
 
 -- And at no moment was the folder changed.
-pub record HasSeen (job : JobData) (disk disk_after : DiskState) (reached : Outcome) (Found : ViewState → Type 0) : Type 0 where
+pub record HasSeen (job : JobData) (disk disk_after : FolderState) (reached : Outcome) (Found : ViewState → Type 0) : Type 0 where
   pub seen : HasFound job disk disk_after reached Found
   pub still : disk.tells ≡ true → IsStill disk.history disk_after.history
 
@@ -53,7 +53,7 @@ pub record HasLookedAt (told : Option World) (path : List ℕ) (loads loads_afte
   pub texts : loads_after ≡ count_after (2 + cube_count job.parts.project.cube) loads
   pub looked : Looked job
 
-abbrev pub IsLookReply : Option World → List ℕ → DiskState → DiskState → ℕ → ℕ → Outcome → (JobData → Type 0) → Type 0
+abbrev pub IsLookReply : Option World → List ℕ → FolderState → FolderState → ℕ → ℕ → Outcome → (JobData → Type 0) → Type 0
 IsLookReply told path disk disk_after loads loads_after reached Looked =
     HasLookedAt told path loads loads_after Looked ⊎ IsUnplanned told path disk disk_after loads loads_after reached
 

@@ -12,10 +12,10 @@ use Rattle.reel_qc.specs.declared.probe.ProbeKind.{ProbeKind}
 use Rattle.outcome_line.specs.declared.outcome.Outcome.{Outcome}
 use Rattle.outcome_line.specs.declared.outcome.Outcome.TheVariants as outcome
 use Rattle.project_run.specs.Look.{HasSeen, IsBehindLook, IsLookReply}
-use Rattle.project_run.specs.Calls.{DiskState}
+use Rattle.project_run.specs.Calls.{FolderState}
 
 -- The frames of what the ledger has were counted, each kind in its column: it came to their table, over the files of the folder.
-pub record IsCounted (kinds : List ProbeKind) (job : JobData) (view : ViewState) (disk : DiskState)
+pub record IsCounted (kinds : List ProbeKind) (job : JobData) (view : ViewState) (disk : FolderState)
     (reached : Outcome) (output : List ℕ) : Type 0 where
   pub kind : IsBehindLook reached
   pub form : reached ≡ outcome.Done → disk.tells ≡ true → output ≡ quality_table kinds job view (view_of disk.history)
@@ -26,11 +26,11 @@ pub record IsCounted (kinds : List ProbeKind) (job : JobData) (view : ViewState)
   pub known : reached ≡ outcome.Done → IsTable kinds view output
 
 -- The ledger was looked at and the frames were counted, and at no moment was the folder changed.
-abbrev pub IsTabled : List ProbeKind → JobData → DiskState → DiskState → Outcome → List ℕ → Type 0
+abbrev pub IsTabled : List ProbeKind → JobData → FolderState → FolderState → Outcome → List ℕ → Type 0
 IsTabled kinds job disk disk_after reached output = HasSeen job disk disk_after reached
     (λ view. IsCounted kinds job view disk reached output)
 
-abbrev pub IsQcReply : List ProbeKind → List ℕ → Option World → (loads loads_after : ℕ) → (disk disk_after : DiskState)
+abbrev pub IsQcReply : List ProbeKind → List ℕ → Option World → (loads loads_after : ℕ) → (disk disk_after : FolderState)
     → Outcome → List ℕ → Type 0
 IsQcReply kinds path told loads loads_after disk disk_after reached output =
     IsLookReply told path disk disk_after loads loads_after reached (λ job. IsTabled kinds job disk disk_after reached output)

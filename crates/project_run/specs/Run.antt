@@ -31,7 +31,7 @@ use Rattle.frame_fetch.specs.declared.run_end.RunEnd.TheVariants as ends
 use Rattle.project_job.specs.Asked.{HasLoadedFor}
 use Rattle.project_job.specs.Jobs.{ComesTo, HasPlanned, IsOfJob, AreLoaded, cube_count}
 use Rattle.printed_text.specs.Text.{spaced_line}
-use Rattle.project_run.specs.Calls.{DiskState}
+use Rattle.project_run.specs.Calls.{FolderState}
 use Rattle.outcome_line.specs.declared.outcome.Outcome.{Outcome}
 use Rattle.outcome_line.specs.declared.outcome.Outcome.TheVariants as outcome
 
@@ -85,7 +85,7 @@ IsKnown job other = Unit {0}
 
 -- What a run that ended so keeps: at every moment of it each frame that a crash leaves acknowledged is the definition's, and no
 -- acknowledgement is lost; at Done the folder has all frames of the range.
-pub record IsSafeRun (job : JobData) (range : FrameRange) (told : Option World) (how : RunEnd) (disk disk_after : DiskState) : Type 0 where
+pub record IsSafeRun (job : JobData) (range : FrameRange) (told : Option World) (how : RunEnd) (disk disk_after : FolderState) : Type 0 where
   pub run : disk.tells ≡ true → IsReelRun job told disk.history disk_after.history
   pub acked : how ≡ ends.Done → disk.tells ≡ true → AreAllAcked job range.low range.high (moment_of disk_after.history)
   pub whole : how ≡ ends.Done → disk.tells ≡ true → HasWhole job range.low range.high told disk.history disk_after.history
@@ -98,7 +98,7 @@ pub record IsSafeRun (job : JobData) (range : FrameRange) (told : Option World) 
 
 -- The job was run in the folder, over a range of its frames.
 pub record IsJobRun (job : JobData) (extent : Extent) (range : FrameRange) (share : ℕ) (told : Option World)
-    (loads loads_after : ℕ) (disk disk_after : DiskState) (reached : Outcome) (output : List ℕ) : Type 0 where
+    (loads loads_after : ℕ) (disk disk_after : FolderState) (reached : Outcome) (output : List ℕ) : Type 0 where
   pub how : RunEnd
   pub report : Report
   pub reply : ReportsEnd job how (report_text extent range report) reached output
@@ -113,7 +113,7 @@ pub record IsJobRun (job : JobData) (extent : Extent) (range : FrameRange) (shar
   pub changed : IsChange how → HasRisen loads loads_after
 
 -- The project came to this job, which was run in the folder, as far as it was asked for.
-pub record RanItsJob (told : Option World) (path : List ℕ) (extent : Extent) (share : ℕ) (disk disk_after : DiskState)
+pub record RanItsJob (told : Option World) (path : List ℕ) (extent : Extent) (share : ℕ) (disk disk_after : FolderState)
     (loads loads_after : ℕ) (reached : Outcome) (output : List ℕ) : Type 0 where
   pub job : JobData
   pub comes : IfSome told (λ world. ComesTo (file_at world) path (Ok job.parts))
@@ -123,7 +123,7 @@ pub record RanItsJob (told : Option World) (path : List ℕ) (extent : Extent) (
   pub ran : IsJobRun job extent (range_of extent (frames_of job)) share told planned loads_after disk disk_after reached output
 
 -- The project came to no job, and the folder is as it was.
-pub record IsUnplanned (told : Option World) (path : List ℕ) (disk disk_after : DiskState) (loads loads_after : ℕ)
+pub record IsUnplanned (told : Option World) (path : List ℕ) (disk disk_after : FolderState) (loads loads_after : ℕ)
     (reached : Outcome) : Type 0 where
   pub why : IfSome told (λ world. HasPlanned (file_at world) path (Err reached))
   pub kind : IsOfJob reached
@@ -133,7 +133,7 @@ pub record IsUnplanned (told : Option World) (path : List ℕ) (disk disk_after 
   pub refused : HasLoadedFor told path loads loads_after reached
 
 abbrev pub IsRunReply : List ℕ → Extent → (share : ℕ) → Option World → (loads loads_after : ℕ)
-    → (disk disk_after : DiskState) → Outcome → List ℕ → Type 0
+    → (disk disk_after : FolderState) → Outcome → List ℕ → Type 0
 IsRunReply path extent share told loads loads_after disk disk_after reached output =
     RanItsJob told path extent share disk disk_after loads loads_after reached output
     ⊎ IsUnplanned told path disk disk_after loads loads_after reached

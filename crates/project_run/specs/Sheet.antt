@@ -17,7 +17,7 @@ use Rattle.printed_text.specs.Text.{spaced_line}
 use Rattle.outcome_line.specs.declared.outcome.Outcome.{Outcome}
 use Rattle.outcome_line.specs.declared.outcome.Outcome.TheVariants as outcome
 use Rattle.project_run.specs.Look.{HasFound, IsBehindLook, IsLookReply}
-use Rattle.project_run.specs.Calls.{DiskState}
+use Rattle.project_run.specs.Calls.{FolderState}
 
 -- how many cells the sheet has, and its greatest code
 abbrev pub sheet_text : (cells peak : ℕ) → List ℕ
@@ -26,7 +26,7 @@ sheet_text cells peak =
     ++ spaced_line (codes "peak" ∷ decimal peak ∷ [])
 
 -- A sheet was made of this view under the tone, over the files of the folder, and its two numbers were put.
-pub record IsSheeted (tone : List ℕ) (job : JobData) (view : ViewState) (disk disk_after : DiskState)
+pub record IsSheeted (tone : List ℕ) (job : JobData) (view : ViewState) (disk disk_after : FolderState)
     (reached : Outcome) (output : List ℕ) : Type 0 where
   pub kind : IsBehindLook reached
   -- the sheet is there, whole, and a crash keeps it so
@@ -38,7 +38,7 @@ pub record IsSheeted (tone : List ℕ) (job : JobData) (view : ViewState) (disk 
   pub known : reached ≡ outcome.Done → (peak : ℕ) × (peak ≤ 1023) × (output ≡ sheet_text (length (cell_frames job)) peak)
 
 -- The ledger was looked at, and a sheet was made of what it has, or it can't be had, and then nothing was written.
-pub record HasSheet (tone : List ℕ) (job : JobData) (disk disk_after : DiskState) (reached : Outcome) (output : List ℕ) : Type 0 where
+pub record HasSheet (tone : List ℕ) (job : JobData) (disk disk_after : FolderState) (reached : Outcome) (output : List ℕ) : Type 0 where
   pub seen : HasFound job disk disk_after reached (λ view. IsSheeted tone job view disk disk_after reached output)
   -- At every moment all other files are as they were, what was sound and fit is, and what was acknowledged is.
   pub spares : disk.tells ≡ true → Spares disk.history disk_after.history (λ q. q ≡ file.Sheet)
@@ -48,7 +48,7 @@ pub record HasSheet (tone : List ℕ) (job : JobData) (disk disk_after : DiskSta
       → LeavesOnly disk.history disk_after.history (HasAcked job i)
   pub refused : disk.tells ≡ true → IsErr seen.ledger → IsStill disk.history disk_after.history
 
-abbrev pub IsSheetReply : List ℕ → List ℕ → Option World → (loads loads_after : ℕ) → (disk disk_after : DiskState)
+abbrev pub IsSheetReply : List ℕ → List ℕ → Option World → (loads loads_after : ℕ) → (disk disk_after : FolderState)
     → Outcome → List ℕ → Type 0
 IsSheetReply tone path told loads loads_after disk disk_after reached output =
     IsLookReply told path disk disk_after loads loads_after reached (λ job. HasSheet tone job disk disk_after reached output)

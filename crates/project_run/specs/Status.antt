@@ -13,7 +13,7 @@ use Rattle.printed_text.specs.Text.{spaced_line}
 use Rattle.outcome_line.specs.declared.outcome.Outcome.{Outcome}
 use Rattle.outcome_line.specs.declared.outcome.Outcome.TheVariants as outcome
 use Rattle.project_run.specs.Look.{IsLookReply, outcome_of_fault}
-use Rattle.project_run.specs.Calls.{DiskState}
+use Rattle.project_run.specs.Calls.{FolderState}
 
 -- the frames of the reel, and those that the folder acknowledges
 abbrev pub status_text : (frames acked : ℕ) → List ℕ
@@ -27,7 +27,7 @@ outcome_of_peek (Ok acked) = outcome.Done
 outcome_of_peek (Err fault) = outcome_of_fault fault
 
 -- The folder was looked at, at no moment was it changed, and its number was put: that of the frames that it acknowledges.
-pub record IsStatus (job : JobData) (disk disk_after : DiskState) (reached : Outcome) (output : List ℕ) : Type 0 where
+pub record IsStatus (job : JobData) (disk disk_after : FolderState) (reached : Outcome) (output : List ℕ) : Type 0 where
   pub answer : Result ℕ OpenFault
   pub reached_is : (reached ≡ outcome_of_peek answer) ⊎ (reached ≡ outcome.NoMemory)
   pub form : reached ≡ outcome.Done → (acked : ℕ) × (answer ≡ Ok acked) × (output ≡ status_text (frames_of job) acked)
@@ -35,6 +35,6 @@ pub record IsStatus (job : JobData) (disk disk_after : DiskState) (reached : Out
   pub known : IsPeekFor job.parts.digest (frames_of job) answer
   pub still : disk.tells ≡ true → IsStill disk.history disk_after.history
 
-abbrev pub IsStatusReply : List ℕ → Option World → (loads loads_after : ℕ) → (disk disk_after : DiskState) → Outcome → List ℕ → Type 0
+abbrev pub IsStatusReply : List ℕ → Option World → (loads loads_after : ℕ) → (disk disk_after : FolderState) → Outcome → List ℕ → Type 0
 IsStatusReply path told loads loads_after disk disk_after reached output =
     IsLookReply told path disk disk_after loads loads_after reached (λ job. IsStatus job disk disk_after reached output)

@@ -14,7 +14,7 @@ use Rattle.reel_writer.specs.Reel.{frames_of}
 use Rattle.outcome_line.specs.declared.outcome.Outcome.{Outcome}
 use Rattle.outcome_line.specs.declared.outcome.Outcome.TheVariants as outcome
 use Rattle.project_run.specs.Look.{HasSeen, IsLookReply}
-use Rattle.project_run.specs.Calls.{DiskState}
+use Rattle.project_run.specs.Calls.{FolderState}
 
 -- the digest of a frame's file in 64 hexadecimal digits, two blanks, and the file's name; nothing, where there is no record
 abbrev pub sum_line_of : JobData → ℕ → Option (List ℕ) → List ℕ
@@ -34,9 +34,9 @@ pub record AreSums (job : JobData) (view : ViewState) (reached : Outcome) (outpu
   pub form : reached ≡ outcome.Done → output ≡ sums_text job view
 
 -- The ledger was looked at, and at no moment was the folder changed.
-abbrev pub IsSummed : JobData → DiskState → DiskState → Outcome → List ℕ → Type 0
+abbrev pub IsSummed : JobData → FolderState → FolderState → Outcome → List ℕ → Type 0
 IsSummed job disk disk_after reached output = HasSeen job disk disk_after reached (λ view. AreSums job view reached output)
 
-abbrev pub IsSumsReply : List ℕ → Option World → (loads loads_after : ℕ) → (disk disk_after : DiskState) → Outcome → List ℕ → Type 0
+abbrev pub IsSumsReply : List ℕ → Option World → (loads loads_after : ℕ) → (disk disk_after : FolderState) → Outcome → List ℕ → Type 0
 IsSumsReply path told loads loads_after disk disk_after reached output =
     IsLookReply told path disk disk_after loads loads_after reached (λ job. IsSummed job disk disk_after reached output)

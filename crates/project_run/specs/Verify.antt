@@ -15,7 +15,7 @@ use Rattle.printed_text.specs.Text.{spaced_line}
 use Rattle.outcome_line.specs.declared.outcome.Outcome.{Outcome}
 use Rattle.outcome_line.specs.declared.outcome.Outcome.TheVariants as outcome
 use Rattle.project_run.specs.Look.{HasSeen, IsLookReply, IsOfLook}
-use Rattle.project_run.specs.Calls.{DiskState}
+use Rattle.project_run.specs.Calls.{FolderState}
 
 -- the frames of the reel, those that the folder acknowledges, and those whose files were compared with their records
 abbrev pub verify_text : (frames acked verified : ℕ) → List ℕ
@@ -32,7 +32,7 @@ outcome_of_check (Err faults.DiskFault) = outcome.DiskFault
 outcome_of_check (Err faults.NoMemory) = outcome.NoMemory
 
 -- The files were checked against the records of what the ledger has: it came to the first damaged frame, or to their number.
-pub record IsChecked (job : JobData) (view : ViewState) (disk : DiskState) (reached : Outcome) (output : List ℕ) : Type 0 where
+pub record IsChecked (job : JobData) (view : ViewState) (disk : FolderState) (reached : Outcome) (output : List ℕ) : Type 0 where
   pub answer : Result ℕ CheckFault
   pub checked : disk.tells ≡ true → HasChecked job view (view_of disk.history) answer
   pub known : IsCheckFor job view answer
@@ -43,10 +43,10 @@ pub record IsChecked (job : JobData) (view : ViewState) (disk : DiskState) (reac
       → (frame : ℕ) (kept found : List ℕ) → reached ≢ outcome.Damaged frame kept found
 
 -- The ledger was looked at and the files were checked, and at no moment was the folder changed.
-abbrev pub IsVerified : JobData → DiskState → DiskState → Outcome → List ℕ → Type 0
+abbrev pub IsVerified : JobData → FolderState → FolderState → Outcome → List ℕ → Type 0
 IsVerified job disk disk_after reached output = HasSeen job disk disk_after reached (λ view. IsChecked job view disk reached output)
 
-abbrev pub IsVerifyReply : List ℕ → Option World → (loads loads_after : ℕ) → (disk disk_after : DiskState) → Outcome → List ℕ → Type 0
+abbrev pub IsVerifyReply : List ℕ → Option World → (loads loads_after : ℕ) → (disk disk_after : FolderState) → Outcome → List ℕ → Type 0
 IsVerifyReply path told loads loads_after disk disk_after reached output =
     IsLookReply told path disk disk_after loads loads_after reached (λ job. IsVerified job disk disk_after reached output)
 

@@ -1,10 +1,10 @@
 //! A run on one thread.
 ghost use Rattle.std.specs.Prelude.{◌≡◌, ◌≤◌, Err, MatchResult};
 ghost use Rattle.conform_job.specs.Answers.{AreInfosOf};
-ghost use Rattle.scan_source.specs.Leaves.{LeavesScan};
+ghost use Rattle.scan_source.specs.State.{LeavesScan};
 ghost use Rattle.project_run.specs.Calls.{LeavesDiskFor, LeavesScanFor, OnDisk, Replies, OverScan};
 ghost use Rattle.frame_range.specs.Parts.{IsExtent};
-ghost use Rattle.reel_writer.specs.Leaves.{LeavesDisk};
+ghost use Rattle.reel_disk.specs.State.{LeavesDisk};
 ghost use Rattle.reel_writer.specs.Reel.{frames_of};
 ghost use Rattle.project_run.specs.Run.{IsJobRun, IsOfRun, IsRunReply, IsShareCount};
 
@@ -36,12 +36,12 @@ pub fn run<S: Scans, D: Disk>(
 ) -> Result<Vec<u8>, Outcome>
     requires extent { IsExtent extent }
     requires share { IsShareCount share }
-    ensures folder { Replies result (OnDisk D.tells D.history D.faults disk.old disk.new
-        (OverScan S.world S.loads scan.old scan.new (IsRunReply path.now extent share))) }
+    ensures folder { Replies result (OnDisk D.tells (D.state disk.old) (D.state disk.new)
+        (OverScan (S.state scan.old) (S.state scan.new) (IsRunReply path.now extent share))) }
     ensures kind { MatchResult result (λ text. Unit {0}) IsOfRun }
 
-    ensures scan { LeavesScanFor S.world S.faults S.heads S.same path.now result scan.old scan.new }
-    ensures disk { LeavesDiskFor D.faults D.loans result disk.old disk.new }
+    ensures scan { LeavesScanFor path.now result (S.state scan.old) (S.state scan.new) }
+    ensures disk { LeavesDiskFor D.state result disk.old disk.new }
 {
     let job = match planned(alloc, path, scan) {
         Ok(job) => job,
@@ -66,14 +66,14 @@ fn run_job<S: Scans, D: Disk>(
 ) -> Result<Vec<u8>, Outcome>
     requires range { (range.low ≤ range.high) × (range.high ≤ frames_of job.now) }
     requires share { IsShareCount share }
-    requires infos { AreInfosOf job.now.parts (S.world scan.old) job.now.infos }
-    ensures ran { Replies result (OnDisk D.tells D.history D.faults disk.old disk.new
-        (OverScan S.world S.loads scan.old scan.new (IsJobRun job.now extent range share))) }
+    requires infos { AreInfosOf job.now.parts (S.state scan.old).world job.now.infos }
+    ensures ran { Replies result (OnDisk D.tells (D.state disk.old) (D.state disk.new)
+        (OverScan (S.state scan.old) (S.state scan.new) (IsJobRun job.now extent range share))) }
     ensures kind { MatchResult result (λ text. Unit {0}) IsOfRun }
 
-    ensures scan { LeavesScan S.world S.faults S.same (result ≡ Err Outcome.SourceFault) scan.old scan.new }
+    ensures scan { LeavesScan (result ≡ Err Outcome.SourceFault) (S.state scan.old) (S.state scan.new) }
 
-    ensures disk { LeavesDisk D.faults D.loans (result ≡ Err Outcome.DiskFault) disk.old disk.new }
+    ensures disk { LeavesDisk (result ≡ Err Outcome.DiskFault) (D.state disk.old) (D.state disk.new) }
 {
     let (end, report, _) = run_alone::<Brand, S, D>(
         alloc,

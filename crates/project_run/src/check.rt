@@ -4,7 +4,7 @@ ghost use Rattle.reel_disk.specs.Disk.{view_of, IsStill};
 ghost use Rattle.reel_writer.specs.Reel.{frames_of};
 ghost use Rattle.resume_ledger.specs.Look.{IsViewOf};
 ghost use Rattle.project_run.specs.Calls.{LeavesDiskFor, LeavesScanFor, OnDisk, Replies, OverScan};
-ghost use Rattle.reel_writer.specs.Leaves.{LeavesDisk};
+ghost use Rattle.reel_disk.specs.State.{LeavesDisk};
 ghost use Rattle.project_run.specs.Verify.{IsChecked, IsOfVerify, IsVerified, IsVerifyReply, outcome_of_check, verify_text};
 
 use crate::progress::outcome_of_fault;
@@ -35,12 +35,12 @@ pub fn verify<S: Scans, D: Disk, H: Hasher>(
     hasher: &H,
 ) -> Result<Vec<u8>, Outcome>
     requires can_hash { H.can_hash }
-    ensures folder { Replies result (OnDisk D.tells D.history D.faults disk.old disk.new
-        (OverScan S.world S.loads scan.old scan.new (IsVerifyReply path.now))) }
+    ensures folder { Replies result (OnDisk D.tells (D.state disk.old) (D.state disk.new)
+        (OverScan (S.state scan.old) (S.state scan.new) (IsVerifyReply path.now))) }
     ensures kind { MatchResult result (λ text. Unit {0}) IsOfVerify }
 
-    ensures scan { LeavesScanFor S.world S.faults S.heads S.same path.now result scan.old scan.new }
-    ensures disk { LeavesDiskFor D.faults D.loans result disk.old disk.new }
+    ensures scan { LeavesScanFor path.now result (S.state scan.old) (S.state scan.new) }
+    ensures disk { LeavesDiskFor D.state result disk.old disk.new }
 {
     let job = match planned(alloc, path, scan) {
         Ok(job) => job,
@@ -60,11 +60,11 @@ fn verified<D: Disk, H: Hasher>(
     hasher: &H,
 ) -> Result<Vec<u8>, Outcome>
     requires can_hash { H.can_hash }
-    ensures verified { Replies result (OnDisk D.tells D.history D.faults disk.old disk.new (IsVerified job.now)) }
+    ensures verified { Replies result (OnDisk D.tells (D.state disk.old) (D.state disk.new) (IsVerified job.now)) }
     ensures kind { MatchResult result (λ text. Unit {0}) IsOfVerify }
     ensures never { result ≢ Err Outcome.SourceFault }
 
-    ensures disk { LeavesDisk D.faults D.loans (result ≡ Err Outcome.DiskFault) disk.old disk.new }
+    ensures disk { LeavesDisk (result ≡ Err Outcome.DiskFault) (D.state disk.old) (D.state disk.new) }
 {
     match Ledger::look(alloc, disk, job.digest(), job.timeline().count()) {
         Ok(view) => {
@@ -86,14 +86,14 @@ fn checked<D: Disk, H: Hasher>(
 ) -> Result<Vec<u8>, Outcome>
     requires can_hash { H.can_hash }
     requires size { length view.now.gates ≡ frames_of job.now }
-    requires view { D.tells ≡ true → IsViewOf job.now.parts.digest (frames_of job.now) (view_of (D.history disk.old)) view.now }
-    ensures checked { Replies result (OnDisk D.tells D.history D.faults disk.old disk.new
+    requires view { D.tells ≡ true → IsViewOf job.now.parts.digest (frames_of job.now) (view_of (D.state disk.old).history) view.now }
+    ensures checked { Replies result (OnDisk D.tells (D.state disk.old) (D.state disk.new)
         (λ was is. IsChecked job.now view.now was)) }
-    ensures still { D.tells ≡ true → IsStill (D.history disk.old) (D.history disk.new) }
+    ensures still { D.tells ≡ true → IsStill (D.state disk.old).history (D.state disk.new).history }
     ensures kind { MatchResult result (λ text. Unit {0}) IsOfVerify }
     ensures never { result ≢ Err Outcome.SourceFault }
 
-    ensures disk { LeavesDisk D.faults D.loans (result ≡ Err Outcome.DiskFault) disk.old disk.new }
+    ensures disk { LeavesDisk (result ≡ Err Outcome.DiskFault) (D.state disk.old) (D.state disk.new) }
 {
     match check(alloc, disk, job, view, hasher) {
         Ok(records) => {

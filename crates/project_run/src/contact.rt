@@ -5,7 +5,7 @@ ghost use Rattle.reel_disk.specs.Runs.{Extends, Spares};
 ghost use Rattle.reel_writer.specs.Reel.{frames_of};
 ghost use Rattle.project_run.specs.Look.{IsOfLook};
 ghost use Rattle.project_run.specs.Calls.{LeavesDiskFor, LeavesScanFor, OnDisk, Replies, OverScan};
-ghost use Rattle.reel_writer.specs.Leaves.{LeavesDisk};
+ghost use Rattle.reel_disk.specs.State.{LeavesDisk};
 ghost use Rattle.project_run.specs.Sheet.{HasSheet, IsSheetReply, IsSheeted, sheet_text};
 
 use crate::progress::outcome_of_fault;
@@ -33,12 +33,12 @@ pub fn sheet<S: Scans, D: Disk>(
     disk: &mut D,
     tone: &Tone,
 ) -> Result<Vec<u8>, Outcome>
-    ensures folder { Replies result (OnDisk D.tells D.history D.faults disk.old disk.new
-        (OverScan S.world S.loads scan.old scan.new (IsSheetReply tone.now.table path.now))) }
+    ensures folder { Replies result (OnDisk D.tells (D.state disk.old) (D.state disk.new)
+        (OverScan (S.state scan.old) (S.state scan.new) (IsSheetReply tone.now.table path.now))) }
     ensures kind { MatchResult result (λ text. Unit {0}) IsOfLook }
 
-    ensures scan { LeavesScanFor S.world S.faults S.heads S.same path.now result scan.old scan.new }
-    ensures disk { LeavesDiskFor D.faults D.loans result disk.old disk.new }
+    ensures scan { LeavesScanFor path.now result (S.state scan.old) (S.state scan.new) }
+    ensures disk { LeavesDiskFor D.state result disk.old disk.new }
 {
     let job = match planned(alloc, path, scan) {
         Ok(job) => job,
@@ -57,11 +57,11 @@ fn sheet_of<D: Disk>(
     disk: &mut D,
     tone: &Tone,
 ) -> Result<Vec<u8>, Outcome>
-    ensures made { Replies result (OnDisk D.tells D.history D.faults disk.old disk.new (HasSheet tone.now.table job.now)) }
+    ensures made { Replies result (OnDisk D.tells (D.state disk.old) (D.state disk.new) (HasSheet tone.now.table job.now)) }
     ensures kind { MatchResult result (λ text. Unit {0}) IsOfLook }
     ensures never { result ≢ Err Outcome.SourceFault }
 
-    ensures disk { LeavesDisk D.faults D.loans (result ≡ Err Outcome.DiskFault) disk.old disk.new }
+    ensures disk { LeavesDisk (result ≡ Err Outcome.DiskFault) (D.state disk.old) (D.state disk.new) }
 {
     match Ledger::look(alloc, disk, job.digest(), job.timeline().count()) {
         Ok(view) => {
@@ -82,14 +82,14 @@ fn sheeted<D: Disk>(
     tone: &Tone,
 ) -> Result<Vec<u8>, Outcome>
     requires size { length view.now.gates ≡ frames_of job.now }
-    ensures sheeted { Replies result (OnDisk D.tells D.history D.faults disk.old disk.new
+    ensures sheeted { Replies result (OnDisk D.tells (D.state disk.old) (D.state disk.new)
         (IsSheeted tone.now.table job.now view.now)) }
-    ensures past { D.tells ≡ true → Extends (D.history disk.old) (D.history disk.new) }
-    ensures spares { D.tells ≡ true → Spares (D.history disk.old) (D.history disk.new) (λ q. q ≡ file.Sheet) }
+    ensures past { D.tells ≡ true → Extends (D.state disk.old).history (D.state disk.new).history }
+    ensures spares { D.tells ≡ true → Spares (D.state disk.old).history (D.state disk.new).history (λ q. q ≡ file.Sheet) }
     ensures kind { MatchResult result (λ text. Unit {0}) IsOfLook }
     ensures never { result ≢ Err Outcome.SourceFault }
 
-    ensures disk { LeavesDisk D.faults D.loans (result ≡ Err Outcome.DiskFault) disk.old disk.new }
+    ensures disk { LeavesDisk (result ≡ Err Outcome.DiskFault) (D.state disk.old) (D.state disk.new) }
 {
     match make_sheet(alloc, disk, job, view, tone) {
         Ok(done) => match sheet_text(alloc, done) {

@@ -5,7 +5,7 @@ ghost use Rattle.conform_job.specs.Job.{file_of};
 ghost use Rattle.reel_writer.specs.Reel.{frames_of};
 ghost use Rattle.project_run.specs.Look.{IsOfLook};
 ghost use Rattle.project_run.specs.Calls.{LeavesDiskFor, LeavesScanFor, OnDisk, Replies, OverScan};
-ghost use Rattle.reel_writer.specs.Leaves.{LeavesDisk};
+ghost use Rattle.reel_disk.specs.State.{LeavesDisk};
 ghost use Rattle.project_run.specs.Sums.{IsSummed, IsSumsReply, sum_line, sums_text};
 
 use crate::progress::outcome_of_fault;
@@ -30,12 +30,12 @@ pub fn sums<S: Scans, D: Disk>(
     scan: &mut S,
     disk: &mut D,
 ) -> Result<Vec<u8>, Outcome>
-    ensures folder { Replies result (OnDisk D.tells D.history D.faults disk.old disk.new
-        (OverScan S.world S.loads scan.old scan.new (IsSumsReply path.now))) }
+    ensures folder { Replies result (OnDisk D.tells (D.state disk.old) (D.state disk.new)
+        (OverScan (S.state scan.old) (S.state scan.new) (IsSumsReply path.now))) }
     ensures kind { MatchResult result (λ text. Unit {0}) IsOfLook }
 
-    ensures scan { LeavesScanFor S.world S.faults S.heads S.same path.now result scan.old scan.new }
-    ensures disk { LeavesDiskFor D.faults D.loans result disk.old disk.new }
+    ensures scan { LeavesScanFor path.now result (S.state scan.old) (S.state scan.new) }
+    ensures disk { LeavesDiskFor D.state result disk.old disk.new }
 {
     let job = match planned(alloc, path, scan) {
         Ok(job) => job,
@@ -49,11 +49,11 @@ pub fn sums<S: Scans, D: Disk>(
 
 /// The lines of a job's reel, or the outcome that was reached.
 fn sums_of<D: Disk>(alloc: Global, job: &Job, disk: &mut D) -> Result<Vec<u8>, Outcome>
-    ensures summed { Replies result (OnDisk D.tells D.history D.faults disk.old disk.new (IsSummed job.now)) }
+    ensures summed { Replies result (OnDisk D.tells (D.state disk.old) (D.state disk.new) (IsSummed job.now)) }
     ensures kind { MatchResult result (λ text. Unit {0}) IsOfLook }
     ensures never { result ≢ Err Outcome.SourceFault }
 
-    ensures disk { LeavesDisk D.faults D.loans (result ≡ Err Outcome.DiskFault) disk.old disk.new }
+    ensures disk { LeavesDisk (result ≡ Err Outcome.DiskFault) (D.state disk.old) (D.state disk.new) }
 {
     match Ledger::look(alloc, disk, job.digest(), job.timeline().count()) {
         Ok(view) => {

@@ -6,7 +6,7 @@ ghost use Rattle.resume_ledger.specs.Look.{IsViewOf};
 ghost use Rattle.project_run.specs.Look.{IsOfLook};
 ghost use Rattle.project_run.specs.Quality.{IsCounted, IsQcReply, IsTabled};
 ghost use Rattle.project_run.specs.Calls.{LeavesDiskFor, LeavesScanFor, OnDisk, Replies, OverScan};
-ghost use Rattle.reel_writer.specs.Leaves.{LeavesDisk};
+ghost use Rattle.reel_disk.specs.State.{LeavesDisk};
 
 use crate::progress::outcome_of_fault;
 use cf_base::PathText;
@@ -34,12 +34,12 @@ pub fn qc<S: Scans, D: Disk, C: Counter>(
     probes: &[Probe],
 ) -> Result<Vec<u8>, Outcome>
     requires ready { C.ready }
-    ensures folder { Replies result (OnDisk D.tells D.history D.faults disk.old disk.new
-        (OverScan S.world S.loads scan.old scan.new (IsQcReply (map (λ p. p.kind) probes.now) path.now))) }
+    ensures folder { Replies result (OnDisk D.tells (D.state disk.old) (D.state disk.new)
+        (OverScan (S.state scan.old) (S.state scan.new) (IsQcReply (map (λ p. p.kind) probes.now) path.now))) }
     ensures kind { MatchResult result (λ text. Unit {0}) IsOfLook }
 
-    ensures scan { LeavesScanFor S.world S.faults S.heads S.same path.now result scan.old scan.new }
-    ensures disk { LeavesDiskFor D.faults D.loans result disk.old disk.new }
+    ensures scan { LeavesScanFor path.now result (S.state scan.old) (S.state scan.new) }
+    ensures disk { LeavesDiskFor D.state result disk.old disk.new }
 {
     let job = match planned(alloc, path, scan) {
         Ok(job) => job,
@@ -60,12 +60,12 @@ fn tabled<D: Disk, C: Counter>(
     probes: &[Probe],
 ) -> Result<Vec<u8>, Outcome>
     requires ready { C.ready }
-    ensures tabled { Replies result (OnDisk D.tells D.history D.faults disk.old disk.new
+    ensures tabled { Replies result (OnDisk D.tells (D.state disk.old) (D.state disk.new)
         (IsTabled (map (λ p. p.kind) probes.now) job.now)) }
     ensures kind { MatchResult result (λ text. Unit {0}) IsOfLook }
     ensures never { result ≢ Err Outcome.SourceFault }
 
-    ensures disk { LeavesDisk D.faults D.loans (result ≡ Err Outcome.DiskFault) disk.old disk.new }
+    ensures disk { LeavesDisk (result ≡ Err Outcome.DiskFault) (D.state disk.old) (D.state disk.new) }
 {
     match Ledger::look(alloc, disk, job.digest(), job.timeline().count()) {
         Ok(view) => {
@@ -88,14 +88,14 @@ fn counted<D: Disk, C: Counter>(
 ) -> Result<Vec<u8>, Outcome>
     requires ready { C.ready }
     requires size { length view.now.gates ≡ frames_of job.now }
-    requires view { D.tells ≡ true → IsViewOf job.now.parts.digest (frames_of job.now) (view_of (D.history disk.old)) view.now }
-    ensures counted { Replies result (OnDisk D.tells D.history D.faults disk.old disk.new
+    requires view { D.tells ≡ true → IsViewOf job.now.parts.digest (frames_of job.now) (view_of (D.state disk.old).history) view.now }
+    ensures counted { Replies result (OnDisk D.tells (D.state disk.old) (D.state disk.new)
         (λ was is. IsCounted (map (λ p. p.kind) probes.now) job.now view.now was)) }
-    ensures still { D.tells ≡ true → IsStill (D.history disk.old) (D.history disk.new) }
+    ensures still { D.tells ≡ true → IsStill (D.state disk.old).history (D.state disk.new).history }
     ensures kind { MatchResult result (λ text. Unit {0}) IsOfLook }
     ensures never { result ≢ Err Outcome.SourceFault }
 
-    ensures disk { LeavesDisk D.faults D.loans (result ≡ Err Outcome.DiskFault) disk.old disk.new }
+    ensures disk { LeavesDisk (result ≡ Err Outcome.DiskFault) (D.state disk.old) (D.state disk.new) }
 {
     match quality_table(alloc, counter, probes, disk, job, view) {
         Ok(text) => Ok(text),

@@ -1,11 +1,11 @@
 -- How an adoption goes on, and what is known where it ends.
 use Rattle.std.proofs.Common.{◌≡◌, inl, inr, ℕ, ◌<◌, ◌≤◌, Bool, true, false, List, get_or, length, refl, sym, ap, ◌∙◌, subst, arith, Option}
 use Rattle.std.specs.Prelude.{Some, None, IfSome, ◌⊎◌, Ok, Err, IsErrOf}
-use Rattle.cf_base.specs.Count.{HasCause, HasRisen}
+use Rattle.cf_base.specs.Count.{HasRisen}
+use Rattle.reel_disk.specs.State.{DiskState, LeavesDisk}
 use Rattle.scan_source.specs.World.{World, file_at}
 use Rattle.conform_job.specs.Job.{JobData, file_of}
 use Rattle.reel_disk.specs.Disk.{Files, Moment, History, IsStill, moment_of, view_of}
-use Rattle.reel_disk.specs.Loan.{Loan}
 use Rattle.reel_disk.specs.Runs.{Spares}
 use Rattle.reel_disk.proofs.Images.{view_is_image}
 use Rattle.reel_disk.proofs.Moments.{keeps_along}
@@ -50,29 +50,29 @@ module _ (new old : JobData) (tells : Bool) (h later : History) (still : tells �
     flags = looked.flags;
   }
 
-module _ {E : Type 0} (job : JobData) (told : Option World) (tells : Bool) (history : E → History) where
+module _ {job : JobData} {told : Option World} {tells : Bool} where
   -- nothing was asked of the new folder
-  pub part_itself : (gates : List Bool) (disk : E) → IsPart job told tells history gates disk disk
-  part_itself gates disk = record {
-    run = λ is. reel_run_itself job told (history disk);
-    none_lost = λ is. kept_itself job (history disk);
-    spares = λ is. spares_itself (history disk) (IsRunFile job gates);
+  pub part_itself : {gates : List Bool} {disk : DiskState} → IsPart job told tells gates disk disk
+  part_itself {gates = gates} {disk = disk} = record {
+    run = λ is. reel_run_itself job told disk.history;
+    none_lost = λ is. kept_itself job disk.history;
+    spares = λ is. spares_itself disk.history (IsRunFile job gates);
   }
 
   -- a frame whose gate was closed was finished
-  pub part_finished : (gates : List Bool) (i index : ℕ) → index ≡ i → i < frames_of job → get_or gates i false ≡ false → (before after : E)
-      → (tells ≡ true → IsReelRun job told (history before) (history after)) → (tells ≡ true → KeepsReel job (history before) (history after))
-      → (tells ≡ true → Spares (history before) (history after) (IsWrittenFile (file_of job index))) → IsPart job told tells history gates before after
-  part_finished gates i index same within shut before after run none_lost spares = record {
+  pub part_finished : {gates : List Bool} (i index : ℕ) → index ≡ i → i < frames_of job → get_or gates i false ≡ false → {before after : DiskState}
+      → (tells ≡ true → IsReelRun job told before.history after.history) → (tells ≡ true → KeepsReel job before.history after.history)
+      → (tells ≡ true → Spares before.history after.history (IsWrittenFile (file_of job index))) → IsPart job told tells gates before after
+  part_finished {gates = gates} i index same within shut run none_lost spares = record {
     run = run;
     none_lost = none_lost;
     spares = λ is. spares_wider _ _ (IsWrittenFile (file_of job index)) (IsRunFile job gates) (run_file job gates i index same within shut) (spares is);
   }
 
   -- one part behind another
-  pub part_along : (before gates : List Bool) → ((k : ℕ) → get_or before k false ≡ true → get_or gates k false ≡ true) → (old mid new : E)
-      → IsPart job told tells history before old mid → IsPart job told tells history gates mid new → IsPart job told tells history before old new
-  part_along before gates grows old mid new first second = record {
+  pub part_along : {before gates : List Bool} → ((k : ℕ) → get_or before k false ≡ true → get_or gates k false ≡ true) → {old mid new : DiskState}
+      → IsPart job told tells before old mid → IsPart job told tells gates mid new → IsPart job told tells before old new
+  part_along {before = before} {gates = gates} grows first second = record {
     run = λ is. reel_run_along job told _ _ _ (first.run is) (second.run is) (second.none_lost is);
     none_lost = λ is k. keeps_along (HasAcked job k) _ _ _ (first.run is).extends (second.run is).extends (first.none_lost is k) (second.none_lost is k);
     spares = λ is. spares_along _ _ _ (IsRunFile job before) (first.run is).extends (second.run is).extends (first.spares is)
@@ -87,73 +87,70 @@ caused_as a b c d a2 c2 Failed Later first second failed caused = record {
   failed = λ is. subst (λ n. HasRisen n b ⊎ HasRisen c d) first (subst (λ n. HasRisen a2 b ⊎ HasRisen n d) second (caused.failed (failed is)));
 }
 
-module _ {D E : Type 0} (old_faults : D → ℕ) (old_loans : D → List Loan) (faults : E → ℕ) (loans : E → List Loan) where
-  -- nothing was asked of either disk
-  pub both_itself : (Failed : Type 0) → (Failed → ⊥) → (old : D) (disk : E) → LeavesBoth old_faults old_loans faults loans Failed old old disk disk
-  both_itself Failed never old disk = record {
-    cause = record { old_later = omega arith; later = omega arith; failed = λ is. absurd (never is) };
-    steady = λ none. refl;
-    old_steady = λ none. refl;
-    lent = refl;
-    old_lent = refl;
-  }
+-- nothing was asked of either disk
+pub both_itself : {Failed : Type 0} {old disk : DiskState} → (Failed → ⊥) → LeavesBoth Failed old old disk disk
+both_itself never = record {
+  cause = record { old_later = omega arith; later = omega arith; failed = λ is. absurd (never is) };
+  steady = λ none. refl;
+  old_steady = λ none. refl;
+  lent = refl;
+  old_lent = refl;
+}
 
-  -- something was asked of the old one
-  pub old_asked : (Failed : Type 0) (old new : D) (disk : E) → HasCause (old_faults old) (old_faults new) Failed → ((Failed → ⊥) → old_faults new ≡ old_faults old) → old_loans new ≡ old_loans old
-      → LeavesBoth old_faults old_loans faults loans Failed old new disk disk
-  old_asked Failed old new disk cause steady lent = record {
-    cause = record { old_later = cause.later; later = omega arith; failed = λ is. inl (cause.failed is) };
-    steady = λ none. refl;
-    old_steady = steady;
-    lent = refl;
-    old_lent = lent;
-  }
+-- something was asked of the old one
+pub old_asked : {Failed : Type 0} {old new disk : DiskState} → LeavesDisk Failed old new → LeavesBoth Failed old new disk disk
+old_asked asked = record {
+  cause = record { old_later = asked.counts.cause.later; later = omega arith; failed = λ is. inl (asked.counts.cause.failed is) };
+  steady = λ none. refl;
+  old_steady = asked.counts.steady;
+  lent = refl;
+  old_lent = asked.lent;
+}
 
-  -- something was asked of the new one
-  pub new_asked : (Failed : Type 0) (old : D) (disk after : E) → HasCause (faults disk) (faults after) Failed → ((Failed → ⊥) → faults after ≡ faults disk) → loans after ≡ loans disk
-      → LeavesBoth old_faults old_loans faults loans Failed old old disk after
-  new_asked Failed old disk after cause steady lent = record {
-    cause = record { old_later = omega arith; later = cause.later; failed = λ is. inr (cause.failed is) };
-    steady = steady;
-    old_steady = λ none. refl;
-    lent = lent;
-    old_lent = refl;
-  }
+-- something was asked of the new one
+pub new_asked : {Failed : Type 0} {old disk after : DiskState} → LeavesDisk Failed disk after → LeavesBoth Failed old old disk after
+new_asked asked = record {
+  cause = record { old_later = omega arith; later = asked.counts.cause.later; failed = λ is. inr (asked.counts.cause.failed is) };
+  steady = asked.counts.steady;
+  old_steady = λ none. refl;
+  lent = asked.lent;
+  old_lent = refl;
+}
 
-  -- calls of which none failed went before, and what is a failure is told otherwise
-  pub both_behind : (Failed Later : Type 0) → (Later → Failed) → (Failed → Later) → (old mid new : D) (disk between after : E)
-      → old_faults mid ≡ old_faults old → faults between ≡ faults disk → old_loans mid ≡ old_loans old → loans between ≡ loans disk
-      → LeavesBoth old_faults old_loans faults loans Failed mid new between after → LeavesBoth old_faults old_loans faults loans Later old new disk after
-  both_behind Failed Later to from old mid new disk between after old_steady steady old_lent lent leaves = record {
-    cause = caused_as _ _ _ _ _ _ Failed Later old_steady steady to leaves.cause;
-    steady = λ none. leaves.steady (λ failed. none (from failed)) ∙ steady;
-    old_steady = λ none. leaves.old_steady (λ failed. none (from failed)) ∙ old_steady;
-    lent = leaves.lent ∙ lent;
-    old_lent = leaves.old_lent ∙ old_lent;
-  }
+-- calls of which none failed went before, and what is a failure is told otherwise
+pub both_behind : {Failed Later : Type 0} → (Later → Failed) → (Failed → Later) → {old mid new disk between after : DiskState}
+    → mid.faults ≡ old.faults → between.faults ≡ disk.faults → mid.loans ≡ old.loans → between.loans ≡ disk.loans
+    → LeavesBoth Failed mid new between after → LeavesBoth Later old new disk after
+both_behind {Failed = Failed} {Later = Later} to from old_steady steady old_lent lent leaves = record {
+  cause = caused_as _ _ _ _ _ _ Failed Later old_steady steady to leaves.cause;
+  steady = λ none. leaves.steady (λ failed. none (from failed)) ∙ steady;
+  old_steady = λ none. leaves.old_steady (λ failed. none (from failed)) ∙ old_steady;
+  lent = leaves.lent ∙ lent;
+  old_lent = leaves.old_lent ∙ old_lent;
+}
 
-  -- what was taken over is counted, or the fault passed on
-  pub both_counted : (nothing : Unit {0}) (done : Adopted) (old new : D) (disk after : E) → LeavesBoth old_faults old_loans faults loans (IsErrOf {T = Unit {0}} {E = AdoptFault} (Ok nothing) DiskFault) old new disk after
-      → LeavesBoth old_faults old_loans faults loans (IsErrOf {T = Adopted} {E = AdoptFault} (Ok done) DiskFault) old new disk after
-  both_counted nothing done old new disk after = both_behind _ _ (λ is. absurd (never is)) (λ is. absurd (none is)) old old new disk disk after refl refl refl refl
-    where
-      never : IsErrOf {T = Adopted} {E = AdoptFault} (Ok done) DiskFault → ⊥
-      never is = cc
+-- what was taken over is counted, or the fault passed on
+pub both_counted : (nothing : Unit {0}) (done : Adopted) {old new disk after : DiskState} → LeavesBoth (IsErrOf {T = Unit {0}} {E = AdoptFault} (Ok nothing) DiskFault) old new disk after
+    → LeavesBoth (IsErrOf {T = Adopted} {E = AdoptFault} (Ok done) DiskFault) old new disk after
+both_counted nothing done = both_behind (λ is. absurd (never is)) (λ is. absurd (none is)) refl refl refl refl
+  where
+    never : IsErrOf {T = Adopted} {E = AdoptFault} (Ok done) DiskFault → ⊥
+    never is = cc
 
-      none : IsErrOf {T = Unit {0}} {E = AdoptFault} (Ok nothing) DiskFault → ⊥
-      none is = cc
+    none : IsErrOf {T = Unit {0}} {E = AdoptFault} (Ok nothing) DiskFault → ⊥
+    none is = cc
 
-  pub both_passed : (fault : AdoptFault) (old new : D) (disk after : E) → LeavesBoth old_faults old_loans faults loans (IsErrOf {T = Unit {0}} {E = AdoptFault} (Err fault) DiskFault) old new disk after
-      → LeavesBoth old_faults old_loans faults loans (IsErrOf {T = Adopted} {E = AdoptFault} (Err fault) DiskFault) old new disk after
-  both_passed fault old new disk after = both_behind _ _ (λ is. ap Err (here is)) (λ is. ap Err (there is)) old old new disk disk after refl refl refl refl
-    where
-      here : IsErrOf {T = Adopted} {E = AdoptFault} (Err fault) DiskFault → fault ≡ DiskFault
-      here is = cc
+pub both_passed : (fault : AdoptFault) {old new disk after : DiskState} → LeavesBoth (IsErrOf {T = Unit {0}} {E = AdoptFault} (Err fault) DiskFault) old new disk after
+    → LeavesBoth (IsErrOf {T = Adopted} {E = AdoptFault} (Err fault) DiskFault) old new disk after
+both_passed fault = both_behind (λ is. ap Err (here is)) (λ is. ap Err (there is)) refl refl refl refl
+  where
+    here : IsErrOf {T = Adopted} {E = AdoptFault} (Err fault) DiskFault → fault ≡ DiskFault
+    here is = cc
 
-      there : IsErrOf {T = Unit {0}} {E = AdoptFault} (Err fault) DiskFault → fault ≡ DiskFault
-      there is = cc
+    there : IsErrOf {T = Unit {0}} {E = AdoptFault} (Err fault) DiskFault → fault ≡ DiskFault
+    there is = cc
 
-module _ {D : Type 0} (job : JobData) (tells : Bool) (history : D → History) (reel : ReelView D) (of : IsReelOf job tells history reel) where
+module _ {D : Type 0} (job : JobData) (tells : Bool) (state : D → DiskState) (reel : ReelView D) (of : IsReelOf job tells state reel) where
   -- no more are adopted than there are frames
   of_job : (k : ℕ) (files : Files) → Acks reel.ledger.digest (length reel.ledger.gates) k files → HasAcked job k files
   of_job k files acks = subst (λ (d : List ℕ). Acks d (frames_of job) k files) of.digest (subst (λ (n : ℕ). Acks reel.ledger.digest n k files) of.size acks)
@@ -162,28 +159,28 @@ module _ {D : Type 0} (job : JobData) (tells : Bool) (history : D → History) (
   of_ledger k files acks = subst (λ (d : List ℕ). Acks d (length reel.ledger.gates) k files) (sym of.digest) (subst (λ (n : ℕ). Acks job.parts.digest n k files) (sym of.size) acks)
 
   -- the folder acknowledges the frames whose gates are open
-  pub flags_are : reel.ledger.closed ≡ false → tells ≡ true → AreFlagsOf job.parts.digest (frames_of job) (view_of (history reel.disk)) reel.ledger.gates
+  pub flags_are : reel.ledger.closed ≡ false → tells ≡ true → AreFlagsOf job.parts.digest (frames_of job) (view_of (state reel.disk).history) reel.ledger.gates
   flags_are is_open told =
       let agrees = of.agrees is_open told in
-      let view = view_of (history reel.disk) in
-      let here = view_is_image (moment_of (history reel.disk)) in
+      let view = view_of (state reel.disk).history in
+      let here = view_is_image (moment_of (state reel.disk).history) in
       record {
         size = of.size;
         flags_are = λ k. (
-          λ is. of_job k view ((agrees_shown (moment_of (history reel.disk)) reel.ledger agrees k view here).0 is),
-          λ acks. (agrees_shown (moment_of (history reel.disk)) reel.ledger agrees k view here).1 (of_ledger k view acks),
+          λ is. of_job k view ((agrees_shown (moment_of (state reel.disk).history) reel.ledger agrees k view here).0 is),
+          λ acks. (agrees_shown (moment_of (state reel.disk).history) reel.ledger agrees k view here).1 (of_ledger k view acks),
         );
       }
 
   -- and its ledger is the job's
-  pub is_fit : reel.ledger.closed ≡ false → tells ≡ true → IsFit job.parts.digest (frames_of job) (view_of (history reel.disk))
+  pub is_fit : reel.ledger.closed ≡ false → tells ≡ true → IsFit job.parts.digest (frames_of job) (view_of (state reel.disk).history)
   is_fit is_open told version in_force = by version in_force
     where
-      agrees : Agrees (moment_of (history reel.disk)) reel.ledger
+      agrees : Agrees (moment_of (state reel.disk).history) reel.ledger
       agrees = of.agrees is_open told
 
       view : Files
-      view = view_of (history reel.disk)
+      view = view_of (state reel.disk).history
 
       by : (v : Version) → IsInForce v view → HasOwn v job.parts.digest (frames_of job) view
       by Two two = subst (λ (d : List ℕ). HasOwn Two d (frames_of job) view) of.digest (subst (λ (n : ℕ). HasOwn Two reel.ledger.digest n view) of.size agrees.has)

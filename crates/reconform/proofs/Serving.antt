@@ -1,14 +1,14 @@
 -- What a frame gets of its donor.
 use Rattle.std.proofs.Common.{◌≡◌, inl, inr, ℕ, ◌+◌, ◌<◌, Bool, true, false, List, get_or, set, length, drop, refl, sym, ap, ◌∙◌, subst, arith, Option}
-use Rattle.std.specs.Prelude.{Some, None, IfSome, ◌⊎◌, ◌↔◌, Result, Ok, Err, IfOk, IsErr, OnOk}
+use Rattle.std.specs.Prelude.{Some, None, IfSome, ◌⊎◌, ◌↔◌, Result, Ok, Err, IfOk, OnOk}
 use Rattle.std.specs.BTreeMap.{BTreeMap}
 use Rattle.std.proofs.lemmas.Bool.{cases_eq, cases_lt, false≢true}
 use Rattle.std.proofs.lemmas.List.{get_or-set_same, get_or-set_other, length-set}
+use Rattle.reel_disk.specs.State.{DiskState}
 use Rattle.scan_source.specs.World.{World, file_at}
 use Rattle.conform_job.specs.Job.{JobData, file_of}
 use Rattle.frame_render.specs.Frame.{frame_file}
-use Rattle.reel_disk.specs.Disk.{Files, History, view_of}
-use Rattle.reel_disk.specs.Loan.{Loan}
+use Rattle.reel_disk.specs.Disk.{Files, view_of}
 use Rattle.resume_ledger.specs.Look.{ViewState, IsViewOf}
 use Rattle.reel_writer.specs.Reel.{frames_of}
 use Rattle.reel_writer.specs.View.{ReelView, after_finish, after_fault}
@@ -146,10 +146,6 @@ pub on_ok : {A E : Type 0} (r : Result A E) (P Q : Type 0) → (P → Q) → OnO
 on_ok (Ok a) P Q f p = f p
 on_ok (Err e) P Q f p = tt
 
-pub where_ok : {A E : Type 0} (r : Result A E) (P : Type 0) → OnOk r P → (IsErr r → ⊥) → P
-where_ok (Ok a) P p none = p
-where_ok (Err e) P p none = absurd (none refl)
-
 module _ {D : Type 0} (old : ReelView D) (i : ℕ) (disk : D) (new : ReelView D) where
   pub same_finish : get_or old.ledger.gates i false ≡ false → new ≡ after_finish old i disk → IsSameReel old new
   same_finish fresh is = record {
@@ -175,27 +171,27 @@ pub same_along : {D : Type 0} (old mid new : ReelView D) → IsSameReel old mid 
 same_along old mid new first second = record { kept = second.kept ∙ first.kept; size = second.size ∙ first.size; grows = λ k was. second.grows k (first.grows k was) }
 
 -- no room: nothing was taken over
-pub adopted_none : {D E : Type 0} (new old : JobData) (told : Option World) (tells : Bool) (history : D → History) (reel_tells : Bool) (reel_history : E → History) (view : ViewState) (disk : D) (reel : ReelView E)
-    → HasAdopted new old told tells history reel_tells reel_history view (Err NoMemory) disk disk reel reel
-adopted_none new old told tells history reel_tells reel_history view disk reel = record {
+pub adopted_none : {D E : Type 0} (new old : JobData) (told : Option World) (tells : Bool) (state : D → DiskState) (reel_tells : Bool) (reel_state : E → DiskState) (view : ViewState) (disk : D) (reel : ReelView E)
+    → HasAdopted new old told tells state reel_tells reel_state view (Err NoMemory) disk disk reel reel
+adopted_none new old told tells state reel_tells reel_state view disk reel = record {
   served = tt;
   stays = same_itself reel;
   stays_open = tt;
   end = inr refl;
-  part = part_itself new told reel_tells reel_history reel.ledger.gates reel.disk;
-  still = λ is. still_itself (history disk);
+  part = part_itself;
+  still = λ is. still_itself (state disk).history;
 }
 
 -- nothing is to be done for a frame
-pub nothing_done : {D E : Type 0} (new old : JobData) (told : Option World) (tells : Bool) (history : D → History) (faults : D → ℕ) (loans : D → List Loan)
-    (reel_tells : Bool) (reel_history : E → History) (reel_faults : E → ℕ) (reel_loans : E → List Loan) (view : ViewState) (i : ℕ) (disk : D) (reel : ReelView E)
-    → reel.ledger.closed ≡ false → (tells ≡ true → IsServed new old view (view_of (history disk)) i reel.ledger.gates reel.ledger.gates)
-    → HasServed new old told tells history faults loans reel_tells reel_history reel_faults reel_loans view i (Ok tt) disk disk reel reel
-nothing_done new old told tells history faults loans reel_tells reel_history reel_faults reel_loans view i disk reel is_open served = record {
+pub nothing_done : {D E : Type 0} (new old : JobData) (told : Option World) (tells : Bool) (state : D → DiskState)
+    (reel_tells : Bool) (reel_state : E → DiskState) (view : ViewState) (i : ℕ) (disk : D) (reel : ReelView E)
+    → reel.ledger.closed ≡ false → (tells ≡ true → IsServed new old view (view_of (state disk).history) i reel.ledger.gates reel.ledger.gates)
+    → HasServed new old told tells state reel_tells reel_state view i (Ok tt) disk disk reel reel
+nothing_done new old told tells state reel_tells reel_state view i disk reel is_open served = record {
   served = served;
   stays = same_itself reel;
   stays_open = is_open;
-  part = part_itself new told reel_tells reel_history reel.ledger.gates reel.disk;
-  still = λ is. still_itself (history disk);
-  disks = both_itself faults loans reel_faults reel_loans _ (λ is. cc) disk reel.disk;
+  part = part_itself;
+  still = λ is. still_itself (state disk).history;
+  disks = both_itself (λ is. cc);
 }

@@ -5,13 +5,13 @@
 --     CanServe      what the old folder has to be, where the source files are told
 --     WasAdopted      which frames are acknowledged at the end, and how many of them were adopted
 --     IsWhyUnadopted      why there was no adoption
---     LeavesDisks      what a call leaves of the two disks, whatever it comes to
+--     LeavesBoth      what a call leaves of the two disks, whatever it comes to
 use Rattle.std.specs.Prelude.{◌≡◌, ◌≢◌, ◌⊎◌, ◌↔◌, ℕ, ◌+◌, ◌<◌, ◌≤◌, Bool, true, false, List, count_by, slice_index_or, Result, Ok, Err}
 use Rattle.cf_base.specs.Count.{HasRisen}
 use Rattle.scan_source.specs.World.{World, file_at}
 use Rattle.conform_job.specs.Job.{JobData}
 use Rattle.reel_disk.specs.Disk.{Files, History, view_of}
-use Rattle.reel_disk.specs.Loan.{Loan}
+use Rattle.reel_disk.specs.State.{DiskState}
 use Rattle.resume_ledger.specs.Attach.{IsOtherJob, IsBadLedger}
 use Rattle.resume_ledger.specs.Ledger.{IsFit, AreFlagsOf}
 use Rattle.resume_ledger.specs.Look.{ViewState, IsViewOf}
@@ -90,16 +90,11 @@ pub record IsCaused (old_before old_after before after : ℕ) (Failed : Type 0) 
 
 -- What a call leaves of two disks, the old one first. Both are lent as they were. A failure has its cause in the count of one of
 -- them, and else both counts stay.
-pub record LeavesBoth {D E : Type 0} (old_faults : D → ℕ) (old_loans : D → List Loan) (faults : E → ℕ)
-    (loans : E → List Loan) (Failed : Type 0) (old old_after : D) (disk disk_after : E) : Type 0 where
-  pub cause : IsCaused (old_faults old) (old_faults old_after) (faults disk) (faults disk_after) Failed
-  pub steady : (Failed → ⊥) → faults disk_after ≡ faults disk
-  pub old_steady : (Failed → ⊥) → old_faults old_after ≡ old_faults old
-  pub lent : loans disk_after ≡ loans disk
-  pub old_lent : old_loans old_after ≡ old_loans old
-
--- the same of two disks of one kind
-abbrev pub LeavesDisks : {D : Type 0} → (D → ℕ) → (D → List Loan) → (Failed : Type 0) → (old old_after disk disk_after : D) → Type 0
-LeavesDisks faults loans Failed old old_after disk disk_after = LeavesBoth faults loans faults loans Failed old old_after disk disk_after
+pub record LeavesBoth (Failed : Type 0) (old old_after disk disk_after : DiskState) : Type 0 where
+  pub cause : IsCaused old.faults old_after.faults disk.faults disk_after.faults Failed
+  pub steady : (Failed → ⊥) → disk_after.faults ≡ disk.faults
+  pub old_steady : (Failed → ⊥) → old_after.faults ≡ old.faults
+  pub lent : disk_after.loans ≡ disk.loans
+  pub old_lent : old_after.loans ≡ old.loans
 
 -- The rest is said of the frames as they are taken in order.

@@ -7,7 +7,7 @@ ghost use Rattle.resume_ledger.specs.Sound.{WritesOnly};
 ghost use Rattle.reel_writer.specs.Changes.{IsOwnFile, MayWrite};
 ghost use Rattle.reel_writer.specs.Reel.{frames_of, HasFrameFiles, IsReelRun, IsSoundReel};
 ghost use Rattle.scan_source.specs.World.{World};
-ghost use Rattle.reconform.specs.Adopt.{CanServe, HasAnswered, IsOfOld, LeavesBoth, LeavesDisks};
+ghost use Rattle.reconform.specs.Adopt.{CanServe, HasAnswered, IsOfOld, LeavesBoth, LeavesBoth};
 ghost use Rattle.reconform.specs.inside.Adopt.{AsOpenedFor, by_new, by_old};
 ghost use Rattle.reconform.specs.inside.Parts.{IsPart, IsSafeAdoption, WasLookedAt};
 
@@ -66,34 +66,35 @@ pub fn adopt<N: Work, O: Work, D: Disk, H: Hasher>(
     requires new_job { new_job.now ≡ N.job }
     requires old_job { old_job.now ≡ O.job }
     requires one_world { O.files ≡ N.files }
-    requires can_serve { IfSome N.files (λ world. CanServe N.job O.job world D.tells (view_of (D.history old.old))) }
+    requires can_serve { IfSome N.files (λ world. CanServe N.job O.job world D.tells (view_of (D.state old.old).history)) }
 
     // At Ok, which frames are acknowledged now, and how many were before; else why, the old folder first.
-    ensures answer { HasAnswered N.job O.job D.tells (D.history old.old) (D.history old.new)
-        (D.history disk.old) (D.history disk.new) result }
+    ensures answer { HasAnswered N.job O.job D.tells (D.state old.old).history (D.state old.new).history
+        (D.state disk.old).history (D.state disk.new).history result }
     ensures untouched { IfErr result (λ fault. IsOfOld fault → disk.new ≡ disk.old) }
 
     // A crash at any moment leaves only frames acknowledged that are the reel's. No acknowledgement is lost, where each frame
     // that version 1 of the ledger acknowledged at the start had a file of a frame's length, as sound files have.
-    ensures run { D.tells ≡ true → IsReelRun N.job N.files (D.history disk.old) (D.history disk.new) }
+    ensures run { D.tells ≡ true → IsReelRun N.job N.files (D.state disk.old).history (D.state disk.new).history }
     ensures sound_has { (world : World) (files : Files) → IsSoundReel N.job world files
         → HasFrameFiles N.job files }
 
     // At Ok the new folder is sealed by version 2, so the next opening keeps each frame that it acknowledges.
-    ensures sealed { IfOk result (λ done. D.tells ≡ true → IsInForce Version.Two (view_of (D.history disk.new))) }
+    ensures sealed { IfOk result (λ done. D.tells ≡ true → IsInForce Version.Two (view_of (D.state disk.new).history)) }
 
     // In the new folder no file is changed but the ledger's and those of frames that the opening didn't keep. Of the
     // ledger's those of version 2 alone are written.
     ensures spares { D.tells ≡ true
-        → Spares (D.history disk.old) (D.history disk.new) (IsOwnFile N.job (view_of (D.history disk.old))) }
+        → Spares (D.state disk.old).history (D.state disk.new).history (IsOwnFile N.job (view_of (D.state disk.old).history)) }
     ensures writes { D.tells ≡ true
-        → WritesOnly (D.history disk.old) (D.history disk.new) (MayWrite N.job (view_of (D.history disk.old))) }
+        → WritesOnly (D.state disk.old).history (D.state disk.new).history (MayWrite N.job (view_of (D.state disk.old).history)) }
 
     // What the old folder holds stays as it is, at every moment and whatever the answer is.
-    ensures still { D.tells ≡ true → IsStill (D.history old.old) (D.history old.new) }
+    ensures still { D.tells ≡ true → IsStill (D.state old.old).history (D.state old.new).history }
 
     // Both disks are lent as they were. The count of one of them rose where a disk failed, and else both stay.
-    ensures disks { LeavesDisks D.faults D.loans (IsErrOf result AdoptFault.DiskFault) old.old old.new disk.old disk.new }
+    ensures disks { LeavesBoth (IsErrOf result AdoptFault.DiskFault) (D.state old.old) (D.state old.new) (D.state disk.old)
+        (D.state disk.new) }
 {
     let (result, _) = adopt_into::<N, O, D, _, H>(alloc, new_job, old_job, old, &mut *disk, hasher);
     result
@@ -111,15 +112,16 @@ fn adopt_into<N: Work, O: Work, D: Disk, E: Disk, H: Hasher>(
     requires can_hash { H.can_hash }
     requires new_job { new_job.now ≡ N.job }
     requires old_job { old_job.now ≡ O.job }
-    requires can_serve { IfSome N.files (λ world. CanServe N.job O.job world D.tells (view_of (D.history old.old))) }
+    requires can_serve { IfSome N.files (λ world. CanServe N.job O.job world D.tells (view_of (D.state old.old).history)) }
     requires tells { D.tells ≡ E.tells }
-    ensures answer { HasAnswered N.job O.job E.tells (D.history old.old) (D.history old.new)
-        (E.history disk) (E.history result.1) result.0 }
+    ensures answer { HasAnswered N.job O.job E.tells (D.state old.old).history (D.state old.new).history
+        (E.state disk).history (E.state result.1).history result.0 }
     ensures untouched { IfErr result.0 (λ fault. IsOfOld fault → result.1 ≡ disk) }
-    ensures safe { IsSafeAdoption N.job N.files E.tells E.history disk result.1 }
-    ensures sealed { IfOk result.0 (λ done. E.tells ≡ true → IsInForce Version.Two (view_of (E.history result.1))) }
-    ensures still { D.tells ≡ true → IsStill (D.history old.old) (D.history old.new) }
-    ensures disks { LeavesBoth D.faults D.loans E.faults E.loans (IsErrOf result.0 AdoptFault.DiskFault) old.old old.new disk result.1 }
+    ensures safe { IsSafeAdoption N.job N.files E.tells (E.state disk) (E.state result.1) }
+    ensures sealed { IfOk result.0 (λ done. E.tells ≡ true → IsInForce Version.Two (view_of (E.state result.1).history)) }
+    ensures still { D.tells ≡ true → IsStill (D.state old.old).history (D.state old.new).history }
+    ensures disks { LeavesBoth (IsErrOf result.0 AdoptFault.DiskFault) (D.state old.old) (D.state old.new) (E.state disk)
+        (E.state result.1) }
 {
     new_job.recall();
     match Ledger::look(alloc, old, old_job.digest(), old_job.timeline().count()) {
@@ -142,14 +144,15 @@ fn adopt_owned<N: Work, O: Work, D: Disk, E: Disk, H: Hasher>(
     requires new_job { new_job.now ≡ N.job }
     requires old_job { old_job.now ≡ O.job }
     requires tells { D.tells ≡ E.tells }
-    requires looked { WasLookedAt N.job O.job N.files D.tells (view_of (D.history old.old)) view.now }
-    ensures answer { HasAnswered N.job O.job E.tells (D.history old.old) (D.history old.new)
-        (E.history disk) (E.history result.1) result.0 }
+    requires looked { WasLookedAt N.job O.job N.files D.tells (view_of (D.state old.old).history) view.now }
+    ensures answer { HasAnswered N.job O.job E.tells (D.state old.old).history (D.state old.new).history
+        (E.state disk).history (E.state result.1).history result.0 }
     ensures not_old { IfErr result.0 (λ fault. IsOfOld fault → ⊥) }
-    ensures safe { IsSafeAdoption N.job N.files E.tells E.history disk result.1 }
-    ensures sealed { IfOk result.0 (λ done. E.tells ≡ true → IsInForce Version.Two (view_of (E.history result.1))) }
-    ensures still { D.tells ≡ true → IsStill (D.history old.old) (D.history old.new) }
-    ensures disks { LeavesBoth D.faults D.loans E.faults E.loans (IsErrOf result.0 AdoptFault.DiskFault) old.old old.new disk result.1 }
+    ensures safe { IsSafeAdoption N.job N.files E.tells (E.state disk) (E.state result.1) }
+    ensures sealed { IfOk result.0 (λ done. E.tells ≡ true → IsInForce Version.Two (view_of (E.state result.1).history)) }
+    ensures still { D.tells ≡ true → IsStill (D.state old.old).history (D.state old.new).history }
+    ensures disks { LeavesBoth (IsErrOf result.0 AdoptFault.DiskFault) (D.state old.old) (D.state old.new) (E.state disk)
+        (E.state result.1) }
 {
     match Reel::<E, N>::begin(alloc, disk, new_job) {
         Ok(reel) => adopt_opened::<N, O, D, E, H>(alloc, new_job, old_job, old, view, reel, hasher),
@@ -194,15 +197,15 @@ fn adopt_opened<N: Work, O: Work, D: Disk, E: Disk, H: Hasher>(
     requires can_hash { H.can_hash }
     requires new_job { new_job.now ≡ N.job }
     requires old_job { old_job.now ≡ O.job }
-    requires looked { WasLookedAt N.job O.job N.files D.tells (view_of (D.history old.old)) view.now }
+    requires looked { WasLookedAt N.job O.job N.files D.tells (view_of (D.state old.old).history) view.now }
     requires is_open { reel.ledger.closed ≡ false }
     requires size { length reel.ledger.gates ≡ frames_of N.job }
-    ensures answer { AsOpenedFor N.job O.job D.tells view.now (D.history old.old) E.tells E.history reel result }
-    ensures part { IsPart N.job N.files E.tells E.history reel.ledger.gates reel.disk result.1 }
-    ensures sealed { IfOk result.0 (λ done. E.tells ≡ true → IsInForce Version.Two (view_of (E.history result.1))) }
-    ensures still { D.tells ≡ true → IsStill (D.history old.old) (D.history old.new) }
-    ensures disks { LeavesBoth D.faults D.loans E.faults E.loans (IsErrOf result.0 AdoptFault.DiskFault)
-        old.old old.new reel.disk result.1 }
+    ensures answer { AsOpenedFor N.job O.job D.tells view.now (D.state old.old).history E.tells E.state reel result }
+    ensures part { IsPart N.job N.files E.tells reel.ledger.gates (E.state reel.disk) (E.state result.1) }
+    ensures sealed { IfOk result.0 (λ done. E.tells ≡ true → IsInForce Version.Two (view_of (E.state result.1).history)) }
+    ensures still { D.tells ≡ true → IsStill (D.state old.old).history (D.state old.new).history }
+    ensures disks { LeavesBoth (IsErrOf result.0 AdoptFault.DiskFault)
+        (D.state old.old) (D.state old.new) (E.state reel.disk) (E.state result.1) }
 {
     let mut reel = reel;
     match adopt_alike::<N, O, D, E, H>(alloc, new_job, old_job, old, view, &mut reel, hasher) {

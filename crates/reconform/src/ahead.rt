@@ -4,7 +4,7 @@ ghost use Rattle.std.specs.Prelude.{◌≡◌, ◌<◌, true, Some, length, slic
 ghost use Rattle.frame_hash.specs.declared.Room.{Room};
 ghost use Rattle.frame_render.specs.Frame.{frame_size};
 ghost use Rattle.reel_disk.specs.Disk.{view_of, IsStill};
-ghost use Rattle.reel_writer.specs.Leaves.{LeavesDisk};
+ghost use Rattle.reel_disk.specs.State.{LeavesDisk};
 ghost use Rattle.reel_writer.specs.Reel.{frames_of};
 ghost use Rattle.reconform.specs.inside.Ahead.{AreReady, HoldsDonor, HoldsFrame, IsKept};
 ghost use Rattle.reconform.specs.inside.Donor.{donor_in};
@@ -32,13 +32,13 @@ impl<H: Hasher> Takeover<'_, '_, '_, '_, '_, H> {
         rooms: &mut [Room],
     ) -> Result<(), DiskFault>
         requires can_hash { H.can_hash }
-        requires can { CanTake N.job O.job N.files D.tells (view_of (D.history old.old))
+        requires can { CanTake N.job O.job N.files D.tells (view_of (D.state old.old).history)
             self.now.new_job.now self.now.old_job.now self.now.view.now self.now.donors.now.by_plan }
         requires size { All (λ room. length room.bytes.items ≡ frame_size N.job) rooms.old }
-        ensures filled { OnOk result (AreReady N.job O.job N.files D.tells self.now.view.now (view_of (D.history old.old))
+        ensures filled { OnOk result (AreReady N.job O.job N.files D.tells self.now.view.now (view_of (D.state old.old).history)
             rooms.new) }
-        ensures still { D.tells ≡ true → IsStill (D.history old.old) (D.history old.new) }
-        ensures disk { LeavesDisk D.faults D.loans (IsErr result) old.old old.new }
+        ensures still { D.tells ≡ true → IsStill (D.state old.old).history (D.state old.new).history }
+        ensures disk { LeavesDisk (IsErr result) (D.state old.old) (D.state old.new) }
     {
         match self.read_ahead::<N, O, D, E>(old, reel, from, rooms) {
             Ok(()) => {
@@ -63,10 +63,10 @@ impl<H: Hasher> Takeover<'_, '_, '_, '_, '_, H> {
         requires old_job { self.now.old_job.now ≡ O.job }
         requires donors { HasDonors N.job O.job self.now.view.now.gates self.now.donors.now.by_plan }
         requires size { All (λ room. length room.bytes.items ≡ frame_size N.job) rooms.old }
-        ensures read { OnOk result (All (HoldsDonor N.job O.job D.tells (view_of (D.history old.old)) self.now.donors.now.by_plan)
+        ensures read { OnOk result (All (HoldsDonor N.job O.job D.tells (view_of (D.state old.old).history) self.now.donors.now.by_plan)
             rooms.new) }
-        ensures still { D.tells ≡ true → IsStill (D.history old.old) (D.history old.new) }
-        ensures disk { LeavesDisk D.faults D.loans (IsErr result) old.old old.new }
+        ensures still { D.tells ≡ true → IsStill (D.state old.old).history (D.state old.new).history }
+        ensures disk { LeavesDisk (IsErr result) (D.state old.old) (D.state old.new) }
     {
         let mut next = from;
         for n in 0..rooms.len() {
@@ -91,9 +91,10 @@ impl<H: Hasher> Takeover<'_, '_, '_, '_, '_, H> {
         requires old_job { self.now.old_job.now ≡ O.job }
         requires donors { HasDonors N.job O.job self.now.view.now.gates self.now.donors.now.by_plan }
         requires size { length room.old.bytes.items ≡ frame_size N.job }
-        ensures read { OnOk result (HoldsDonor N.job O.job D.tells (view_of (D.history old.old)) self.now.donors.now.by_plan room.new) }
-        ensures still { D.tells ≡ true → IsStill (D.history old.old) (D.history old.new) }
-        ensures disk { LeavesDisk D.faults D.loans (IsErr result) old.old old.new }
+        ensures read { OnOk result
+            (HoldsDonor N.job O.job D.tells (view_of (D.state old.old).history) self.now.donors.now.by_plan room.new) }
+        ensures still { D.tells ≡ true → IsStill (D.state old.old).history (D.state old.new).history }
+        ensures disk { LeavesDisk (IsErr result) (D.state old.old) (D.state old.new) }
     {
         room.frame = None;
         let end = self.new_job.count();
@@ -133,11 +134,11 @@ impl<H: Hasher> Takeover<'_, '_, '_, '_, '_, H> {
 
     /// Makes of each donor's file that of its frame, where the donor is intact; the rooms of others are free then.
     fn dress_all<N: Work, O: Work, D: Disk>(&self, _old: &D, rooms: &mut [Room])
-        requires can { CanTake N.job O.job N.files D.tells (view_of (D.history _old.now))
+        requires can { CanTake N.job O.job N.files D.tells (view_of (D.state _old.now).history)
             self.now.new_job.now self.now.old_job.now self.now.view.now self.now.donors.now.by_plan }
-        requires read { All (HoldsDonor N.job O.job D.tells (view_of (D.history _old.now)) self.now.donors.now.by_plan) rooms.old }
+        requires read { All (HoldsDonor N.job O.job D.tells (view_of (D.state _old.now).history) self.now.donors.now.by_plan) rooms.old }
         requires digests { All (λ room. IfSome room.frame (λ i. room.digest ≡ sha256 room.bytes.items)) rooms.old }
-        ensures frames { All (HoldsFrame N.job O.job N.files D.tells self.now.view.now (view_of (D.history _old.now))) rooms.new }
+        ensures frames { All (HoldsFrame N.job O.job N.files D.tells self.now.view.now (view_of (D.state _old.now).history)) rooms.new }
     {
         for n in 0..rooms.len() {
             self.dress::<N, O, D>(_old, &mut rooms[n]);
@@ -146,11 +147,11 @@ impl<H: Hasher> Takeover<'_, '_, '_, '_, '_, H> {
 
     /// The same of one room. Nothing is read of the old folder.
     fn dress<N: Work, O: Work, D: Disk>(&self, _old: &D, room: &mut Room)
-        requires can { CanTake N.job O.job N.files D.tells (view_of (D.history _old.now))
+        requires can { CanTake N.job O.job N.files D.tells (view_of (D.state _old.now).history)
             self.now.new_job.now self.now.old_job.now self.now.view.now self.now.donors.now.by_plan }
-        requires read { HoldsDonor N.job O.job D.tells (view_of (D.history _old.now)) self.now.donors.now.by_plan room.old }
+        requires read { HoldsDonor N.job O.job D.tells (view_of (D.state _old.now).history) self.now.donors.now.by_plan room.old }
         requires digest { IfSome room.old.frame (λ i. room.old.digest ≡ sha256 room.old.bytes.items) }
-        ensures frame { HoldsFrame N.job O.job N.files D.tells self.now.view.now (view_of (D.history _old.now)) room.new }
+        ensures frame { HoldsFrame N.job O.job N.files D.tells self.now.view.now (view_of (D.state _old.now).history) room.new }
     {
         if let Some(i) = room.frame {
             if self.is_kept::<N, O>(i, &room.digest) {

@@ -2,11 +2,10 @@
 ghost use Rattle.std.specs.Prelude.{◌≡◌, ◌<◌, ◌↔◌, true, false, drop, length, set, slice_index_or, IfOk, IfSome, OnOk, IsErr, IsErrOf};
 ghost use Rattle.sha2.specs.Sha256.{sha256};
 ghost use Rattle.frame_hash.specs.Rooms.{IsFree};
-ghost use Rattle.cf_base.specs.Count.{HasCause};
 ghost use Rattle.frame_render.specs.Frame.{IsFileOf, frame_file, frame_size};
 ghost use Rattle.scan_source.specs.World.{file_at};
 ghost use Rattle.reel_disk.specs.Disk.{view_of, IsStill};
-ghost use Rattle.reel_writer.specs.Leaves.{LeavesDisk};
+ghost use Rattle.reel_disk.specs.State.{LeavesDisk};
 ghost use Rattle.reel_writer.specs.Reel.{frames_of};
 ghost use Rattle.reconform.specs.Adopt.{LeavesBoth};
 ghost use Rattle.reconform.specs.inside.Adopt.{IsSameReel};
@@ -39,19 +38,17 @@ impl<H: Hasher> Takeover<'_, '_, '_, '_, '_, H> {
         i: u32,
         file: &mut [u8],
     ) -> Result<bool, DiskFault>
-        requires can { CanTake N.job O.job N.files D.tells (view_of (D.history old.old))
+        requires can { CanTake N.job O.job N.files D.tells (view_of (D.state old.old).history)
             self.now.new_job.now self.now.old_job.now self.now.view.now self.now.donors.now.by_plan }
         requires index { i < frames_of N.job }
         requires file { length file.old ≡ frame_size O.job }
         ensures intact { IfOk result (λ is. D.tells ≡ true
-            → (is ≡ true) ↔ HasIntactDonor N.job O.job self.now.view.now (view_of (D.history old.old)) i) }
+            → (is ≡ true) ↔ HasIntactDonor N.job O.job self.now.view.now (view_of (D.state old.old).history) i) }
         ensures pixels { IfOk result (λ is. is ≡ true → IfSome N.files (λ world.
             drop 2048 file.new ≡ drop 2048 (frame_file N.job (file_at world) i))) }
         ensures file { length file.new ≡ frame_size O.job }
-        ensures still { D.tells ≡ true → IsStill (D.history old.old) (D.history old.new) }
-        ensures same { D.loans old.new ≡ D.loans old.old }
-        ensures cause { HasCause (D.faults old.old) (D.faults old.new) (IsErr result) }
-        ensures steady { OnOk result (D.faults old.new ≡ D.faults old.old) }
+        ensures still { D.tells ≡ true → IsStill (D.state old.old).history (D.state old.new).history }
+        ensures disk { LeavesDisk (IsErr result) (D.state old.old) (D.state old.new) }
     {
         match self.donors.get(plan_at(self.new_job, i)) {
             Some(j) => read_intact(old, self.old_job, self.view, j, file),
@@ -77,10 +74,8 @@ impl<H: Hasher> Takeover<'_, '_, '_, '_, '_, H> {
         ensures finished { OnOk result (reel.new.ledger.gates ≡ set reel.old.ledger.gates i true) }
         ensures stays { IsSameReel reel.old reel.new }
         ensures stays_open { OnOk result (reel.new.ledger.closed ≡ false) }
-        ensures part { IsPart N.job N.files E.tells E.history reel.old.ledger.gates reel.old.disk reel.new.disk }
-        ensures same { E.loans reel.new.disk ≡ E.loans reel.old.disk }
-        ensures cause { HasCause (E.faults reel.old.disk) (E.faults reel.new.disk) (IsErr result) }
-        ensures steady { OnOk result (E.faults reel.new.disk ≡ E.faults reel.old.disk) }
+        ensures part { IsPart N.job N.files E.tells reel.old.ledger.gates (E.state reel.old.disk) (E.state reel.new.disk) }
+        ensures disk { LeavesDisk (IsErr result) (E.state reel.old.disk) (E.state reel.new.disk) }
     {
         let bytes = replace(&mut room.bytes, Vec::new(self.alloc));
         let hashed = Hashed::with(Rendered::<N>::of_file(self.new_job, i, bytes), room.digest);
@@ -102,7 +97,7 @@ impl<H: Hasher> Takeover<'_, '_, '_, '_, '_, H> {
         i: u32,
         room: &mut Room,
     ) -> Result<(), DiskFault>
-        requires can { CanTake N.job O.job N.files D.tells (view_of (D.history old.old))
+        requires can { CanTake N.job O.job N.files D.tells (view_of (D.state old.old).history)
             self.now.new_job.now self.now.old_job.now self.now.view.now self.now.donors.now.by_plan }
         requires index { i < frames_of N.job }
         requires size { length room.old.bytes.items ≡ frame_size N.job }
@@ -110,7 +105,7 @@ impl<H: Hasher> Takeover<'_, '_, '_, '_, '_, H> {
         requires flags { length reel.old.ledger.gates ≡ frames_of N.job }
         requires fresh { slice_index_or reel.old.ledger.gates i false ≡ false }
         ensures free { OnOk result (IsFree (frame_size N.job) room.new) }
-        ensures done { HasServed N.job O.job N.files D.tells D.history D.faults D.loans E.tells E.history E.faults E.loans
+        ensures done { HasServed N.job O.job N.files D.tells D.state E.tells E.state
             self.now.view.now i result old.old old.new reel.old reel.new }
     {
         room.frame = None;
@@ -135,16 +130,16 @@ impl<H: Hasher> Takeover<'_, '_, '_, '_, '_, H> {
         rooms: &mut [Room],
     ) -> Result<(), DiskFault>
         requires can_hash { H.can_hash }
-        requires can { CanTake N.job O.job N.files D.tells (view_of (D.history old.old))
+        requires can { CanTake N.job O.job N.files D.tells (view_of (D.state old.old).history)
             self.now.new_job.now self.now.old_job.now self.now.view.now self.now.donors.now.by_plan }
         requires index { i < frames_of N.job }
-        requires rooms { AreReady N.job O.job N.files D.tells self.now.view.now (view_of (D.history old.old)) rooms.old }
+        requires rooms { AreReady N.job O.job N.files D.tells self.now.view.now (view_of (D.state old.old).history) rooms.old }
         requires some { 0 < length rooms.old }
         requires is_open { reel.old.ledger.closed ≡ false }
         requires size { length reel.old.ledger.gates ≡ frames_of N.job }
 
-        ensures rooms { OnOk result (AreReady N.job O.job N.files D.tells self.now.view.now (view_of (D.history old.old)) rooms.new) }
-        ensures done { HasServed N.job O.job N.files D.tells D.history D.faults D.loans E.tells E.history E.faults E.loans
+        ensures rooms { OnOk result (AreReady N.job O.job N.files D.tells self.now.view.now (view_of (D.state old.old).history) rooms.new) }
+        ensures done { HasServed N.job O.job N.files D.tells D.state E.tells E.state
             self.now.view.now i result old.old old.new reel.old reel.new }
     {
         if reel.is_acked(i) {
@@ -165,16 +160,16 @@ impl<H: Hasher> Takeover<'_, '_, '_, '_, '_, H> {
         rooms: &mut [Room],
     ) -> Result<(), DiskFault>
         requires can_hash { H.can_hash }
-        requires can { CanTake N.job O.job N.files D.tells (view_of (D.history old.old))
+        requires can { CanTake N.job O.job N.files D.tells (view_of (D.state old.old).history)
             self.now.new_job.now self.now.old_job.now self.now.view.now self.now.donors.now.by_plan }
         requires index { i < frames_of N.job }
-        requires rooms { AreReady N.job O.job N.files D.tells self.now.view.now (view_of (D.history old.old)) rooms.old }
+        requires rooms { AreReady N.job O.job N.files D.tells self.now.view.now (view_of (D.state old.old).history) rooms.old }
         requires some { 0 < length rooms.old }
         requires is_open { reel.old.ledger.closed ≡ false }
         requires flags { length reel.old.ledger.gates ≡ frames_of N.job }
         requires fresh { slice_index_or reel.old.ledger.gates i false ≡ false }
-        ensures rooms { OnOk result (AreReady N.job O.job N.files D.tells self.now.view.now (view_of (D.history old.old)) rooms.new) }
-        ensures done { HasServed N.job O.job N.files D.tells D.history D.faults D.loans E.tells E.history E.faults E.loans
+        ensures rooms { OnOk result (AreReady N.job O.job N.files D.tells self.now.view.now (view_of (D.state old.old).history) rooms.new) }
+        ensures done { HasServed N.job O.job N.files D.tells D.state E.tells E.state
             self.now.view.now i result old.old old.new reel.old reel.new }
     {
         if let Err(DiskFault) = self.make_ready::<N, O, D, E>(old, reel, i, rooms) {
@@ -192,12 +187,12 @@ impl<H: Hasher> Takeover<'_, '_, '_, '_, '_, H> {
         rooms: &mut [Room],
     ) -> Result<(), DiskFault>
         requires can_hash { H.can_hash }
-        requires can { CanTake N.job O.job N.files D.tells (view_of (D.history old.old))
+        requires can { CanTake N.job O.job N.files D.tells (view_of (D.state old.old).history)
             self.now.new_job.now self.now.old_job.now self.now.view.now self.now.donors.now.by_plan }
-        requires rooms { AreReady N.job O.job N.files D.tells self.now.view.now (view_of (D.history old.old)) rooms.old }
-        ensures rooms { OnOk result (AreReady N.job O.job N.files D.tells self.now.view.now (view_of (D.history old.old)) rooms.new) }
-        ensures still { D.tells ≡ true → IsStill (D.history old.old) (D.history old.new) }
-        ensures disk { LeavesDisk D.faults D.loans (IsErr result) old.old old.new }
+        requires rooms { AreReady N.job O.job N.files D.tells self.now.view.now (view_of (D.state old.old).history) rooms.old }
+        ensures rooms { OnOk result (AreReady N.job O.job N.files D.tells self.now.view.now (view_of (D.state old.old).history) rooms.new) }
+        ensures still { D.tells ≡ true → IsStill (D.state old.old).history (D.state old.new).history }
+        ensures disk { LeavesDisk (IsErr result) (D.state old.old) (D.state old.new) }
     {
         if are_free(rooms) {
             return self.fill_rooms::<N, O, D, E>(old, reel, i, rooms);
@@ -213,16 +208,16 @@ impl<H: Hasher> Takeover<'_, '_, '_, '_, '_, H> {
         i: u32,
         rooms: &mut [Room],
     ) -> Result<(), DiskFault>
-        requires can { CanTake N.job O.job N.files D.tells (view_of (D.history old.old))
+        requires can { CanTake N.job O.job N.files D.tells (view_of (D.state old.old).history)
             self.now.new_job.now self.now.old_job.now self.now.view.now self.now.donors.now.by_plan }
         requires index { i < frames_of N.job }
-        requires rooms { AreReady N.job O.job N.files D.tells self.now.view.now (view_of (D.history old.old)) rooms.old }
+        requires rooms { AreReady N.job O.job N.files D.tells self.now.view.now (view_of (D.state old.old).history) rooms.old }
         requires some { 0 < length rooms.old }
         requires is_open { reel.old.ledger.closed ≡ false }
         requires flags { length reel.old.ledger.gates ≡ frames_of N.job }
         requires fresh { slice_index_or reel.old.ledger.gates i false ≡ false }
-        ensures rooms { OnOk result (AreReady N.job O.job N.files D.tells self.now.view.now (view_of (D.history old.old)) rooms.new) }
-        ensures done { HasServed N.job O.job N.files D.tells D.history D.faults D.loans E.tells E.history E.faults E.loans
+        ensures rooms { OnOk result (AreReady N.job O.job N.files D.tells self.now.view.now (view_of (D.state old.old).history) rooms.new) }
+        ensures done { HasServed N.job O.job N.files D.tells D.state E.tells E.state
             self.now.view.now i result old.old old.new reel.old reel.new }
     {
         match place_of(rooms, i) {
@@ -241,15 +236,15 @@ impl<H: Hasher> Takeover<'_, '_, '_, '_, '_, H> {
         reel: &mut Reel<E, N>,
     ) -> Result<(), AdoptFault>
         requires can_hash { H.can_hash }
-        requires can { CanTake N.job O.job N.files D.tells (view_of (D.history old.old))
+        requires can { CanTake N.job O.job N.files D.tells (view_of (D.state old.old).history)
             self.now.new_job.now self.now.old_job.now self.now.view.now self.now.donors.now.by_plan }
         requires is_open { reel.old.ledger.closed ≡ false }
         requires size { length reel.old.ledger.gates ≡ frames_of N.job }
 
-        ensures adopted { HasAdopted N.job O.job N.files D.tells D.history E.tells E.history self.now.view.now
+        ensures adopted { HasAdopted N.job O.job N.files D.tells D.state E.tells E.state self.now.view.now
             result old.old old.new reel.old reel.new }
-        ensures disks { LeavesBoth D.faults D.loans E.faults E.loans (IsErrOf result AdoptFault.DiskFault)
-            old.old old.new reel.old.disk reel.new.disk }
+        ensures disks { LeavesBoth (IsErrOf result AdoptFault.DiskFault)
+            (D.state old.old) (D.state old.new) (E.state reel.old.disk) (E.state reel.new.disk) }
     {
         let mut rooms = rooms_of(
             self.alloc,
@@ -270,17 +265,17 @@ impl<H: Hasher> Takeover<'_, '_, '_, '_, '_, H> {
         rooms: &mut [Room],
     ) -> Result<(), AdoptFault>
         requires can_hash { H.can_hash }
-        requires can { CanTake N.job O.job N.files D.tells (view_of (D.history old.old))
+        requires can { CanTake N.job O.job N.files D.tells (view_of (D.state old.old).history)
             self.now.new_job.now self.now.old_job.now self.now.view.now self.now.donors.now.by_plan }
-        requires rooms { AreReady N.job O.job N.files D.tells self.now.view.now (view_of (D.history old.old)) rooms.old }
+        requires rooms { AreReady N.job O.job N.files D.tells self.now.view.now (view_of (D.state old.old).history) rooms.old }
         requires some { 0 < length rooms.old }
         requires is_open { reel.old.ledger.closed ≡ false }
         requires size { length reel.old.ledger.gates ≡ frames_of N.job }
 
-        ensures adopted { HasAdopted N.job O.job N.files D.tells D.history E.tells E.history self.now.view.now
+        ensures adopted { HasAdopted N.job O.job N.files D.tells D.state E.tells E.state self.now.view.now
             result old.old old.new reel.old reel.new }
-        ensures disks { LeavesBoth D.faults D.loans E.faults E.loans (IsErrOf result AdoptFault.DiskFault)
-            old.old old.new reel.old.disk reel.new.disk }
+        ensures disks { LeavesBoth (IsErrOf result AdoptFault.DiskFault)
+            (D.state old.old) (D.state old.new) (E.state reel.old.disk) (E.state reel.new.disk) }
     {
         for i in 0..self.new_job.count() {
             match self.adopt_frame::<N, O, D, E>(old, reel, i, rooms) {
@@ -313,13 +308,13 @@ pub(crate) fn adopt_alike<N: Work, O: Work, D: Disk, E: Disk, H: Hasher>(
     requires can_hash { H.can_hash }
     requires new_job { new_job.now ≡ N.job }
     requires old_job { old_job.now ≡ O.job }
-    requires looked { WasLookedAt N.job O.job N.files D.tells (view_of (D.history old.old)) view.now }
+    requires looked { WasLookedAt N.job O.job N.files D.tells (view_of (D.state old.old).history) view.now }
     requires is_open { reel.old.ledger.closed ≡ false }
     requires size { length reel.old.ledger.gates ≡ frames_of N.job }
 
-    ensures adopted { HasAdopted N.job O.job N.files D.tells D.history E.tells E.history view.now result old.old old.new reel.old reel.new }
-    ensures disks { LeavesBoth D.faults D.loans E.faults E.loans (IsErrOf result AdoptFault.DiskFault)
-        old.old old.new reel.old.disk reel.new.disk }
+    ensures adopted { HasAdopted N.job O.job N.files D.tells D.state E.tells E.state view.now result old.old old.new reel.old reel.new }
+    ensures disks { LeavesBoth (IsErrOf result AdoptFault.DiskFault)
+        (D.state old.old) (D.state old.new) (E.state reel.old.disk) (E.state reel.new.disk) }
 {
     if are_alike(new_job, old_job) {
         return match Donors::of(alloc, old_job, view) {

@@ -1,6 +1,6 @@
 //! The file of a donor.
-ghost use Rattle.std.specs.Prelude.{◌≡◌, ◌<◌, ◌↔◌, true, length, Some, IfOk, OnOk, IsErr};
-ghost use Rattle.cf_base.specs.Count.{HasCause};
+ghost use Rattle.std.specs.Prelude.{◌≡◌, ◌<◌, ◌↔◌, true, length, Some, IfOk, IsErr};
+ghost use Rattle.reel_disk.specs.State.{LeavesDisk};
 ghost use Rattle.conform_job.specs.Job.{file_of};
 ghost use Rattle.frame_render.specs.Frame.{frame_size};
 ghost use Rattle.reel_disk.specs.Disk.{view_of, IsStill};
@@ -26,14 +26,12 @@ pub(crate) fn read_intact<D: Disk>(
     requires within { j < frames_of job.now }
     requires room { length into.old ≡ frame_size job.now }
     ensures intact { IfOk result (λ is. D.tells ≡ true
-        → (is ≡ true) ↔ IsIntact job.now view.now (view_of (D.history disk.old)) j) }
+        → (is ≡ true) ↔ IsIntact job.now view.now (view_of (D.state disk.old).history) j) }
     ensures bytes { IfOk result (λ is. is ≡ true → D.tells ≡ true
-        → view_of (D.history disk.old) (file_of job.now j) ≡ Some into.new) }
+        → view_of (D.state disk.old).history (file_of job.now j) ≡ Some into.new) }
     ensures room { length into.new ≡ frame_size job.now }
-    ensures still { D.tells ≡ true → IsStill (D.history disk.old) (D.history disk.new) }
-    ensures same { D.loans disk.new ≡ D.loans disk.old }
-    ensures cause { HasCause (D.faults disk.old) (D.faults disk.new) (IsErr result) }
-    ensures steady { OnOk result (D.faults disk.new ≡ D.faults disk.old) }
+    ensures still { D.tells ≡ true → IsStill (D.state disk.old).history (D.state disk.new).history }
+    ensures disk { LeavesDisk (IsErr result) (D.state disk.old) (D.state disk.new) }
 {
     match read_whole(disk, job.file_of(j), into) {
         Ok(true) => Ok(is_of_hash(view.hash_of(j), into)),

@@ -1,8 +1,10 @@
 pub mod Calls
 pub mod CrashLaws
 pub mod Entries
+mod GhostWalks
 pub mod Images
 pub mod LaidOver
+pub mod Leaving
 pub mod Moments
 pub mod NameLaws
 pub mod Picks

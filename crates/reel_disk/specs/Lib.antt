@@ -1,9 +1,11 @@
+pub mod Call
 pub mod Crash
 pub mod Disk
-pub mod Loan
+pub mod Folder
 pub mod Memory
 pub mod MemoryDisk
 pub mod Names
 pub mod Runs
 pub mod Start
+pub mod State
 pub mod inside

@@ -3,14 +3,23 @@ use Rattle.std.specs.Prelude.{◌≡◌, ℕ, ◌+◌, ◌-◌, ◌^◌, min, Bo
 use Rattle.std.specs.List.{list_any}
 use Rattle.cf_base.specs.Count.{kept}
 use Rattle.reel_disk.specs.declared.memory.MemoryDisk.{MemoryDisk}
+use Rattle.reel_disk.specs.Call.{Call}
 use Rattle.reel_disk.specs.Disk.{History}
 use Rattle.reel_disk.specs.Memory.{history_of}
+use Rattle.reel_disk.specs.State.{DiskState}
 
 abbrev pub history_in : MemoryDisk → History
 history_in d = history_of d.store
 
 abbrev pub faults_in : MemoryDisk → ℕ
 faults_in d = kept d.faults
+
+-- the calls that were made, the newest first
+abbrev pub made_in : MemoryDisk → List Call
+made_in d = d.made.list
+
+abbrev pub state_in : MemoryDisk → DiskState
+state_in d = record { history = history_in d; faults = faults_in d; calls = made_in d; loans = [] }
 
 -- The numbers of the calls that fail, and the call from which on each one fails. The first call has the number 1.
 pub record Script : Type 0 where

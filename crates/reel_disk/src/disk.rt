@@ -1,8 +1,9 @@
 //! A disk as the layers above see it: what a read answers, what a crash may still change, and each moment so far.
-ghost use Rattle.std.specs.Prelude.{◌≡◌, ℕ, Bool, true, List, [], ◌∷◌, length};
+ghost use Rattle.std.specs.Prelude.{◌≡◌, Bool, true, ◌∷◌, length};
 ghost use Rattle.cf_base.specs.Count.{CountsOneFault, IsKept};
-ghost use Rattle.reel_disk.specs.Disk.{History, view_of, HasLength, HasRead, IsStill, IsWithin, HasWrittenWhole, HasWrittenAt, HasSynced, IsInFile};
-ghost use Rattle.reel_disk.specs.Loan.{Loan};
+ghost use Rattle.reel_disk.specs.Call.{Measured, Read, Wrote, Patched, Synced};
+ghost use Rattle.reel_disk.specs.Disk.{view_of, HasLength, HasRead, IsStill, IsWithin, HasWrittenWhole, HasWrittenAt, HasSynced, IsInFile};
+ghost use Rattle.reel_disk.specs.State.{DiskState, lent_by};
 
 use cf_base::FileId;
 
@@ -59,64 +60,60 @@ pub trait Disk {
     /// Whether disks of this type tell what they hold.
     ghost tells: { Bool };
 
-    /// Each moment until now: what a read answered then, and what was loose. It counts where `tells` is true.
-    ghost history: { Self → History };
-
-    /// How often the disk has failed. The count never falls, and stays at 2^64 - 1 once it is there.
-    ghost faults: { Self → ℕ };
-
-    /// The loans by which a disk is lent, the outermost first; there are none where it isn't. They stay so in each call.
-    ghost loans: { Self → List Loan } = { λ _. [] };
+    /// Its moments until now, how often it has failed, the calls that were made on it, and how it is lent. The moments count
+    /// where `tells` is true.
+    ghost state: { Self → DiskState };
 
     /// The length of a file in bytes. `Absent` exactly where the view has no such file and the call did not fail.
     fn length(&mut self, id: FileId) -> Length
-        ensures answer { tells ≡ true → HasLength (view_of (history self.old) id) result }
-        ensures time { tells ≡ true → IsStill (history self.old) (history self.new) }
-        ensures same { loans self.new ≡ loans self.old }
-        ensures fault { CountsOneFault (result ≡ Length.Failed) (faults self.old) (faults self.new) };
+        ensures answer { tells ≡ true → HasLength (view_of (state self.old).history id) result }
+        ensures time { tells ≡ true → IsStill (state self.old).history (state self.new).history }
+        ensures same { (state self.new).loans ≡ (state self.old).loans }
+        ensures call { (state self.new).calls ≡ Measured id result ∷ (state self.old).calls }
+        ensures fault { CountsOneFault (result ≡ Length.Failed) (state self.old).faults (state self.new).faults };
 
     /// Reads a file from byte `start` on, as much as it has there and `into` takes: `Bytes(n)` says how many bytes.
     /// `Absent` exactly where the view has no such file and the call did not fail.
     fn read(&mut self, id: FileId, start: u64, into: &mut [u8]) -> Got
         ensures bound { IsWithin (length into.old) result }
-        ensures answer { tells ≡ true → HasRead (view_of (history self.old) id) start into.new result }
-        ensures time { tells ≡ true → IsStill (history self.old) (history self.new) }
-        ensures same { loans self.new ≡ loans self.old }
-        ensures fault { CountsOneFault (result ≡ Got.Failed) (faults self.old) (faults self.new) };
+        ensures answer { tells ≡ true → HasRead (view_of (state self.old).history id) start into.new result }
+        ensures time { tells ≡ true → IsStill (state self.old).history (state self.new).history }
+        ensures same { (state self.new).loans ≡ (state self.old).loans }
+        ensures call { (state self.new).calls ≡ Read id start into.new result ∷ (state self.old).calls }
+        ensures fault { CountsOneFault (result ≡ Got.Failed) (state self.old).faults (state self.new).faults };
 
     /// Gives a file these bytes and no others. Until a sync of the file, a crash may leave anything there.
     fn write_whole(&mut self, id: FileId, bytes: &[u8]) -> Did
-        ensures told { tells ≡ true → HasWrittenWhole (history self.old) (history self.new) id bytes.now result }
-        ensures same { loans self.new ≡ loans self.old }
-        ensures fault { CountsOneFault (result ≡ Did.Failed) (faults self.old) (faults self.new) };
+        ensures told { tells ≡ true → HasWrittenWhole (state self.old).history (state self.new).history id bytes.now result }
+        ensures same { (state self.new).loans ≡ (state self.old).loans }
+        ensures call { (state self.new).calls ≡ Wrote id bytes.now result ∷ (state self.old).calls }
+        ensures fault { CountsOneFault (result ≡ Did.Failed) (state self.old).faults (state self.new).faults };
 
     /// Writes over a part of a file that is there, from byte `start` on. Until a sync of the file, a crash may leave any
     /// bytes in this part.
     fn write_at(&mut self, id: FileId, start: u64, bytes: &[u8]) -> Did
-        requires { tells ≡ true → IsInFile (view_of (history self.old) id) start (length bytes.now) }
-        ensures told { tells ≡ true → HasWrittenAt (history self.old) (history self.new) id start bytes.now result }
-        ensures same { loans self.new ≡ loans self.old }
-        ensures fault { CountsOneFault (result ≡ Did.Failed) (faults self.old) (faults self.new) };
+        requires { tells ≡ true → IsInFile (view_of (state self.old).history id) start (length bytes.now) }
+        ensures told { tells ≡ true → HasWrittenAt (state self.old).history (state self.new).history id start bytes.now result }
+        ensures same { (state self.new).loans ≡ (state self.old).loans }
+        ensures call { (state self.new).calls ≡ Patched id start bytes.now result ∷ (state self.old).calls }
+        ensures fault { CountsOneFault (result ≡ Did.Failed) (state self.old).faults (state self.new).faults };
 
     /// After it a crash leaves the file, or its absence, as a read answers it.
     fn sync(&mut self, id: FileId) -> Did
-        ensures told { tells ≡ true → HasSynced (history self.old) (history self.new) id result }
-        ensures same { loans self.new ≡ loans self.old }
-        ensures fault { CountsOneFault (result ≡ Did.Failed) (faults self.old) (faults self.new) };
+        ensures told { tells ≡ true → HasSynced (state self.old).history (state self.new).history id result }
+        ensures same { (state self.new).loans ≡ (state self.old).loans }
+        ensures call { (state self.new).calls ≡ Synced id result ∷ (state self.old).calls }
+        ensures fault { CountsOneFault (result ≡ Did.Failed) (state self.old).faults (state self.new).faults };
 
     /// The count is never past 2^64 - 1.
-    ghost bounded: { (d : Self) → IsKept (faults d) };
+    ghost bounded: { (d : Self) → IsKept (state d).faults };
 }
 
 /// A disk that is lent: the calls of the lender are those of the disk.
 impl<D: Disk> Disk for &mut D {
     ghost tells = { D.tells };
 
-    ghost history = { λ d. D.history d.now };
-
-    ghost faults = { λ d. D.faults d.now };
-
-    ghost loans = { λ d. record { name = d.ghost_name; place = d.ref_ptr } ∷ D.loans d.now };
+    ghost state = { λ d. lent_by (record { name = d.ghost_name; place = d.ref_ptr }) (D.state d.now) };
 
     ghost bounded = { λ d. D.bounded d.now };
 

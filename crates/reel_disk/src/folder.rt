@@ -1,8 +1,11 @@
 //! The folder of a real file system.
-ghost use Rattle.std.specs.Prelude.{◌≡◌, ◌≤◌, length, false, IfOk, ⊤};
+ghost use Rattle.std.specs.Prelude.{◌≡◌, ◌≤◌, ℕ, [], false, IfOk, ⊤};
 ghost use Rattle.cf_base.specs.Count.{CountsOneFault, kept};
+ghost use Rattle.reel_disk.specs.Disk.{IsWithin};
+ghost use Rattle.reel_disk.specs.Folder.{folder_in};
 
 use crate::lock::LockFiles;
+use crate::made::{Calls, Note};
 use crate::reel_files::{Lacks, ReelFiles};
 use crate::{Did, Disk, Got, Length};
 use cf_base::{FileId, PathText, Trouble};
@@ -27,6 +30,7 @@ use cf_base::{FileId, PathText, Trouble};
 pub struct FolderDisk<R: LockFiles + Drop> {
     files: ReelFiles<R>,
     faults: u64,
+    calls: Calls,
     /// Why the first call failed that did.
     trouble: Option<Trouble>,
 }
@@ -34,11 +38,14 @@ pub struct FolderDisk<R: LockFiles + Drop> {
 impl<R: LockFiles + Drop> FolderDisk<R> {
     /// A disk over this folder, relative to the current folder. It reads and makes nothing.
     pub fn new(rt: R, folder: PathText) -> FolderDisk<R>
-        ensures { ⟦<FolderDisk<R> as Disk>⟧.faults result ≡ 0 }
+        ensures folder { folder_in result ≡ folder }
+        ensures faults { (⟦<FolderDisk<R> as Disk>⟧.state result).faults ≡ 0 }
+        ensures calls { (⟦<FolderDisk<R> as Disk>⟧.state result).calls ≡ [] }
     {
         FolderDisk {
             files: ReelFiles::new(rt, folder),
             faults: 0,
+            calls: Calls::new(),
             trouble: None,
         }
     }
@@ -55,15 +62,54 @@ impl<R: LockFiles + Drop> FolderDisk<R> {
 
     /// Counts a fault, and keeps the cause of the first.
     fn fault(&mut self, trouble: Trouble)
-        ensures { CountsOneFault ⊤ self.old.faults self.new.faults }
+        ensures calls { self.new.calls ≡ self.old.calls }
+        ensures fault { CountsOneFault ⊤ self.old.faults self.new.faults }
     {
         self.faults = self.faults.saturating_add(1);
         self.trouble = self.trouble.or(Some(trouble));
     }
 
+    /// Counts a fault where the length is not known, though a file may be there.
+    fn measured(&mut self, outcome: Result<u64, Trouble>) -> Length
+        ensures calls { self.new.calls ≡ self.old.calls }
+        ensures fault { CountsOneFault (result ≡ Length.Failed) self.old.faults self.new.faults }
+    {
+        match outcome {
+            Ok(len) => Length::There(len),
+            Err(trouble) => {
+                if trouble.is_absence() {
+                    Length::Absent
+                } else {
+                    self.fault(trouble);
+                    Length::Failed
+                }
+            }
+        }
+    }
+
+    /// Counts a fault where nothing was read, though a file may be there.
+    fn got(&mut self, outcome: Result<usize, Trouble>) -> Got
+        ensures bound { (most : ℕ) → IfOk outcome (λ n. n ≤ most) → IsWithin most result }
+        ensures calls { self.new.calls ≡ self.old.calls }
+        ensures fault { CountsOneFault (result ≡ Got.Failed) self.old.faults self.new.faults }
+    {
+        match outcome {
+            Ok(n) => Got::Bytes(n),
+            Err(trouble) => {
+                if trouble.is_absence() {
+                    Got::Absent
+                } else {
+                    self.fault(trouble);
+                    Got::Failed
+                }
+            }
+        }
+    }
+
     /// Counts a fault where the call wasn't done.
     fn done(&mut self, outcome: Result<(), Trouble>) -> Did
-        ensures { CountsOneFault (result ≡ Did.Failed) self.old.faults self.new.faults }
+        ensures calls { self.new.calls ≡ self.old.calls }
+        ensures fault { CountsOneFault (result ≡ Did.Failed) self.old.faults self.new.faults }
     {
         match outcome {
             Ok(()) => Did::Done,
@@ -81,52 +127,47 @@ impl<R: LockFiles + Drop> Disk for FolderDisk<R> {
 
     ghost tells = { false };
 
-    ghost history = { λ d. record { now = 0; past = λ m. record { view = λ id. None; loose = [] } } };
-
-    ghost faults = { λ d. kept d.faults };
+    ghost state = { λ d. record {
+      history = record { now = 0; past = λ m. record { view = λ id. None; loose = [] } };
+      faults = kept d.faults;
+      calls = d.calls.list;
+      loans = [];
+    } };
 
     ghost bounded = { λ _. Prim.omega arith };
 
     fn length(&mut self, id: FileId) -> Length {
-        match self.files.length(id) {
-            Ok(len) => Length::There(len),
-            Err(trouble) => {
-                if trouble.is_absence() {
-                    Length::Absent
-                } else {
-                    self.fault(trouble);
-                    Length::Failed
-                }
-            }
-        }
+        let measured = self.files.length(id);
+        let length = self.measured(measured);
+        self.calls = self.calls.then(&Note::Length(id, length));
+        length
     }
 
     fn read(&mut self, id: FileId, start: u64, into: &mut [u8]) -> Got {
-        match self.files.read_at(id, start, into) {
-            Ok(n) => Got::Bytes(n),
-            Err(trouble) => {
-                if trouble.is_absence() {
-                    Got::Absent
-                } else {
-                    self.fault(trouble);
-                    Got::Failed
-                }
-            }
-        }
+        let read = self.files.read_at(id, start, into);
+        let got = self.got(read);
+        self.calls = self.calls.then(&Note::Read(id, start, into, got));
+        got
     }
 
     fn write_whole(&mut self, id: FileId, bytes: &[u8]) -> Did {
         let outcome = self.files.write_whole(id, bytes);
-        self.done(outcome)
+        let did = self.done(outcome);
+        self.calls = self.calls.then(&Note::WriteWhole(id, bytes, did));
+        did
     }
 
     fn write_at(&mut self, id: FileId, start: u64, bytes: &[u8]) -> Did {
         let outcome = self.files.write_at(id, start, bytes);
-        self.done(outcome)
+        let did = self.done(outcome);
+        self.calls = self.calls.then(&Note::WriteAt(id, start, bytes, did));
+        did
     }
 
     fn sync(&mut self, id: FileId) -> Did {
         let outcome = self.files.sync(id);
-        self.done(outcome)
+        let did = self.done(outcome);
+        self.calls = self.calls.then(&Note::Sync(id, did));
+        did
     }
 }

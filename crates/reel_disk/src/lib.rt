@@ -6,6 +6,7 @@ mod crash;
 mod disk;
 mod folder;
 mod lock;
+mod made;
 mod memory;
 mod names;
 mod paths;

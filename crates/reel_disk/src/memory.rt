@@ -1,13 +1,15 @@
 //! A disk in memory, whose calls fail by number.
-ghost use Rattle.std.specs.Prelude.{◌≡◌, ◌↔◌, true, false, length, IfOk, ⊤};
+ghost use Rattle.std.specs.Prelude.{◌≡◌, ◌↔◌, ◌∷◌, true, false, length, IfOk, ⊤};
 ghost use Rattle.cf_base.specs.Count.{CountsOneFault};
 ghost use Rattle.cf_base.specs.declared.file.FileId.{FileId};
+ghost use Rattle.reel_disk.specs.Call.{Measured, Read, Wrote, Patched, Synced};
 ghost use Rattle.reel_disk.specs.Crash.{IsCrash};
 ghost use Rattle.reel_disk.specs.Disk.{view_of, moment_of, HasLength, HasRead, IsStill, IsWithin, HasWrittenWhole, HasWrittenAt, HasSynced, IsInFile, IsImage, IsNewDisk};
 ghost use Rattle.reel_disk.specs.Memory.{find_file};
-ghost use Rattle.reel_disk.specs.MemoryDisk.{history_in, faults_in, script_in, calls_in, no_fault, fails_at, is_stopped, next_call, IsNextCall};
+ghost use Rattle.reel_disk.specs.MemoryDisk.{history_in, faults_in, made_in, script_in, calls_in, no_fault, fails_at, is_stopped, next_call, IsNextCall};
 
 use crate::crash::files_left;
+use crate::made::{Calls, Note};
 use crate::store::{Store, bytes_of, copy_from, length_of, loosen, settle, write_file, write_part};
 use crate::{Did, Disk, Got, Length, Place};
 use cf_base::{Fail, FileId, Never};
@@ -23,6 +25,7 @@ pub struct MemoryDisk {
     alloc: Global,
     store: Store,
     calls: u64,
+    made: Calls,
     fails: Vec<u64>,
     stop: Option<u64>,
     faults: u64,
@@ -35,6 +38,7 @@ impl Drop for MemoryDisk {
             alloc: _,
             store: _,
             calls: _,
+            made: _,
             fails: _,
             stop: _,
             faults: _,
@@ -60,6 +64,7 @@ fn with_files(
             steps: Vec::new(alloc),
         },
         calls: 0,
+        made: Calls::new(),
         fails,
         stop,
         faults: 0,
@@ -127,6 +132,7 @@ impl MemoryDisk {
         ensures fails { result ≡ fails_at (script_in self.old) (next_call self.old) }
         ensures next { IsNextCall self.old self.new }
         ensures store { self.new.store ≡ self.old.store }
+        ensures made { self.new.made ≡ self.old.made }
         ensures fault { CountsOneFault (result ≡ true) self.old.faults self.new.faults }
     {
         self.calls = self.calls.saturating_add(1);
@@ -139,6 +145,7 @@ impl MemoryDisk {
 
     fn fault(&mut self)
         ensures store { self.new.store ≡ self.old.store }
+        ensures made { self.new.made ≡ self.old.made }
         ensures calls { self.new.calls ≡ self.old.calls }
         ensures script { script_in self.new ≡ script_in self.old }
         ensures fault { CountsOneFault ⊤ self.old.faults self.new.faults }
@@ -149,52 +156,59 @@ impl MemoryDisk {
 
 impl Disk for MemoryDisk {
     ghost use Rattle.std.specs.Prelude.{true};
-    ghost use Rattle.reel_disk.specs.MemoryDisk.{history_in, faults_in};
+    ghost use Rattle.reel_disk.specs.MemoryDisk.{history_in, faults_in, state_in};
     ghost use Rattle.std.proofs.Common.{arith};
 
     ghost tells = { true };
 
-    ghost history = { history_in };
-
-    ghost faults = { faults_in };
+    ghost state = { state_in };
 
     ghost bounded = { λ _. Prim.omega arith };
 
     fn length(&mut self, id: FileId) -> Length
         ensures answer { HasLength (view_of (history_in self.old) id) result }
         ensures time { IsStill (history_in self.old) (history_in self.new) }
+        ensures call { made_in self.new ≡ Measured id result ∷ made_in self.old }
         ensures fault { CountsOneFault (result ≡ Length.Failed) (faults_in self.old) (faults_in self.new) }
         ensures next { IsNextCall self.old self.new }
         ensures fails { (result ≡ Length.Failed) ↔ (fails_at (script_in self.old) (next_call self.old) ≡ true) }
     {
         if self.begins() {
+            self.made = self.made.then(&Note::Length(id, Length::Failed));
             return Length::Failed;
         }
-        match length_of(&self.store, id) {
+        let answer = match length_of(&self.store, id) {
             Some(n) => Length::There(n),
             None => Length::Absent,
-        }
+        };
+        self.made = self.made.then(&Note::Length(id, answer));
+        answer
     }
 
     fn read(&mut self, id: FileId, start: u64, into: &mut [u8]) -> Got
         ensures bound { IsWithin (length into.old) result }
         ensures answer { HasRead (view_of (history_in self.old) id) start into.new result }
         ensures time { IsStill (history_in self.old) (history_in self.new) }
+        ensures call { made_in self.new ≡ Read id start into.new result ∷ made_in self.old }
         ensures fault { CountsOneFault (result ≡ Got.Failed) (faults_in self.old) (faults_in self.new) }
         ensures next { IsNextCall self.old self.new }
         ensures fails { (result ≡ Got.Failed) ↔ (fails_at (script_in self.old) (next_call self.old) ≡ true) }
     {
         if self.begins() {
+            self.made = self.made.then(&Note::Read(id, start, into, Got::Failed));
             return Got::Failed;
         }
-        match bytes_of(&self.store, id) {
+        let answer = match bytes_of(&self.store, id) {
             Some(bytes) => Got::Bytes(copy_from(bytes, start, into)),
             None => Got::Absent,
-        }
+        };
+        self.made = self.made.then(&Note::Read(id, start, into, answer));
+        answer
     }
 
     fn write_whole(&mut self, id: FileId, bytes: &[u8]) -> Did
         ensures told { HasWrittenWhole (history_in self.old) (history_in self.new) id bytes.now result }
+        ensures call { made_in self.new ≡ Wrote id bytes.now result ∷ made_in self.old }
         ensures fault { CountsOneFault (result ≡ Did.Failed) (faults_in self.old) (faults_in self.new) }
         ensures next { IsNextCall self.old self.new }
         ensures fails { fails_at (script_in self.old) (next_call self.old) ≡ true → result ≡ Did.Failed }
@@ -202,12 +216,17 @@ impl Disk for MemoryDisk {
     {
         if self.begins() {
             loosen(&mut self.store, Place::Whole(id));
+            self.made = self.made.then(&Note::WriteWhole(id, bytes, Did::Failed));
             return Did::Failed;
         }
         match write_file(self.alloc, &mut self.store, id, bytes) {
-            Ok(()) => Did::Done,
+            Ok(()) => {
+                self.made = self.made.then(&Note::WriteWhole(id, bytes, Did::Done));
+                Did::Done
+            }
             Err(_) => {
                 self.fault();
+                self.made = self.made.then(&Note::WriteWhole(id, bytes, Did::Failed));
                 Did::Failed
             }
         }
@@ -216,6 +235,7 @@ impl Disk for MemoryDisk {
     fn write_at(&mut self, id: FileId, start: u64, bytes: &[u8]) -> Did
         requires { IsInFile (view_of (history_in self.old) id) start (length bytes.now) }
         ensures told { HasWrittenAt (history_in self.old) (history_in self.new) id start bytes.now result }
+        ensures call { made_in self.new ≡ Patched id start bytes.now result ∷ made_in self.old }
         ensures fault { CountsOneFault (result ≡ Did.Failed) (faults_in self.old) (faults_in self.new) }
         ensures next { IsNextCall self.old self.new }
         ensures fails { fails_at (script_in self.old) (next_call self.old) ≡ true → result ≡ Did.Failed }
@@ -224,12 +244,21 @@ impl Disk for MemoryDisk {
         if self.begins() {
             let len = bytes.len() as u64;
             loosen(&mut self.store, Place::Range { id, start, len });
+            self.made = self
+                .made
+                .then(&Note::WriteAt(id, start, bytes, Did::Failed));
             return Did::Failed;
         }
         match write_part(self.alloc, &mut self.store, id, start, bytes) {
-            Ok(()) => Did::Done,
+            Ok(()) => {
+                self.made = self.made.then(&Note::WriteAt(id, start, bytes, Did::Done));
+                Did::Done
+            }
             Err(_) => {
                 self.fault();
+                self.made = self
+                    .made
+                    .then(&Note::WriteAt(id, start, bytes, Did::Failed));
                 Did::Failed
             }
         }
@@ -237,18 +266,24 @@ impl Disk for MemoryDisk {
 
     fn sync(&mut self, id: FileId) -> Did
         ensures told { HasSynced (history_in self.old) (history_in self.new) id result }
+        ensures call { made_in self.new ≡ Synced id result ∷ made_in self.old }
         ensures fault { CountsOneFault (result ≡ Did.Failed) (faults_in self.old) (faults_in self.new) }
         ensures next { IsNextCall self.old self.new }
         ensures fails { fails_at (script_in self.old) (next_call self.old) ≡ true → result ≡ Did.Failed }
         ensures kept { result ≡ Did.Failed → IsStill (history_in self.old) (history_in self.new) }
     {
         if self.begins() {
+            self.made = self.made.then(&Note::Sync(id, Did::Failed));
             return Did::Failed;
         }
         match settle(self.alloc, &mut self.store, id) {
-            Ok(()) => Did::Done,
+            Ok(()) => {
+                self.made = self.made.then(&Note::Sync(id, Did::Done));
+                Did::Done
+            }
             Err(_) => {
                 self.fault();
+                self.made = self.made.then(&Note::Sync(id, Did::Failed));
                 Did::Failed
             }
         }

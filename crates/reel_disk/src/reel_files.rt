@@ -71,7 +71,9 @@ fn is_replaceable(id: FileId) -> bool {
 
 impl<R: LockFiles + Drop> ReelFiles<R> {
     /// The files of this folder, before the first call on them.
-    pub(crate) fn new(rt: R, folder: PathText) -> ReelFiles<R> {
+    pub(crate) fn new(rt: R, folder: PathText) -> ReelFiles<R>
+        ensures { result.folder ≡ folder }
+    {
         ReelFiles {
             rt,
             folder,

@@ -8,7 +8,7 @@ use std::marker::Brand;
 pub trait Start {
     ghost use Rattle.std.specs.Prelude.{List, Option};
     ghost use Rattle.reel_disk.specs.Disk.{Moment};
-    ghost use Rattle.reel_disk.specs.Loan.{Loan};
+    ghost use Rattle.cf_base.specs.Loan.{Loan};
 
     /// What a read answered at the start, and what was loose: both are told, or neither is.
     ghost start: { Option Moment };

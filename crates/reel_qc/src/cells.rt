@@ -1,9 +1,9 @@
 //! The cells of the sheet: which record frames they show, and the sums over the frames' files.
 ghost use Rattle.std.specs.Prelude.{◌≡◌, ◌≢◌, ◌+◌, ◌-◌, ◌*◌, ◌<◌, ◌≤◌, All, true, length, slice_get, IfOk, IfSome, IsErrOf, Err};
 ghost use Rattle.cf_base.specs.declared.event.EventRec.{EventRec};
+ghost use Rattle.reel_disk.specs.State.{LeavesDisk};
 ghost use Rattle.frame_render.specs.Frame.{pixel_count};
 ghost use Rattle.record_timeline.specs.Accepted.{first_frame, frame_count};
-ghost use Rattle.cf_base.specs.Count.{HasCause};
 ghost use Rattle.reel_disk.specs.Disk.{view_of, IsStill};
 ghost use Rattle.reel_writer.specs.Reel.{frames_of};
 ghost use Rattle.reel_qc.specs.inside.Boxes.{HasPicture, IsCell, HasRow};
@@ -83,13 +83,10 @@ pub(crate) fn load_row<D: Disk>(
     requires row { row ≤ 4096 }
     requires piece { length buffers.old.piece.items ≡ 65536 }
     ensures cells { IfOk result (λ cells. length cells.items ≡ 8) }
-    ensures pictures { IfOk result (λ cells. HasRow job.now view.now D.tells (D.history disk.old) row cells.items) }
+    ensures pictures { IfOk result (λ cells. HasRow job.now view.now D.tells (D.state disk.old).history row cells.items) }
     ensures piece { length buffers.new.piece.items ≡ 65536 }
-    ensures still { D.tells ≡ true → IsStill (D.history disk.old) (D.history disk.new) }
-    ensures same { D.loans disk.new ≡ D.loans disk.old }
-    ensures cause { HasCause (D.faults disk.old) (D.faults disk.new)
-        (IsErrOf result SheetFault.DiskFault) }
-    ensures steady { result ≢ Err SheetFault.DiskFault → D.faults disk.new ≡ D.faults disk.old }
+    ensures still { D.tells ≡ true → IsStill (D.state disk.old).history (D.state disk.new).history }
+    ensures disk { LeavesDisk (IsErrOf result SheetFault.DiskFault) (D.state disk.old) (D.state disk.new) }
 {
     let mut cells = Vec::new(alloc);
     for c in 0..8 {
@@ -124,13 +121,11 @@ fn load_cell<D: Disk>(
     requires size { length view.now.gates ≡ frames_of job.now }
     requires within { IfSome frame (λ i. i < frames_of job.now) }
     requires piece { length buffers.old.piece.items ≡ 65536 }
-    ensures cell { IfOk result (IsCell job.now (D.tells ≡ true) (place_picture job.now view.now (view_of (D.history disk.old)) frame)) }
+    ensures cell { IfOk result
+        (IsCell job.now (D.tells ≡ true) (place_picture job.now view.now (view_of (D.state disk.old).history) frame)) }
     ensures piece { length buffers.new.piece.items ≡ 65536 }
-    ensures still { D.tells ≡ true → IsStill (D.history disk.old) (D.history disk.new) }
-    ensures same { D.loans disk.new ≡ D.loans disk.old }
-    ensures cause { HasCause (D.faults disk.old) (D.faults disk.new)
-        (IsErrOf result SheetFault.DiskFault) }
-    ensures steady { result ≢ Err SheetFault.DiskFault → D.faults disk.new ≡ D.faults disk.old }
+    ensures still { D.tells ≡ true → IsStill (D.state disk.old).history (D.state disk.new).history }
+    ensures disk { LeavesDisk (IsErrOf result SheetFault.DiskFault) (D.state disk.old) (D.state disk.new) }
 {
     match frame {
         Some(i) => load_frame(alloc, disk, job, view, i, buffers),
@@ -150,13 +145,10 @@ fn load_frame<D: Disk>(
     requires size { length view.now.gates ≡ frames_of job.now }
     requires within { i < frames_of job.now }
     requires piece { length buffers.old.piece.items ≡ 65536 }
-    ensures cell { IfOk result (IsCell job.now (D.tells ≡ true) (cell_picture job.now view.now (view_of (D.history disk.old)) i)) }
+    ensures cell { IfOk result (IsCell job.now (D.tells ≡ true) (cell_picture job.now view.now (view_of (D.state disk.old).history) i)) }
     ensures piece { length buffers.new.piece.items ≡ 65536 }
-    ensures still { D.tells ≡ true → IsStill (D.history disk.old) (D.history disk.new) }
-    ensures same { D.loans disk.new ≡ D.loans disk.old }
-    ensures cause { HasCause (D.faults disk.old) (D.faults disk.new)
-        (IsErrOf result SheetFault.DiskFault) }
-    ensures steady { result ≢ Err SheetFault.DiskFault → D.faults disk.new ≡ D.faults disk.old }
+    ensures still { D.tells ≡ true → IsStill (D.state disk.old).history (D.state disk.new).history }
+    ensures disk { LeavesDisk (IsErrOf result SheetFault.DiskFault) (D.state disk.old) (D.state disk.new) }
 {
     if !view.is_acked(i) {
         return Ok(None);

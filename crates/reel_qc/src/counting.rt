@@ -1,6 +1,6 @@
 //! The counts of several probes over the words of a frame's file.
 ghost use Rattle.std.specs.Prelude.{◌≡◌, ◌≢◌, ◌<◌, ◌≤◌, true, length, map, OnOk, IfOk, IsErrOf, Err};
-ghost use Rattle.cf_base.specs.Count.{HasCause};
+ghost use Rattle.reel_disk.specs.State.{LeavesDisk};
 ghost use Rattle.conform_job.specs.Job.{file_of};
 ghost use Rattle.reel_disk.specs.Disk.{view_of, IsStill};
 ghost use Rattle.reel_writer.specs.Reel.{frames_of};
@@ -32,14 +32,11 @@ pub(crate) fn count_frame<D: Disk, C: Counter>(
     requires room { 0 < length buffers.old.words.items }
     requires few { length buffers.old.words.items ≤ 16777216 }
     ensures counted { IfOk result (λ counts. HasCounted (map (λ p. p.kind) probes.now) (D.tells ≡ true)
-        (frame_words job.now (view_of (D.history disk.old) (file_of job.now i))) counts.items) }
+        (frame_words job.now (view_of (D.state disk.old).history (file_of job.now i))) counts.items) }
     ensures piece { length buffers.new.piece.items ≡ 65536 }
     ensures room { length buffers.new.words.items ≡ length buffers.old.words.items }
-    ensures still { D.tells ≡ true → IsStill (D.history disk.old) (D.history disk.new) }
-    ensures same { D.loans disk.new ≡ D.loans disk.old }
-    ensures cause { HasCause (D.faults disk.old) (D.faults disk.new)
-        (IsErrOf result QcFault.DiskFault) }
-    ensures steady { result ≢ Err QcFault.DiskFault → D.faults disk.new ≡ D.faults disk.old }
+    ensures still { D.tells ≡ true → IsStill (D.state disk.old).history (D.state disk.new).history }
+    ensures disk { LeavesDisk (IsErrOf result QcFault.DiskFault) (D.state disk.old) (D.state disk.new) }
 {
     let Ok(mut counts) = vec![in alloc; 0u64; probes.len()] else {
         return Err(QcFault::NoMemory);
@@ -80,12 +77,9 @@ fn count_file<D: Disk, C: Counter>(
     requires few { length words.old ≤ 16777216 }
     requires counts { length counts.old ≡ length probes.now }
     ensures added { OnOk result (AddsCounts (map (λ p. p.kind) probes.now) (D.tells ≡ true)
-        (words_in 0 most (view_of (D.history disk.old) id)) most counts.old counts.new) }
-    ensures still { D.tells ≡ true → IsStill (D.history disk.old) (D.history disk.new) }
-    ensures same { D.loans disk.new ≡ D.loans disk.old }
-    ensures cause { HasCause (D.faults disk.old) (D.faults disk.new)
-        (IsErrOf result QcFault.DiskFault) }
-    ensures steady { result ≢ Err QcFault.DiskFault → D.faults disk.new ≡ D.faults disk.old }
+        (words_in 0 most (view_of (D.state disk.old).history id)) most counts.old counts.new) }
+    ensures still { D.tells ≡ true → IsStill (D.state disk.old).history (D.state disk.new).history }
+    ensures disk { LeavesDisk (IsErrOf result QcFault.DiskFault) (D.state disk.old) (D.state disk.new) }
 {
     let mut done = 0;
     while done < most {
@@ -127,12 +121,9 @@ fn count_part<D: Disk, C: Counter>(
     requires few { length words.old ≤ 16777216 }
     requires counts { length counts.old ≡ length probes.now }
     ensures added { OnOk result (AddsCounts (map (λ p. p.kind) probes.now) (D.tells ≡ true)
-        (words_in first (length words.old) (view_of (D.history disk.old) id)) (length words.old) counts.old counts.new) }
-    ensures still { D.tells ≡ true → IsStill (D.history disk.old) (D.history disk.new) }
-    ensures same { D.loans disk.new ≡ D.loans disk.old }
-    ensures cause { HasCause (D.faults disk.old) (D.faults disk.new)
-        (IsErrOf result QcFault.DiskFault) }
-    ensures steady { result ≢ Err QcFault.DiskFault → D.faults disk.new ≡ D.faults disk.old }
+        (words_in first (length words.old) (view_of (D.state disk.old).history id)) (length words.old) counts.old counts.new) }
+    ensures still { D.tells ≡ true → IsStill (D.state disk.old).history (D.state disk.new).history }
+    ensures disk { LeavesDisk (IsErrOf result QcFault.DiskFault) (D.state disk.old) (D.state disk.new) }
 {
     let found = match read_words(disk, id, first, piece, words) {
         Ok(found) => found,

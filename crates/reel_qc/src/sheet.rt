@@ -1,7 +1,7 @@
 //! The contact sheet, as a file of the reel folder.
 ghost use Rattle.std.specs.Prelude.{◌≡◌, ◌≢◌, ◌+◌, ◌*◌, ◌/◌, ◌<◌, ◌≤◌, All, ℕ, true, length, OnOk, IfOk, IsErrOf, Err};
-ghost use Rattle.cf_base.specs.Count.{HasCause};
 ghost use Rattle.cf_base.specs.declared.file.FileId.TheVariants.{Sheet};
+ghost use Rattle.reel_disk.specs.State.{LeavesDisk};
 ghost use Rattle.dpx_header.specs.Writing.{IsOutHead, header_of};
 ghost use Rattle.reel_disk.specs.Disk.{view_of, IsStill};
 ghost use Rattle.reel_disk.specs.Runs.{Extends, Spares, StaysSo};
@@ -58,25 +58,22 @@ pub fn make_sheet<D: Disk>(
 
     // The sheet is there, and a crash keeps it so.
     ensures sheet { OnOk result (D.tells ≡ true
-        → HasWrittenSheet tone.now.table job.now view.now (D.history disk.old) (D.history disk.new)) }
+        → HasWrittenSheet tone.now.table job.now view.now (D.state disk.old).history (D.state disk.new).history) }
     ensures cells { IfOk result (λ done. done.cells ≡ length (cell_frames job.now)) }
     ensures peak { IfOk result (λ done. D.tells ≡ true
-        → done.peak ≡ sheet_peak tone.now.table job.now view.now (view_of (D.history disk.old))) }
+        → done.peak ≡ sheet_peak tone.now.table job.now view.now (view_of (D.state disk.old).history)) }
     ensures code { IfOk result (λ done. done.peak ≤ 1023) }
 
     // At each moment all other files are as they were, what is sound and fit stays so, and so does what is acknowledged.
-    ensures past { D.tells ≡ true → Extends (D.history disk.old) (D.history disk.new) }
-    ensures spares { D.tells ≡ true → Spares (D.history disk.old) (D.history disk.new) (λ q. q ≡ Sheet) }
+    ensures past { D.tells ≡ true → Extends (D.state disk.old).history (D.state disk.new).history }
+    ensures spares { D.tells ≡ true → Spares (D.state disk.old).history (D.state disk.new).history (λ q. q ≡ Sheet) }
     ensures sound { D.tells ≡ true → (world : World)
-        → StaysSo (D.history disk.old) (D.history disk.new) (IsSoundReel job.now world) }
-    ensures kept { D.tells ≡ true → (i : ℕ) → StaysSo (D.history disk.old) (D.history disk.new) (HasAcked job.now i) }
+        → StaysSo (D.state disk.old).history (D.state disk.new).history (IsSoundReel job.now world) }
+    ensures kept { D.tells ≡ true → (i : ℕ) → StaysSo (D.state disk.old).history (D.state disk.new).history (HasAcked job.now i) }
 
     // Where memory was missing, nothing was written.
-    ensures still { result ≡ Err SheetFault.NoMemory → D.tells ≡ true → IsStill (D.history disk.old) (D.history disk.new) }
-    ensures same { D.loans disk.new ≡ D.loans disk.old }
-    ensures cause { HasCause (D.faults disk.old) (D.faults disk.new)
-        (IsErrOf result SheetFault.DiskFault) }
-    ensures steady { result ≢ Err SheetFault.DiskFault → D.faults disk.new ≡ D.faults disk.old }
+    ensures still { result ≡ Err SheetFault.NoMemory → D.tells ≡ true → IsStill (D.state disk.old).history (D.state disk.new).history }
+    ensures disk { LeavesDisk (IsErrOf result SheetFault.DiskFault) (D.state disk.old) (D.state disk.new) }
 {
     let sheet = match sheet_of(alloc, disk, job, view, tone) {
         Ok(sheet) => sheet,
@@ -105,16 +102,13 @@ fn sheet_of<D: Disk>(
 ) -> Result<SheetFile, SheetFault>
     requires size { length view.now.gates ≡ frames_of job.now }
     ensures bytes { IfOk result (λ sheet. D.tells ≡ true
-        → sheet.bytes.items ≡ sheet_file tone.now.table job.now view.now (view_of (D.history disk.old))) }
+        → sheet.bytes.items ≡ sheet_file tone.now.table job.now view.now (view_of (D.state disk.old).history)) }
     ensures cells { IfOk result (λ sheet. sheet.done.cells ≡ length (cell_frames job.now)) }
     ensures peak { IfOk result (λ sheet. D.tells ≡ true
-        → sheet.done.peak ≡ sheet_peak tone.now.table job.now view.now (view_of (D.history disk.old))) }
+        → sheet.done.peak ≡ sheet_peak tone.now.table job.now view.now (view_of (D.state disk.old).history)) }
     ensures code { IfOk result (λ sheet. sheet.done.peak ≤ 1023) }
-    ensures still { D.tells ≡ true → IsStill (D.history disk.old) (D.history disk.new) }
-    ensures same { D.loans disk.new ≡ D.loans disk.old }
-    ensures cause { HasCause (D.faults disk.old) (D.faults disk.new)
-        (IsErrOf result SheetFault.DiskFault) }
-    ensures steady { result ≢ Err SheetFault.DiskFault → D.faults disk.new ≡ D.faults disk.old }
+    ensures still { D.tells ≡ true → IsStill (D.state disk.old).history (D.state disk.new).history }
+    ensures disk { LeavesDisk (IsErrOf result SheetFault.DiskFault) (D.state disk.old) (D.state disk.new) }
 {
     job.recall();
     let Ok(frames) = cell_frames(alloc, job) else {
@@ -147,12 +141,9 @@ fn draw_sheet<D: Disk>(
     requires frames { frames.now ≡ cell_frames job.now }
     requires within { All (λ i. i < frames_of job.now) frames.now }
     requires some { 0 < length frames.now }
-    ensures drawn { IfOk result (λ drawing. DrawsSheet tone.now.table job.now view.now D.tells (D.history disk.old) drawing) }
-    ensures still { D.tells ≡ true → IsStill (D.history disk.old) (D.history disk.new) }
-    ensures same { D.loans disk.new ≡ D.loans disk.old }
-    ensures cause { HasCause (D.faults disk.old) (D.faults disk.new)
-        (IsErrOf result SheetFault.DiskFault) }
-    ensures steady { result ≢ Err SheetFault.DiskFault → D.faults disk.new ≡ D.faults disk.old }
+    ensures drawn { IfOk result (λ drawing. DrawsSheet tone.now.table job.now view.now D.tells (D.state disk.old).history drawing) }
+    ensures still { D.tells ≡ true → IsStill (D.state disk.old).history (D.state disk.new).history }
+    ensures disk { LeavesDisk (IsErrOf result SheetFault.DiskFault) (D.state disk.old) (D.state disk.new) }
 {
     let rows = rows_of(job, frames);
     let Ok(mut drawing) = begin(alloc, job, rows) else {
@@ -260,13 +251,10 @@ fn draw_row<D: Disk>(
     requires within { All (λ i. i < frames_of job.now) frames.now }
     requires row { row ≤ 4096 }
     requires piece { length buffers.old.piece.items ≡ 65536 }
-    ensures drawn { OnOk result (DrawsRow tone.now.table job.now view.now D.tells (D.history disk.old) row drawing.old drawing.new) }
+    ensures drawn { OnOk result (DrawsRow tone.now.table job.now view.now D.tells (D.state disk.old).history row drawing.old drawing.new) }
     ensures piece { length buffers.new.piece.items ≡ 65536 }
-    ensures still { D.tells ≡ true → IsStill (D.history disk.old) (D.history disk.new) }
-    ensures same { D.loans disk.new ≡ D.loans disk.old }
-    ensures cause { HasCause (D.faults disk.old) (D.faults disk.new)
-        (IsErrOf result SheetFault.DiskFault) }
-    ensures steady { result ≢ Err SheetFault.DiskFault → D.faults disk.new ≡ D.faults disk.old }
+    ensures still { D.tells ≡ true → IsStill (D.state disk.old).history (D.state disk.new).history }
+    ensures disk { LeavesDisk (IsErrOf result SheetFault.DiskFault) (D.state disk.old) (D.state disk.new) }
 {
     job.recall();
     let cells = match load_row(alloc, disk, job, view, frames, row, buffers) {

@@ -1,6 +1,6 @@
 //! The quality table, as text.
 ghost use Rattle.std.specs.Prelude.{◌≡◌, ◌≢◌, ◌∷◌, [], ◌++◌, ◌<◌, ◌≤◌, true, length, map, codes, decimal, OnOk, IfOk, IsErrOf, Err};
-ghost use Rattle.cf_base.specs.Count.{HasCause};
+ghost use Rattle.reel_disk.specs.State.{LeavesDisk};
 ghost use Rattle.printed_text.specs.Text.{spaced_line};
 ghost use Rattle.reel_disk.specs.Disk.{view_of, IsStill};
 ghost use Rattle.reel_writer.specs.Reel.{frames_of};
@@ -42,21 +42,18 @@ pub fn quality_table<D: Disk, C: Counter>(
     requires ready { C.ready }
     requires size { length view.now.gates ≡ frames_of job.now }
     ensures table { IfOk result (λ text. D.tells ≡ true
-        → text.items ≡ quality_table (map (λ p. p.kind) probes.now) job.now view.now (view_of (D.history disk.old))) }
+        → text.items ≡ quality_table (map (λ p. p.kind) probes.now) job.now view.now (view_of (D.state disk.old).history)) }
 
     // Where the folder is sound, and the view is what it acknowledges, these are the files of the definition.
     ensures sound { IfOk result (λ text. D.tells ≡ true
-        → IsDefinedWhereSound (map (λ p. p.kind) probes.now) job.now view.now (view_of (D.history disk.old)) text.items) }
+        → IsDefinedWhereSound (map (λ p. p.kind) probes.now) job.now view.now (view_of (D.state disk.old).history) text.items) }
 
     // Which frames have a line is known over every disk.
     ensures known { IfOk result (λ text. IsTable (map (λ p. p.kind) probes.now) view.now text.items) }
 
     // What the disk holds stays as it is, at every moment and whatever the answer is.
-    ensures still { D.tells ≡ true → IsStill (D.history disk.old) (D.history disk.new) }
-    ensures same { D.loans disk.new ≡ D.loans disk.old }
-    ensures cause { HasCause (D.faults disk.old) (D.faults disk.new)
-        (IsErrOf result QcFault.DiskFault) }
-    ensures steady { result ≢ Err QcFault.DiskFault → D.faults disk.new ≡ D.faults disk.old }
+    ensures still { D.tells ≡ true → IsStill (D.state disk.old).history (D.state disk.new).history }
+    ensures disk { LeavesDisk (IsErrOf result QcFault.DiskFault) (D.state disk.old) (D.state disk.new) }
 {
     let room = counter.most_words().min(pixels_of(job));
     let Ok(mut buffers) = Buffers::new(alloc, room) else {
@@ -151,12 +148,10 @@ fn put_rows<D: Disk, C: Counter>(
     requires piece { length buffers.old.piece.items ≡ 65536 }
     requires room { 0 < length buffers.old.words.items }
     requires few { length buffers.old.words.items ≤ 16777216 }
-    ensures rows { IfOk result (AddsRows (map (λ p. p.kind) probes.now) job.now view.now D.tells (D.history disk.old) text.old text.new) }
-    ensures still { D.tells ≡ true → IsStill (D.history disk.old) (D.history disk.new) }
-    ensures same { D.loans disk.new ≡ D.loans disk.old }
-    ensures cause { HasCause (D.faults disk.old) (D.faults disk.new)
-        (IsErrOf result QcFault.DiskFault) }
-    ensures steady { result ≢ Err QcFault.DiskFault → D.faults disk.new ≡ D.faults disk.old }
+    ensures rows { IfOk result
+        (AddsRows (map (λ p. p.kind) probes.now) job.now view.now D.tells (D.state disk.old).history text.old text.new) }
+    ensures still { D.tells ≡ true → IsStill (D.state disk.old).history (D.state disk.new).history }
+    ensures disk { LeavesDisk (IsErrOf result QcFault.DiskFault) (D.state disk.old) (D.state disk.new) }
 {
     let mut frames = 0;
     for i in 0..job.count() {
@@ -186,15 +181,13 @@ fn put_frame<D: Disk, C: Counter>(
     requires piece { length buffers.old.piece.items ≡ 65536 }
     requires room { 0 < length buffers.old.words.items }
     requires few { length buffers.old.words.items ≤ 16777216 }
-    ensures rows { IfOk result (AddsRow (map (λ p. p.kind) probes.now) job.now view.now i D.tells (D.history disk.old) text.old text.new) }
+    ensures rows { IfOk result
+        (AddsRow (map (λ p. p.kind) probes.now) job.now view.now i D.tells (D.state disk.old).history text.old text.new) }
     ensures few { IfOk result (λ more. more ≤ 1) }
     ensures piece { length buffers.new.piece.items ≡ 65536 }
     ensures room { length buffers.new.words.items ≡ length buffers.old.words.items }
-    ensures still { D.tells ≡ true → IsStill (D.history disk.old) (D.history disk.new) }
-    ensures same { D.loans disk.new ≡ D.loans disk.old }
-    ensures cause { HasCause (D.faults disk.old) (D.faults disk.new)
-        (IsErrOf result QcFault.DiskFault) }
-    ensures steady { result ≢ Err QcFault.DiskFault → D.faults disk.new ≡ D.faults disk.old }
+    ensures still { D.tells ≡ true → IsStill (D.state disk.old).history (D.state disk.new).history }
+    ensures disk { LeavesDisk (IsErrOf result QcFault.DiskFault) (D.state disk.old) (D.state disk.new) }
 {
     if !view.is_acked(i) {
         return Ok(0);

@@ -1,6 +1,6 @@
 //! The words of a frame's file.
 ghost use Rattle.std.specs.Prelude.{◌≡◌, ◌≢◌, ◌*◌, ◌<◌, ◌≤◌, ◌^◌, ℕ, true, length, drop, slice_index, take, Some, OnOk, IfOk, IsErrOf, Err};
-ghost use Rattle.cf_base.specs.Count.{HasCause};
+ghost use Rattle.reel_disk.specs.State.{LeavesDisk};
 ghost use Rattle.conform_job.specs.Job.{file_of};
 ghost use Rattle.reel_disk.specs.Disk.{view_of, IsStill};
 ghost use Rattle.reel_writer.specs.Reel.{frames_of};
@@ -90,15 +90,12 @@ pub(crate) fn read_frame<D: Disk>(
     requires within { i < frames_of job.now }
     requires piece { length buffers.old.piece.items ≡ 65536 }
     ensures words { OnOk result (D.tells ≡ true
-        → buffers.new.words.items ≡ frame_words job.now (view_of (D.history disk.old) (file_of job.now i))) }
+        → buffers.new.words.items ≡ frame_words job.now (view_of (D.state disk.old).history (file_of job.now i))) }
     ensures size { OnOk result (length buffers.new.words.items ≤ 16777216) }
     ensures most { OnOk result (length buffers.new.words.items ≤ pixel_count job.now) }
     ensures piece { length buffers.new.piece.items ≡ 65536 }
-    ensures still { D.tells ≡ true → IsStill (D.history disk.old) (D.history disk.new) }
-    ensures same { D.loans disk.new ≡ D.loans disk.old }
-    ensures cause { HasCause (D.faults disk.old) (D.faults disk.new)
-        (IsErrOf result QcFault.DiskFault) }
-    ensures steady { result ≢ Err QcFault.DiskFault → D.faults disk.new ≡ D.faults disk.old }
+    ensures still { D.tells ≡ true → IsStill (D.state disk.old).history (D.state disk.new).history }
+    ensures disk { LeavesDisk (IsErrOf result QcFault.DiskFault) (D.state disk.old) (D.state disk.new) }
 {
     // The frame before may have been short.
     let Ok(()) = buffers.words.resize(pixels_of(job), 0) else {
@@ -131,16 +128,13 @@ pub(crate) fn read_words<D: Disk>(
     requires room { length words.old ≤ 16777216 }
     requires piece { length piece.old ≡ 65536 }
     ensures words { IfOk result (λ count. D.tells ≡ true
-        → take count words.new ≡ words_in first (length words.old) (view_of (D.history disk.old) id)) }
+        → take count words.new ≡ words_in first (length words.old) (view_of (D.state disk.old).history id)) }
     ensures few { IfOk result (λ count. count ≤ length words.old) }
     ensures small { (k : ℕ) → slice_index words.new k < 2 ^ 32 }
     ensures size { length words.new ≡ length words.old }
     ensures piece { length piece.new ≡ 65536 }
-    ensures still { D.tells ≡ true → IsStill (D.history disk.old) (D.history disk.new) }
-    ensures same { D.loans disk.new ≡ D.loans disk.old }
-    ensures cause { HasCause (D.faults disk.old) (D.faults disk.new)
-        (IsErrOf result QcFault.DiskFault) }
-    ensures steady { result ≢ Err QcFault.DiskFault → D.faults disk.new ≡ D.faults disk.old }
+    ensures still { D.tells ≡ true → IsStill (D.state disk.old).history (D.state disk.new).history }
+    ensures disk { LeavesDisk (IsErrOf result QcFault.DiskFault) (D.state disk.old) (D.state disk.new) }
 {
     let most = words.len();
     let mut done = 0;
@@ -169,15 +163,12 @@ fn read_piece<D: Disk>(
     requires first { first ≤ 33554432 }
     requires bytes { length bytes.old ≡ 4 * length words.old }
     ensures words { IfOk result (λ count. D.tells ≡ true
-        → take count words.new ≡ words_in first (length words.old) (view_of (D.history disk.old) id)) }
+        → take count words.new ≡ words_in first (length words.old) (view_of (D.state disk.old).history id)) }
     ensures few { IfOk result (λ count. count ≤ length words.old) }
     ensures size { length words.new ≡ length words.old }
     ensures bytes { length bytes.new ≡ length bytes.old }
-    ensures still { D.tells ≡ true → IsStill (D.history disk.old) (D.history disk.new) }
-    ensures same { D.loans disk.new ≡ D.loans disk.old }
-    ensures cause { HasCause (D.faults disk.old) (D.faults disk.new)
-        (IsErrOf result QcFault.DiskFault) }
-    ensures steady { result ≢ Err QcFault.DiskFault → D.faults disk.new ≡ D.faults disk.old }
+    ensures still { D.tells ≡ true → IsStill (D.state disk.old).history (D.state disk.new).history }
+    ensures disk { LeavesDisk (IsErrOf result QcFault.DiskFault) (D.state disk.old) (D.state disk.new) }
 {
     match disk.read(id, 2048 + 4 * first as u64, bytes) {
         Got::Bytes(n) => Ok(take_words(&bytes[..n], words)),

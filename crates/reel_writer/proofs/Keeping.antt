@@ -4,7 +4,7 @@ use Rattle.std.specs.Prelude.{count_by}
 use Rattle.std.proofs.lemmas.Bool.{cases_eq, cases_lt, false≢true}
 use Rattle.std.proofs.lemmas.List.{length-set, get_or_append_left, get_or-append-add, get_or-set_same, get_or-set_other}
 use Rattle.std.proofs.lemmas.List.Sums.{sum_by-set, count_by-le-length}
-use Rattle.reel_disk.specs.Disk.{History}
+use Rattle.reel_disk.specs.State.{DiskState}
 use Rattle.conform_job.specs.Job.{JobData}
 use Rattle.reel_writer.specs.View.{ReelView, IsReelOf}
 
@@ -22,13 +22,13 @@ module _ (gates : List Bool) (i : ℕ) (within : i < length gates) (fresh : get_
   pub fewer_than_all : count_by (λ gate. gate) gates < length gates
   fewer_than_all = omega (arith, one_more_gate, count_by-le-length (λ (gate : Bool). gate) (set gates i true), length-set gates i true)
 
-module _ {D : Type 0} (job : JobData) (tells : Bool) (history : D → History) (reel : ReelView D) (of : IsReelOf job tells history reel) (i : ℕ) (within : i < length reel.ledger.gates) (fresh : get_or reel.ledger.gates i false ≡ false) where
+module _ {D : Type 0} (job : JobData) (tells : Bool) (state : D → DiskState) (reel : ReelView D) (of : IsReelOf job tells state reel) (i : ℕ) (within : i < length reel.ledger.gates) (fresh : get_or reel.ledger.gates i false ≡ false) where
   -- the list of acks has room for one more
   pub has_room : (len capacity : ℕ) → len ≡ length reel.acks → length reel.ledger.gates ≤ capacity → len < capacity
   has_room len capacity is room = let was = of.kept in omega (arith, is, room, was, fewer_than_all reel.ledger.gates i within fresh)
 
 -- one frame more is acknowledged, and its number is the last of the acks
-module _ {D : Type 0} (job : JobData) (tells : Bool) (history : D → History) (reel : ReelView D) (of : IsReelOf job tells history reel) (i : ℕ) (within : i < length reel.ledger.gates) (fresh : get_or reel.ledger.gates i false ≡ false) where
+module _ {D : Type 0} (job : JobData) (tells : Bool) (state : D → DiskState) (reel : ReelView D) (of : IsReelOf job tells state reel) (i : ℕ) (within : i < length reel.ledger.gates) (fresh : get_or reel.ledger.gates i false ≡ false) where
   abbrev more : List ℕ
   more = reel.acks ++ i ∷ []
 

@@ -6,7 +6,7 @@
 --     frames_of job      how many frames the reel has
 --     reel_of job files      for each frame its file and its bytes
 --     IsReelRun job told old new      what each call on the reel keeps, and so does each run of them
-use Rattle.std.specs.Prelude.{◌≡◌, ◌⊎◌, ℕ, List, length, Option, Some, IfSome, Result}
+use Rattle.std.specs.Prelude.{◌≡◌, ◌⊎◌, ℕ, List, Option, Some, IfSome, Result}
 use Rattle.cf_base.specs.declared.file.FileId.{FileId}
 use Rattle.cf_base.specs.declared.file.FileId.TheVariants.{Body2}
 use Rattle.scan_source.specs.World.{World, file_at}

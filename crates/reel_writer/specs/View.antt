@@ -5,7 +5,8 @@
 --     IsReelOf      what holds of every reel of a job
 use Rattle.std.specs.Prelude.{◌≡◌, ◌≢◌, ℕ, ◌+◌, ◌<◌, Bool, true, false, List, [], ◌∷◌, ◌++◌, length, set, count_by, slice_index, slice_index_or, Result, Ok, Err, refl}
 use Rattle.std.specs.Coded.{Coded, code_by, coded×, coded_ℕ, coded_bool, coded_list}
-use Rattle.reel_disk.specs.Disk.{History, moment_of}
+use Rattle.reel_disk.specs.State.{DiskState}
+use Rattle.reel_disk.specs.Disk.{moment_of}
 use Rattle.resume_ledger.specs.Ledger.{LedgerState, Agrees}
 use Rattle.resume_ledger.specs.declared.attach.OpenFault.{OpenFault}
 use Rattle.conform_job.specs.Job.{JobData}
@@ -59,8 +60,7 @@ module _ {D : Type 0} where
   -- The ledger is the job's. The frames finished in this run are acknowledged, each once, and with
   -- those from before they are all that are. While the reel is open, the ledger agrees with a disk
   -- that tells.
-  pub record IsReelOf (job : JobData) (tells : Bool) (history : D
-      → History) (reel : ReelView D) : Type 0 where
+  pub record IsReelOf (job : JobData) (tells : Bool) (state : D → DiskState) (reel : ReelView D) : Type 0 where
     pub digest : reel.ledger.digest ≡ job.parts.digest
     pub size : length reel.ledger.gates ≡ frames_of job
     pub acked : (j : ℕ) → j < length reel.acks
@@ -69,7 +69,7 @@ module _ {D : Type 0} where
         → slice_index reel.acks j ≢ slice_index reel.acks k
     pub kept : reel.kept + length reel.acks ≡ count_by (λ gate. gate) reel.ledger.gates
     pub agrees : reel.ledger.closed ≡ false → tells ≡ true
-        → Agrees (moment_of (history reel.disk)) reel.ledger
+        → Agrees (moment_of (state reel.disk).history) reel.ledger
 
   -- what a begin gave: the ledger or the refusal, and the disk as it is then
   abbrev pub ledger_in : Result (ReelView D) (OpenFault × D) → Result LedgerState OpenFault

@@ -4,7 +4,7 @@ ghost use Rattle.conform_job.specs.Job.{JobData, file_of};
 ghost use Rattle.reel_disk.specs.Disk.{Files, view_of, IsStill};
 ghost use Rattle.resume_ledger.specs.Hash.{digest_of_file};
 ghost use Rattle.reel_writer.specs.inside.Ahead.{HasDigest, HasFile};
-ghost use Rattle.reel_writer.specs.Leaves.{LeavesDisk};
+ghost use Rattle.reel_disk.specs.State.{LeavesDisk};
 ghost use Rattle.reel_writer.specs.Reel.{frames_of};
 
 use crate::whole::read_whole;
@@ -26,9 +26,9 @@ pub(crate) fn fill_rooms<D: Disk, H: Hasher>(
     requires can_hash { H.can_hash }
     requires size { length view.now.gates ≡ frames_of job.now }
     ensures digests { OnOk result (D.tells ≡ true
-        → All (HasDigest job.now (view_of (D.history disk.old))) rooms.new) }
-    ensures still { D.tells ≡ true → IsStill (D.history disk.old) (D.history disk.new) }
-    ensures disk { LeavesDisk D.faults D.loans (IsErr result) disk.old disk.new }
+        → All (HasDigest job.now (view_of (D.state disk.old).history)) rooms.new) }
+    ensures still { D.tells ≡ true → IsStill (D.state disk.old).history (D.state disk.new).history }
+    ensures disk { LeavesDisk (IsErr result) (D.state disk.old) (D.state disk.new) }
 {
     match read_ahead(disk, job, view, from, rooms) {
         Ok(()) => {
@@ -49,9 +49,9 @@ fn read_ahead<D: Disk>(
 ) -> Result<(), DiskFault>
     requires size { length view.now.gates ≡ frames_of job.now }
     ensures files { OnOk result (D.tells ≡ true
-        → All (HasFile job.now (view_of (D.history disk.old))) rooms.new) }
-    ensures still { D.tells ≡ true → IsStill (D.history disk.old) (D.history disk.new) }
-    ensures disk { LeavesDisk D.faults D.loans (IsErr result) disk.old disk.new }
+        → All (HasFile job.now (view_of (D.state disk.old).history)) rooms.new) }
+    ensures still { D.tells ≡ true → IsStill (D.state disk.old).history (D.state disk.new).history }
+    ensures disk { LeavesDisk (IsErr result) (D.state disk.old) (D.state disk.new) }
 {
     let mut next = from;
     for n in 0..rooms.len() {
@@ -74,9 +74,9 @@ fn read_next<D: Disk>(
 ) -> Result<u32, DiskFault>
     requires size { length view.now.gates ≡ frames_of job.now }
     ensures file { OnOk result (D.tells ≡ true
-        → HasFile job.now (view_of (D.history disk.old)) room.new) }
-    ensures still { D.tells ≡ true → IsStill (D.history disk.old) (D.history disk.new) }
-    ensures disk { LeavesDisk D.faults D.loans (IsErr result) disk.old disk.new }
+        → HasFile job.now (view_of (D.state disk.old).history) room.new) }
+    ensures still { D.tells ≡ true → IsStill (D.state disk.old).history (D.state disk.new).history }
+    ensures disk { LeavesDisk (IsErr result) (D.state disk.old) (D.state disk.new) }
 {
     room.frame = None;
     let end = job.count();

@@ -4,7 +4,7 @@ ghost use Rattle.reel_disk.specs.Disk.{view_of, IsStill};
 ghost use Rattle.conform_job.specs.Job.{file_of};
 ghost use Rattle.resume_ledger.specs.Hash.{digest_of_file};
 ghost use Rattle.reel_writer.specs.inside.Ahead.{HasDigest};
-ghost use Rattle.reel_writer.specs.Leaves.{LeavesDisk};
+ghost use Rattle.reel_disk.specs.State.{LeavesDisk};
 ghost use Rattle.reel_writer.specs.Reel.{frames_of};
 ghost use Rattle.reel_writer.specs.Damage.{HasChecked, IsCheckFor, IsIntactWhereSound};
 ghost use Rattle.reel_writer.specs.inside.Damage.{HasCheckedOne, IsCheckOneFor};
@@ -49,18 +49,18 @@ pub fn check<D: Disk, H: Hasher>(
     requires can_hash { H.can_hash }
     requires size { length view.now.gates ≡ frames_of job.now }
     ensures answer { D.tells ≡ true
-        → HasChecked job.now view.now (view_of (D.history disk.old)) result }
+        → HasChecked job.now view.now (view_of (D.state disk.old).history) result }
 
     // Where the folder is sound, and the view is what it acknowledges, no frame is damaged.
     ensures intact { D.tells ≡ true
-        → IsIntactWhereSound job.now view.now (view_of (D.history disk.old)) }
+        → IsIntactWhereSound job.now view.now (view_of (D.state disk.old).history) }
 
     // What the disk holds stays as it is, at every moment and whatever the answer is.
-    ensures still { D.tells ≡ true → IsStill (D.history disk.old) (D.history disk.new) }
+    ensures still { D.tells ≡ true → IsStill (D.state disk.old).history (D.state disk.new).history }
 
     // The number of records, and which frame is damaged, are known over every disk.
     ensures known { IsCheckFor job.now view.now result }
-    ensures disk { LeavesDisk D.faults D.loans (result ≡ Err CheckFault.DiskFault) disk.old disk.new }
+    ensures disk { LeavesDisk (result ≡ Err CheckFault.DiskFault) (D.state disk.old) (D.state disk.new) }
 {
     let Ok(mut piece) = vec![in alloc; 0u8; 65536] else {
         return Err(CheckFault::NoMemory);
@@ -84,13 +84,13 @@ fn check_all<D: Disk, H: Hasher>(
 ) -> Result<u32, CheckFault>
     requires can_hash { H.can_hash }
     requires size { length view.now.gates ≡ frames_of job.now }
-    requires rooms { D.tells ≡ true → All (HasDigest job.now (view_of (D.history disk.old))) rooms.old }
+    requires rooms { D.tells ≡ true → All (HasDigest job.now (view_of (D.state disk.old).history)) rooms.old }
     requires piece { length piece.old ≡ 65536 }
     ensures answer { D.tells ≡ true
-        → HasChecked job.now view.now (view_of (D.history disk.old)) result }
-    ensures still { D.tells ≡ true → IsStill (D.history disk.old) (D.history disk.new) }
+        → HasChecked job.now view.now (view_of (D.state disk.old).history) result }
+    ensures still { D.tells ≡ true → IsStill (D.state disk.old).history (D.state disk.new).history }
     ensures known { IsCheckFor job.now view.now result }
-    ensures disk { LeavesDisk D.faults D.loans (result ≡ Err CheckFault.DiskFault) disk.old disk.new }
+    ensures disk { LeavesDisk (result ≡ Err CheckFault.DiskFault) (D.state disk.old) (D.state disk.new) }
 {
     let mut records = 0;
     for i in 0..job.count() {
@@ -115,16 +115,16 @@ fn check_one<D: Disk, H: Hasher>(
     requires can_hash { H.can_hash }
     requires size { length view.now.gates ≡ frames_of job.now }
     requires within { i < frames_of job.now }
-    requires rooms { D.tells ≡ true → All (HasDigest job.now (view_of (D.history disk.old))) rooms.old }
+    requires rooms { D.tells ≡ true → All (HasDigest job.now (view_of (D.state disk.old).history)) rooms.old }
     requires piece { length piece.old ≡ 65536 }
     ensures answer { D.tells ≡ true
-        → HasCheckedOne job.now view.now (view_of (D.history disk.old)) i result }
-    ensures still { D.tells ≡ true → IsStill (D.history disk.old) (D.history disk.new) }
+        → HasCheckedOne job.now view.now (view_of (D.state disk.old).history) i result }
+    ensures still { D.tells ≡ true → IsStill (D.state disk.old).history (D.state disk.new).history }
     ensures known { IsCheckOneFor view.now i result }
     ensures rooms { OnOk result (D.tells ≡ true
-        → All (HasDigest job.now (view_of (D.history disk.old))) rooms.new) }
+        → All (HasDigest job.now (view_of (D.state disk.old).history)) rooms.new) }
     ensures piece { length piece.new ≡ 65536 }
-    ensures disk { LeavesDisk D.faults D.loans (result ≡ Err CheckFault.DiskFault) disk.old disk.new }
+    ensures disk { LeavesDisk (result ≡ Err CheckFault.DiskFault) (D.state disk.old) (D.state disk.new) }
 {
     let Some(kept) = view.hash_of(i) else {
         return Ok(0);
@@ -157,15 +157,15 @@ fn digest_of<D: Disk, H: Hasher>(
     requires can_hash { H.can_hash }
     requires size { length view.now.gates ≡ frames_of job.now }
     requires within { i < frames_of job.now }
-    requires rooms { D.tells ≡ true → All (HasDigest job.now (view_of (D.history disk.old))) rooms.old }
+    requires rooms { D.tells ≡ true → All (HasDigest job.now (view_of (D.state disk.old).history)) rooms.old }
     requires piece { length piece.old ≡ 65536 }
     ensures digest { IfOk result (λ digest. D.tells ≡ true
-        → digest ≡ digest_of_file (view_of (D.history disk.old) (file_of job.now i))) }
-    ensures still { D.tells ≡ true → IsStill (D.history disk.old) (D.history disk.new) }
+        → digest ≡ digest_of_file (view_of (D.state disk.old).history (file_of job.now i))) }
+    ensures still { D.tells ≡ true → IsStill (D.state disk.old).history (D.state disk.new).history }
     ensures rooms { OnOk result (D.tells ≡ true
-        → All (HasDigest job.now (view_of (D.history disk.old))) rooms.new) }
+        → All (HasDigest job.now (view_of (D.state disk.old).history)) rooms.new) }
     ensures piece { length piece.new ≡ 65536 }
-    ensures disk { LeavesDisk D.faults D.loans (IsErr result) disk.old disk.new }
+    ensures disk { LeavesDisk (IsErr result) (D.state disk.old) (D.state disk.new) }
 {
     if let Some(digest) = digest_in(rooms, i) {
         return Ok(digest);

@@ -1,6 +1,6 @@
 //! The files of a job's frames.
 ghost use Rattle.std.specs.Prelude.{◌≡◌, ◌≢◌, ◌<◌, ◌≤◌, ℕ, true, length, IfOk, IsErrOf, Err};
-ghost use Rattle.cf_base.specs.Count.{HasCause};
+ghost use Rattle.reel_disk.specs.State.{LeavesDisk};
 ghost use Rattle.conform_job.specs.Job.{file_of};
 ghost use Rattle.conform_job.specs.Refusals.{Files as Sources};
 ghost use Rattle.frame_render.specs.Frame.{frame_file, frame_size};
@@ -40,24 +40,21 @@ pub(crate) fn attach_for<D: Disk>(
     size: u64,
 ) -> Result<Ledger, OpenFault>
     ensures answer { D.tells ≡ true
-        → HasBegun job.now size (D.history disk.old) (D.history disk.new) result }
+        → HasBegun job.now size (D.state disk.old).history (D.state disk.new).history result }
     ensures run { D.tells ≡ true
         → IsOpeningRun job.now.parts.digest (frames_of job.now) (file_of job.now) size
-        (D.history disk.old) (D.history disk.new) }
+        (D.state disk.old).history (D.state disk.new).history }
     ensures adds_none { D.tells ≡ true
-        → AddsNone job.now.parts.digest (frames_of job.now) (D.history disk.old)
-        (D.history disk.new) }
-    ensures only_reads { D.tells ≡ true → IsInForce Version.Two (view_of (D.history disk.old))
-        → Narrows (D.history disk.old) (D.history disk.new) }
+        → AddsNone job.now.parts.digest (frames_of job.now) (D.state disk.old).history
+        (D.state disk.new).history }
+    ensures only_reads { D.tells ≡ true → IsInForce Version.Two (view_of (D.state disk.old).history)
+        → Narrows (D.state disk.old).history (D.state disk.new).history }
     ensures writes { D.tells ≡ true
-        → WritesOnly (D.history disk.old) (D.history disk.new) IsWrittenLedgerFile }
+        → WritesOnly (D.state disk.old).history (D.state disk.new).history IsWrittenLedgerFile }
     ensures spares { D.tells ≡ true
-        → Spares (D.history disk.old) (D.history disk.new) IsLedgerFile }
+        → Spares (D.state disk.old).history (D.state disk.new).history IsLedgerFile }
     ensures known { IsAnswerTo job.now.parts.digest (frames_of job.now) result }
-    ensures same { D.loans disk.new ≡ D.loans disk.old }
-    ensures cause { HasCause (D.faults disk.old) (D.faults disk.new)
-        (IsErrOf result OpenFault.DiskFault) }
-    ensures steady { result ≢ Err OpenFault.DiskFault → D.faults disk.new ≡ D.faults disk.old }
+    ensures disk { LeavesDisk (IsErrOf result OpenFault.DiskFault) (D.state disk.old) (D.state disk.new) }
 {
     let Ok(files) = files_of(alloc, job) else {
         return Err(OpenFault::NoMemory);

@@ -1,6 +1,6 @@
 //! The reel of a job.
 ghost use Rattle.std.specs.Prelude.{◌≡◌, ◌≢◌, ◌<◌, true, false, Some, Err, length, slice_index_or, OnOk, OnErr, IfOk, IsErr, IsErrOf};
-ghost use Rattle.cf_base.specs.Count.{HasCause};
+ghost use Rattle.reel_disk.specs.State.{LeavesDisk};
 ghost use Rattle.conform_job.specs.Job.{file_of};
 ghost use Rattle.reel_disk.specs.Disk.{Files, moment_of, view_of};
 ghost use Rattle.reel_disk.specs.Runs.{Narrows, Surely, Spares};
@@ -9,6 +9,7 @@ ghost use Rattle.scan_source.specs.World.{World};
 ghost use Rattle.resume_ledger.specs.Ledger.{IsInForce, IsLedgerFile, IsWrittenLedgerFile};
 ghost use Rattle.resume_ledger.specs.Sound.{AddsNone, AddsAtMost, WritesOnly};
 ghost use Rattle.resume_ledger.specs.Attach.{IsAnswerTo};
+ghost use Rattle.reel_writer.specs.Calls.{Finishes};
 ghost use Rattle.reel_writer.specs.Reel.{frames_of, HasAcked, HasFrameFiles, HasStored, IsSoundReel, IsReelRun, KeepsReel, IsWrittenFile, HasBegun};
 ghost use Rattle.reel_writer.specs.View.{ReelView, IsReelOf, IsOpening, after_finish, after_fault, ledger_in, disk_in};
 
@@ -52,7 +53,7 @@ impl<D: Disk, N: Work> Model for Reel<D, N> {
     } };
 
     ghost invariant = { λ r.
-        IsReelOf N.job D.tells D.history (record {
+        IsReelOf N.job D.tells D.state (record {
           disk = r.disk;
           ledger = record { digest = r.ledger.digest; gates = r.ledger.gates; closed = r.closed };
           acks = r.acks.items;
@@ -70,38 +71,34 @@ impl<D: Disk, N: Work> Reel<D, N> {
 
         // By the view at the start: which answer comes, and what the disk holds then.
         ensures answer { D.tells ≡ true
-            → HasBegun N.job (frame_size N.job) (D.history disk) (D.history (disk_in result))
+            → HasBegun N.job (frame_size N.job) (D.state disk).history (D.state (disk_in result)).history
             (ledger_in result) }
 
         // A crash at any moment of the call leaves a folder whose acknowledged frames are the
         // reel's. No acknowledgement is lost, where each frame that version 1 acknowledges has a
         // file of a frame's length, as sound files have; and none is made.
         ensures run { D.tells ≡ true
-            → IsReelRun N.job N.files (D.history disk) (D.history (disk_in result)) }
+            → IsReelRun N.job N.files (D.state disk).history (D.state (disk_in result)).history }
         ensures sound_has { (world : World) (files : Files) → IsSoundReel N.job world files
             → HasFrameFiles N.job files }
         ensures adds_none { D.tells ≡ true
-            → AddsNone N.job.parts.digest (frames_of N.job) (D.history disk)
-            (D.history (disk_in result)) }
+            → AddsNone N.job.parts.digest (frames_of N.job) (D.state disk).history
+            (D.state (disk_in result)).history }
 
         // In a folder of version 2 nothing is written, whatever the answer is, in any other no file
         // but those of version 2, and in no folder is a file changed that isn't the ledger's.
-        ensures only_reads { D.tells ≡ true → IsInForce Version.Two (view_of (D.history disk))
-            → Narrows (D.history disk) (D.history (disk_in result)) }
+        ensures only_reads { D.tells ≡ true → IsInForce Version.Two (view_of (D.state disk).history)
+            → Narrows (D.state disk).history (D.state (disk_in result)).history }
         ensures writes { D.tells ≡ true
-            → WritesOnly (D.history disk) (D.history (disk_in result)) IsWrittenLedgerFile }
+            → WritesOnly (D.state disk).history (D.state (disk_in result)).history IsWrittenLedgerFile }
         ensures spares { D.tells ≡ true
-            → Spares (D.history disk) (D.history (disk_in result)) IsLedgerFile }
+            → Spares (D.state disk).history (D.state (disk_in result)).history IsLedgerFile }
 
         // The job's digest, the size of the ledger and that it is open are known over every disk.
         ensures known { IsAnswerTo N.job.parts.digest (frames_of N.job) (ledger_in result) }
         ensures opening { IfOk result IsOpening }
 
-        ensures same { D.loans (disk_in result) ≡ D.loans disk }
-        ensures cause { HasCause (D.faults disk) (D.faults (disk_in result))
-            (IsErrOf (ledger_in result) OpenFault.DiskFault) }
-        ensures steady { ledger_in result ≢ Err OpenFault.DiskFault
-            → D.faults (disk_in result) ≡ D.faults disk }
+        ensures disk { LeavesDisk (IsErrOf (ledger_in result) OpenFault.DiskFault) (D.state disk) (D.state (disk_in result)) }
     {
         let size = frame_len(job);
         let Ok(acks) = Vec::with_capacity(alloc, job.count() as usize) else {
@@ -136,36 +133,37 @@ impl<D: Disk, N: Work> Reel<D, N> {
         // A crash at any moment of the call leaves a folder whose acknowledged frames are the
         // reel's, and no acknowledgement is lost, whatever the folder was.
         ensures run { D.tells ≡ true
-            → IsReelRun N.job N.files (D.history self.old.disk) (D.history self.new.disk) }
+            → IsReelRun N.job N.files (D.state self.old.disk).history (D.state self.new.disk).history }
         ensures none_lost { D.tells ≡ true
-            → KeepsReel N.job (D.history self.old.disk) (D.history self.new.disk) }
+            → KeepsReel N.job (D.state self.old.disk).history (D.state self.new.disk).history }
 
         // All other frames stay as they were, also after a fault, and all other files.
         ensures others { D.tells ≡ true
             → AddsAtMost frame.now.index N.job.parts.digest (frames_of N.job)
-            (D.history self.old.disk) (D.history self.new.disk) }
+            (D.state self.old.disk).history (D.state self.new.disk).history }
         ensures spares { D.tells ≡ true
-            → Spares (D.history self.old.disk) (D.history self.new.disk)
+            → Spares (D.state self.old.disk).history (D.state self.new.disk).history
             (IsWrittenFile (file_of N.job frame.now.index)) }
 
         ensures acked { OnOk result (D.tells ≡ true
-            → Surely (moment_of (D.history self.new.disk)) (HasAcked N.job frame.now.index)) }
+            → Surely (moment_of (D.state self.new.disk).history) (HasAcked N.job frame.now.index)) }
         ensures shown { OnOk result (D.tells ≡ true
-            → view_of (D.history self.new.disk) (file_of N.job frame.now.index)
+            → view_of (D.state self.new.disk).history (file_of N.job frame.now.index)
             ≡ Some frame.now.bytes) }
 
         // Whatever a crash leaves from now on has the file as it was rendered, whatever the folder was.
         ensures stored { OnOk result (D.tells ≡ true
-            → Surely (moment_of (D.history self.new.disk))
+            → Surely (moment_of (D.state self.new.disk).history)
             (HasStored (file_of N.job frame.now.index) frame.now.bytes)) }
 
         ensures finished { OnOk result (self.new
             ≡ after_finish self.old frame.now.index self.new.disk) }
         ensures closed { OnErr result (self.new ≡ after_fault self.old self.new.disk) }
 
-        ensures same { D.loans self.new.disk ≡ D.loans self.old.disk }
-        ensures cause { HasCause (D.faults self.old.disk) (D.faults self.new.disk) (IsErr result) }
-        ensures steady { OnOk result (D.faults self.new.disk ≡ D.faults self.old.disk) }
+        // Which calls are made, in which order, over every disk.
+        ensures calls { Finishes frame.now.index (file_of N.job frame.now.index) frame.now.bytes result
+            (D.state self.old.disk).calls (D.state self.new.disk).calls }
+        ensures disk { LeavesDisk (IsErr result) (D.state self.old.disk) (D.state self.new.disk) }
     {
         let hash = frame.hash();
         let frame = frame.frame();
@@ -193,7 +191,7 @@ impl<D: Disk, N: Work> Reel<D, N> {
     pub fn is_acked(&self, i: u32) -> bool
         requires { i < frames_of N.job }
         ensures acked { result ≡ slice_index_or self.now.ledger.gates i false }
-        ensures reel { IsReelOf N.job D.tells D.history self.now }
+        ensures reel { IsReelOf N.job D.tells D.state self.now }
     {
         self.ledger.is_acked(i)
     }
@@ -208,7 +206,7 @@ impl<D: Disk, N: Work> Reel<D, N> {
     /// The frames finished in this run, in order.
     pub fn acks(&self) -> &[u32]
         ensures acks { result.now ≡ self.now.acks }
-        ensures reel { IsReelOf N.job D.tells D.history self.now }
+        ensures reel { IsReelOf N.job D.tells D.state self.now }
     {
         &self.acks
     }

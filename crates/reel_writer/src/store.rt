@@ -6,7 +6,8 @@ ghost use Rattle.reel_disk.specs.Disk.{moment_of, view_of};
 ghost use Rattle.reel_disk.specs.Runs.{Extends, Spares, Surely};
 ghost use Rattle.resume_ledger.specs.Ledger.{Agrees};
 ghost use Rattle.resume_ledger.specs.Sound.{IsFrameFile};
-ghost use Rattle.reel_writer.specs.Leaves.{LeavesDisk};
+ghost use Rattle.reel_disk.specs.State.{LeavesDisk};
+ghost use Rattle.reel_writer.specs.Calls.{Acknowledging, Finishes};
 ghost use Rattle.reel_writer.specs.Reel.{HasStored};
 ghost use Rattle.reel_writer.specs.inside.Reel.{Acknowledges, FinishesStored, IsFinishing};
 
@@ -24,7 +25,7 @@ pub(crate) fn store<D: Disk>(
     hash: [u8; 32],
 ) -> Result<(), DiskFault>
     requires is_open { ledger.old.closed ≡ false }
-    requires agrees { D.tells ≡ true → Agrees (moment_of (D.history disk.old)) ledger.old }
+    requires agrees { D.tells ≡ true → Agrees (moment_of (D.state disk.old).history) ledger.old }
     requires within { i < length ledger.old.gates }
     requires fresh { slice_index_or ledger.old.gates i false ≡ false }
     requires frame { IsFrameFile file }
@@ -32,14 +33,15 @@ pub(crate) fn store<D: Disk>(
 
     ensures finishing { D.tells ≡ true
         → IsFinishing ledger.old.digest (length ledger.old.gates) i file bytes.now
-        (D.history disk.old) (D.history disk.new) }
+        (D.state disk.old).history (D.state disk.new).history }
 
     ensures shown { OnOk result (D.tells ≡ true
-        → view_of (D.history disk.new) file ≡ Some bytes.now) }
+        → view_of (D.state disk.new).history file ≡ Some bytes.now) }
     ensures stored { OnOk result (D.tells ≡ true
-        → Surely (moment_of (D.history disk.new)) (HasStored file bytes.now)) }
-    ensures ledger { Acknowledges D.tells i result (moment_of (D.history disk.new)) ledger.old ledger.new }
-    ensures disk { LeavesDisk D.faults D.loans (IsErr result) disk.old disk.new }
+        → Surely (moment_of (D.state disk.new).history) (HasStored file bytes.now)) }
+    ensures ledger { Acknowledges D.tells i result (moment_of (D.state disk.new).history) ledger.old ledger.new }
+    ensures calls { Finishes i file bytes.now result (D.state disk.old).calls (D.state disk.new).calls }
+    ensures disk { LeavesDisk (IsErr result) (D.state disk.old) (D.state disk.new) }
 {
     let Ok(()) = write_firmly(disk, file, bytes) else {
         return Err(DiskFault);
@@ -56,19 +58,20 @@ fn acknowledge<D: Disk>(
     hash: [u8; 32],
 ) -> Result<(), DiskFault>
     requires is_open { ledger.old.closed ≡ false }
-    requires agrees { D.tells ≡ true → Agrees (moment_of (D.history disk.old)) ledger.old }
+    requires agrees { D.tells ≡ true → Agrees (moment_of (D.state disk.old).history) ledger.old }
     requires within { i < length ledger.old.gates }
     requires fresh { slice_index_or ledger.old.gates i false ≡ false }
 
-    ensures past { D.tells ≡ true → Extends (D.history disk.old) (D.history disk.new) }
+    ensures past { D.tells ≡ true → Extends (D.state disk.old).history (D.state disk.new).history }
     ensures finishing { D.tells ≡ true
         → FinishesStored ledger.old.digest (length ledger.old.gates) i hash
-        (D.history disk.old) (D.history disk.new) }
+        (D.state disk.old).history (D.state disk.new).history }
     ensures spares { D.tells ≡ true
-        → Spares (D.history disk.old) (D.history disk.new) (λ q. q ≡ Body2) }
+        → Spares (D.state disk.old).history (D.state disk.new).history (λ q. q ≡ Body2) }
 
-    ensures ledger { Acknowledges D.tells i result (moment_of (D.history disk.new)) ledger.old ledger.new }
-    ensures disk { LeavesDisk D.faults D.loans (IsErr result) disk.old disk.new }
+    ensures ledger { Acknowledges D.tells i result (moment_of (D.state disk.new).history) ledger.old ledger.new }
+    ensures calls { Acknowledging i hash result (D.state disk.old).calls (D.state disk.new).calls }
+    ensures disk { LeavesDisk (IsErr result) (D.state disk.old) (D.state disk.new) }
 {
     let Ok(()) = ledger.note(disk, i, hash) else {
         return Err(DiskFault);

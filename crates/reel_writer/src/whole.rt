@@ -2,7 +2,7 @@
 ghost use Rattle.std.specs.Prelude.{◌≡◌, ◌↔◌, true, length, IfOk, IsErr, Some};
 ghost use Rattle.reel_disk.specs.Disk.{view_of, IsStill};
 ghost use Rattle.resume_ledger.specs.Sound.{HasSize};
-ghost use Rattle.reel_writer.specs.Leaves.{LeavesDisk};
+ghost use Rattle.reel_disk.specs.State.{LeavesDisk};
 
 use cf_base::FileId;
 use reel_disk::{Disk, DiskFault, Got, Length};
@@ -12,12 +12,12 @@ use reel_disk::{Disk, DiskFault, Got, Length};
 /// `DiskFault` comes only where the disk's count of faults rose. Takes no memory.
 pub fn read_whole<D: Disk>(disk: &mut D, id: FileId, into: &mut [u8]) -> Result<bool, DiskFault>
     ensures whole { IfOk result (λ is. D.tells ≡ true
-        → (is ≡ true) ↔ HasSize (length into.old) (view_of (D.history disk.old) id)) }
+        → (is ≡ true) ↔ HasSize (length into.old) (view_of (D.state disk.old).history id)) }
     ensures bytes { IfOk result (λ is. is ≡ true → D.tells ≡ true
-        → view_of (D.history disk.old) id ≡ Some into.new) }
+        → view_of (D.state disk.old).history id ≡ Some into.new) }
     ensures room { length into.new ≡ length into.old }
-    ensures still { D.tells ≡ true → IsStill (D.history disk.old) (D.history disk.new) }
-    ensures disk { LeavesDisk D.faults D.loans (IsErr result) disk.old disk.new }
+    ensures still { D.tells ≡ true → IsStill (D.state disk.old).history (D.state disk.new).history }
+    ensures disk { LeavesDisk (IsErr result) (D.state disk.old) (D.state disk.new) }
 {
     let len = match disk.length(id) {
         Length::There(len) => len,

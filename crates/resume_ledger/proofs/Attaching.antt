@@ -12,7 +12,8 @@ use Rattle.resume_ledger.specs.declared.layout.Version.TheVariants.{One, Two}
 use Rattle.resume_ledger.specs.Body.{layout_of, IsOwn}
 use Rattle.resume_ledger.specs.Ledger.{LedgerState, IsInForce, HasOwn, AreGatesOf, AreFlagsOf}
 use Rattle.resume_ledger.specs.Attach.{IsUnwritten, IsBad, IsRefused, IsRefusalFor, IsOpened, IsOpenFor, HasAttached}
-use Rattle.resume_ledger.specs.inside.Steps.{IsReadFirmly, HasBody, HasRead, IsJudged, HasAcked}
+use Rattle.resume_ledger.specs.Steps.{IsJudged}
+use Rattle.resume_ledger.specs.inside.Steps.{IsReadFirmly, HasBody, HasRead, HasAcked}
 use Rattle.resume_ledger.specs.declared.attach.OpenFault.{OpenFault}
 use Rattle.resume_ledger.specs.declared.attach.OpenFault.TheVariants.{OtherJob, BadLedger, DiskFault, NoMemory}
 use Rattle.resume_ledger.proofs.Versions.{fit_by, flags_acks}

@@ -12,7 +12,7 @@ use Rattle.resume_ledger.specs.declared.layout.Version.TheVariants.{One, Two}
 use Rattle.resume_ledger.specs.Body.{layout_of, IsOwn, record_of}
 use Rattle.resume_ledger.specs.Ledger.{IsInForce, Acks, AreFlagsOf, AreGatesOf}
 use Rattle.resume_ledger.specs.Look.{ViewState, IsRecordIn, IsViewOf, HasLooked}
-use Rattle.resume_ledger.specs.inside.Steps.{records_in}
+use Rattle.resume_ledger.specs.Steps.{records_in}
 use Rattle.resume_ledger.proofs.Attaching.{refused_along}
 use Rattle.resume_ledger.proofs.Reading.{still_view}
 use Rattle.resume_ledger.proofs.Versions.{fit_by, flags_acks}

@@ -2,7 +2,8 @@
 use Rattle.std.proofs.Common.{◌≡◌, ◌≢◌, ℕ, ◌+◌, ◌*◌, Bool, true, List, get_or, sym, ◌∙◌}
 use Rattle.std.specs.Prelude.{Option}
 use Rattle.resume_ledger.specs.Sound.{HasSize}
-use Rattle.resume_ledger.specs.inside.Steps.{IsRecorded, OthersKept}
+use Rattle.resume_ledger.specs.Steps.{OthersKept}
+use Rattle.resume_ledger.specs.inside.Steps.{IsRecorded}
 
 -- a frame whose gate stays closed
 pub shut : (was_open : Bool) (content : Option (List ℕ)) (size : ℕ) (body : List ℕ) (i : ℕ) → get_or body (64 + 33 * i) 0 ≢ 65 → ((was_open ≡ true) × HasSize size content → ⊥) → IsRecorded was_open content size body i

@@ -5,7 +5,7 @@ use Rattle.std.proofs.lemmas.List.{length-set, take-set-le, drop-set-lt, drop-ta
 use Rattle.std.proofs.lemmas.Slice.{take-put_mid_below, drop-put_mid, between-put_mid}
 use borrow.Rule.Slice.PartMut.{put_mid}
 use Rattle.resume_ledger.specs.Body.{record_of}
-use Rattle.resume_ledger.specs.inside.Steps.{OthersKept}
+use Rattle.resume_ledger.specs.Steps.{OthersKept}
 
 -- what stands before the frame's 33 bytes, and what behind them
 module _ (old new : List ℕ) (i : ℕ) (front : (n : ℕ) → n ≤ 64 + 33 * i → take n new ≡ take n old) (back : (n : ℕ) → 97 + 33 * i ≤ n → drop n new ≡ drop n old) where

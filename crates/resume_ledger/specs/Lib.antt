@@ -1,9 +1,11 @@
 pub mod Attach
 pub mod Body
+pub mod Calls
 pub mod Hash
 pub mod Laws
 pub mod Ledger
 pub mod Look
+pub mod OpeningCalls
 pub mod Peek
 pub mod Sound
 pub mod Steps

@@ -1,10 +1,12 @@
 //! Opening a reel's folder for a job.
-ghost use Rattle.std.specs.Prelude.{◌≡◌, ◌≢◌, ◌<◌, ◌≤◌, ℕ, true, length, IsErrOf, Err};
-ghost use Rattle.cf_base.specs.Count.{HasCause};
+ghost use Rattle.std.specs.Prelude.{◌≡◌, ◌≢◌, ◌<◌, ◌≤◌, ℕ, true, length, IsErrOf, Err, None, OnOk};
+ghost use Rattle.reel_disk.specs.State.{LeavesDisk};
 ghost use Rattle.reel_disk.specs.Runs.{Spares};
-ghost use Rattle.resume_ledger.specs.Ledger.{IsLedgerFile, IsWrittenLedgerFile};
+ghost use Rattle.resume_ledger.specs.Ledger.{IsLedgerFile, IsWrittenLedgerFile, IsInForce};
 ghost use Rattle.resume_ledger.specs.Sound.{IsFrameFile, file_at, IsOpeningRunOf, AddsNone, OnlyReadsSecond, WritesOnly};
 ghost use Rattle.resume_ledger.specs.Attach.{HasAttachedTo, IsAnswerTo};
+ghost use Rattle.reel_disk.specs.Disk.{view_of};
+ghost use Rattle.resume_ledger.specs.OpeningCalls.{Attaches, FreshCalls, FirstCalls, SecondCalls};
 
 use crate::Ledger;
 use crate::layout::Version;
@@ -54,24 +56,30 @@ impl Ledger {
         requires frames { (i : ℕ) → i < length files.now → IsFrameFile (file_at files.now i) }
 
         // By the view at the start: which answer comes, and what the disk holds then.
-        ensures answer { D.tells ≡ true → HasAttachedTo digest files.now size (D.history disk.old) (D.history disk.new) result }
+        ensures answer { D.tells ≡ true → HasAttachedTo digest files.now size (D.state disk.old).history (D.state disk.new).history result }
 
         // A crash at any moment of the call leaves a folder whose acknowledged frames are the reel's. No acknowledgement is
         // lost, where each frame that version 1 acknowledges has a file of a frame's length; and none is made.
-        ensures run { D.tells ≡ true → IsOpeningRunOf digest files.now size (D.history disk.old) (D.history disk.new) }
-        ensures adds_none { D.tells ≡ true → AddsNone digest (length files.now) (D.history disk.old) (D.history disk.new) }
+        ensures run { D.tells ≡ true → IsOpeningRunOf digest files.now size (D.state disk.old).history (D.state disk.new).history }
+        ensures adds_none { D.tells ≡ true → AddsNone digest (length files.now) (D.state disk.old).history (D.state disk.new).history }
 
         // In a folder of version 2 nothing is written, whatever the answer is, in any other no file but those of version 2,
         // and in no folder is a file changed that isn't the ledger's.
-        ensures only_reads { D.tells ≡ true → OnlyReadsSecond (D.history disk.old) (D.history disk.new) }
-        ensures writes { D.tells ≡ true → WritesOnly (D.history disk.old) (D.history disk.new) IsWrittenLedgerFile }
-        ensures spares { D.tells ≡ true → Spares (D.history disk.old) (D.history disk.new) IsLedgerFile }
+        ensures only_reads { D.tells ≡ true → OnlyReadsSecond (D.state disk.old).history (D.state disk.new).history }
+        ensures writes { D.tells ≡ true → WritesOnly (D.state disk.old).history (D.state disk.new).history IsWrittenLedgerFile }
+        ensures spares { D.tells ≡ true → Spares (D.state disk.old).history (D.state disk.new).history IsLedgerFile }
 
         // The job's digest, the size of the ledger and that it is open are known over every disk.
         ensures known { IsAnswerTo digest (length files.now) result }
-        ensures same { D.loans disk.new ≡ D.loans disk.old }
-        ensures cause { HasCause (D.faults disk.old) (D.faults disk.new) (IsErrOf result OpenFault.DiskFault) }
-        ensures steady { result ≢ Err OpenFault.DiskFault → D.faults disk.new ≡ D.faults disk.old }
+        ensures calls { Attaches digest files.now size result (D.state disk.old).calls (D.state disk.new).calls }
+        ensures fresh { D.tells ≡ true → view_of (D.state disk.old).history FileId.Seal2 ≡ None
+            → view_of (D.state disk.old).history FileId.Seal ≡ None
+            → OnOk result (FreshCalls digest (length files.now) (D.state disk.old).calls (D.state disk.new).calls) }
+        ensures taken { D.tells ≡ true → IsInForce Version.One (view_of (D.state disk.old).history)
+            → OnOk result (FirstCalls digest files.now size (D.state disk.old).calls (D.state disk.new).calls) }
+        ensures second { D.tells ≡ true → IsInForce Version.Two (view_of (D.state disk.old).history)
+            → OnOk result (SecondCalls (D.state disk.old).calls (D.state disk.new).calls) }
+        ensures disk { LeavesDisk (IsErrOf result OpenFault.DiskFault) (D.state disk.old) (D.state disk.new) }
     {
         match is_sealed(disk, Version::Two) {
             Ok(true) => open_sealed(alloc, disk, digest, files.len() as u32),

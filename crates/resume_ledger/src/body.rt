@@ -2,7 +2,7 @@
 ghost use Rattle.std.specs.Prelude.{◌≡◌, ◌+◌, ◌*◌, ◌<◌, ◌≤◌, length, slice_index, IfOk};
 ghost use Rattle.resume_ledger.specs.Body.{layout_of, head_of, closed_body, record_of};
 ghost use Rattle.resume_ledger.specs.Ledger.{AreGatesOf};
-ghost use Rattle.resume_ledger.specs.inside.Steps.{IsJudged, OthersKept};
+ghost use Rattle.resume_ledger.specs.Steps.{IsJudged, OthersKept};
 
 use crate::OpenFault;
 use crate::layout::Version;

@@ -1,9 +1,11 @@
 //! The SHA-256 of a file of a reel folder, read in pieces.
-ghost use Rattle.std.specs.Prelude.{◌≡◌, true, length, IfOk, OnOk, IsErr};
-ghost use Rattle.cf_base.specs.Count.{HasCause};
+ghost use Rattle.std.specs.Prelude.{◌≡◌, true, length, IfOk, IsErr, OnErr, OnOk};
+ghost use Rattle.reel_disk.specs.State.{LeavesDisk};
 ghost use Rattle.reel_disk.specs.Disk.{view_of, IsStill};
 ghost use Rattle.resume_ledger.specs.Sound.{HasSize};
 ghost use Rattle.resume_ledger.specs.Hash.{IsHashOf, digest_of_file};
+ghost use Rattle.resume_ledger.specs.Calls.{Hashes, ReadsHash};
+ghost use Rattle.resume_ledger.specs.OpeningCalls.{FailsReads, FailsHash, FailsDigest, Digests};
 
 use cf_base::FileId;
 use reel_disk::{Disk, DiskFault, Got, Length};
@@ -20,12 +22,12 @@ pub fn hash_of_file<D: Disk>(
     piece: &mut [u8],
 ) -> Result<Option<[u8; 32]>, DiskFault>
     requires piece { length piece.old ≡ 65536 }
-    ensures still { D.tells ≡ true → IsStill (D.history disk.old) (D.history disk.new) }
-    ensures hash { IfOk result (λ hash. D.tells ≡ true → IsHashOf (view_of (D.history disk.old) id) size hash) }
+    ensures still { D.tells ≡ true → IsStill (D.state disk.old).history (D.state disk.new).history }
+    ensures hash { IfOk result (λ hash. D.tells ≡ true → IsHashOf (view_of (D.state disk.old).history id) size hash) }
     ensures piece { length piece.new ≡ 65536 }
-    ensures same { D.loans disk.new ≡ D.loans disk.old }
-    ensures cause { HasCause (D.faults disk.old) (D.faults disk.new) (IsErr result) }
-    ensures steady { OnOk result (D.faults disk.new ≡ D.faults disk.old) }
+    ensures calls { IfOk result (λ hash. Hashes id size hash (D.state disk.old).calls (D.state disk.new).calls) }
+    ensures failed { OnErr result (FailsHash id size (D.state disk.old).calls (D.state disk.new).calls) }
+    ensures disk { LeavesDisk (IsErr result) (D.state disk.old) (D.state disk.new) }
 {
     match disk.length(id) {
         Length::There(len) if len == size => read_pieces(disk, id, size, piece),
@@ -44,12 +46,12 @@ pub fn digest_of_file<D: Disk>(
     piece: &mut [u8],
 ) -> Result<[u8; 32], DiskFault>
     requires piece { length piece.old ≡ 65536 }
-    ensures still { D.tells ≡ true → IsStill (D.history disk.old) (D.history disk.new) }
-    ensures digest { IfOk result (λ digest. D.tells ≡ true → digest ≡ digest_of_file (view_of (D.history disk.old) id)) }
+    ensures still { D.tells ≡ true → IsStill (D.state disk.old).history (D.state disk.new).history }
+    ensures digest { IfOk result (λ digest. D.tells ≡ true → digest ≡ digest_of_file (view_of (D.state disk.old).history id)) }
     ensures piece { length piece.new ≡ 65536 }
-    ensures same { D.loans disk.new ≡ D.loans disk.old }
-    ensures cause { HasCause (D.faults disk.old) (D.faults disk.new) (IsErr result) }
-    ensures steady { OnOk result (D.faults disk.new ≡ D.faults disk.old) }
+    ensures calls { IfOk result (λ digest. Digests id digest (D.state disk.old).calls (D.state disk.new).calls) }
+    ensures failed { OnErr result (FailsDigest id (D.state disk.old).calls (D.state disk.new).calls) }
+    ensures disk { LeavesDisk (IsErr result) (D.state disk.old) (D.state disk.new) }
 {
     let size = match disk.length(id) {
         Length::There(size) => size,
@@ -71,13 +73,13 @@ fn read_pieces<D: Disk>(
     piece: &mut [u8],
 ) -> Result<Option<[u8; 32]>, DiskFault>
     requires piece { length piece.old ≡ 65536 }
-    requires there { D.tells ≡ true → HasSize size (view_of (D.history disk.old) id) }
-    ensures still { D.tells ≡ true → IsStill (D.history disk.old) (D.history disk.new) }
-    ensures hash { IfOk result (λ hash. D.tells ≡ true → IsHashOf (view_of (D.history disk.old) id) size hash) }
+    requires there { D.tells ≡ true → HasSize size (view_of (D.state disk.old).history id) }
+    ensures still { D.tells ≡ true → IsStill (D.state disk.old).history (D.state disk.new).history }
+    ensures hash { IfOk result (λ hash. D.tells ≡ true → IsHashOf (view_of (D.state disk.old).history id) size hash) }
     ensures piece { length piece.new ≡ 65536 }
-    ensures same { D.loans disk.new ≡ D.loans disk.old }
-    ensures cause { HasCause (D.faults disk.old) (D.faults disk.new) (IsErr result) }
-    ensures steady { OnOk result (D.faults disk.new ≡ D.faults disk.old) }
+    ensures calls { IfOk result (λ hash. ReadsHash id size hash (D.state disk.old).calls (D.state disk.new).calls) }
+    ensures failed { OnErr result (FailsReads id size (D.state disk.old).calls (D.state disk.new).calls) }
+    ensures disk { LeavesDisk (IsErr result) (D.state disk.old) (D.state disk.new) }
 {
     let mut hasher = Sha256::new();
     let mut at: u64 = 0;

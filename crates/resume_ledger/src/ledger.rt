@@ -1,13 +1,14 @@
 //! The ledger of a job: one gate for each frame.
 ghost use Rattle.std.specs.Prelude.{◌≡◌, ◌<◌, ◌≤◌, true, false, length, set, slice_index_or, OnOk, OnErr, IsErr, count_by};
-ghost use Rattle.cf_base.specs.Count.{HasCause};
 ghost use Rattle.cf_base.specs.declared.file.FileId.TheVariants.{Body2};
+ghost use Rattle.reel_disk.specs.State.{LeavesDisk};
 ghost use Rattle.reel_disk.specs.Disk.{moment_of, view_of};
 ghost use Rattle.reel_disk.specs.Runs.{Extends, Spares, StaysFirm};
 ghost use Rattle.resume_ledger.specs.declared.layout.Version.TheVariants.{Two};
 ghost use Rattle.resume_ledger.specs.Ledger.{Agrees, IsLedger, HasRecord};
 ghost use Rattle.resume_ledger.specs.Sound.{RunsAnyReel, RunsReelsWith, LosesNone, OpensNone, OpensAtMost, SurelyAcks};
 ghost use Rattle.resume_ledger.specs.Steps.{HasWrittenGate, HasWrittenRecord};
+ghost use Rattle.resume_ledger.specs.Calls.{PutsRecord, PutsGate};
 
 use crate::body::OPEN;
 use crate::layout::Version;
@@ -79,31 +80,30 @@ impl Ledger {
     /// Takes no memory.
     pub fn note<D: Disk>(&mut self, disk: &mut D, i: u32, hash: [u8; 32]) -> Result<(), DiskFault>
         requires is_open { self.old.closed ≡ false }
-        requires agrees { D.tells ≡ true → Agrees (moment_of (D.history disk.old)) self.old }
+        requires agrees { D.tells ≡ true → Agrees (moment_of (D.state disk.old).history) self.old }
         requires within { i < length self.old.gates }
         requires fresh { slice_index_or self.old.gates i false ≡ false }
 
-        ensures past { D.tells ≡ true → Extends (D.history disk.old) (D.history disk.new) }
+        ensures past { D.tells ≡ true → Extends (D.state disk.old).history (D.state disk.new).history }
 
         // A crash at any moment of the call leaves a folder whose acknowledged frames are the reel's, with their records, and
         // no acknowledgement is lost, whatever the reel is.
-        ensures run { D.tells ≡ true → RunsAnyReel self.old (D.history disk.old) (D.history disk.new) }
-        ensures none_lost { D.tells ≡ true → LosesNone self.old (D.history disk.old) (D.history disk.new) }
+        ensures run { D.tells ≡ true → RunsAnyReel self.old (D.state disk.old).history (D.state disk.new).history }
+        ensures none_lost { D.tells ≡ true → LosesNone self.old (D.state disk.old).history (D.state disk.new).history }
 
         // No frame is acknowledged, and no file but the second body is written, also after a fault.
-        ensures others { D.tells ≡ true → OpensNone self.old (D.history disk.old) (D.history disk.new) }
-        ensures spares { D.tells ≡ true → Spares (D.history disk.old) (D.history disk.new) (λ q. q ≡ Body2) }
+        ensures others { D.tells ≡ true → OpensNone self.old (D.state disk.old).history (D.state disk.new).history }
+        ensures spares { D.tells ≡ true → Spares (D.state disk.old).history (D.state disk.new).history (λ q. q ≡ Body2) }
 
-        ensures noted { OnOk result (D.tells ≡ true → HasRecord i hash (view_of (D.history disk.new))) }
-        ensures firm { OnOk result (D.tells ≡ true → StaysFirm (D.history disk.old) (D.history disk.new)) }
-        ensures written { OnOk result (D.tells ≡ true → HasWrittenRecord i hash (D.history disk.old) (D.history disk.new)) }
-        ensures agrees { OnOk result (D.tells ≡ true → Agrees (moment_of (D.history disk.new)) self.new) }
+        ensures noted { OnOk result (D.tells ≡ true → HasRecord i hash (view_of (D.state disk.new).history)) }
+        ensures firm { OnOk result (D.tells ≡ true → StaysFirm (D.state disk.old).history (D.state disk.new).history) }
+        ensures written { OnOk result (D.tells ≡ true → HasWrittenRecord i hash (D.state disk.old).history (D.state disk.new).history) }
+        ensures agrees { OnOk result (D.tells ≡ true → Agrees (moment_of (D.state disk.new).history) self.new) }
         ensures ledger { OnOk result (self.new ≡ self.old) }
         ensures closed { OnErr result (self.new ≡ record self.old { closed = true }) }
 
-        ensures same { D.loans disk.new ≡ D.loans disk.old }
-        ensures cause { HasCause (D.faults disk.old) (D.faults disk.new) (IsErr result) }
-        ensures steady { OnOk result (D.faults disk.new ≡ D.faults disk.old) }
+        ensures calls { PutsRecord i hash result (D.state disk.old).calls (D.state disk.new).calls }
+        ensures disk { LeavesDisk (IsErr result) (D.state disk.old) (D.state disk.new) }
     {
         let at = Version::Two.gate(i) as u64 + 1;
         match patch_firmly(disk, FileId::Body2, at, &hash) {
@@ -120,31 +120,30 @@ impl Ledger {
     /// count of faults rose; the ledger is closed then, and a crash may find the frame acknowledged or not. Takes no memory.
     pub fn ack<D: Disk>(&mut self, disk: &mut D, i: u32) -> Result<(), DiskFault>
         requires is_open { self.old.closed ≡ false }
-        requires agrees { D.tells ≡ true → Agrees (moment_of (D.history disk.old)) self.old }
+        requires agrees { D.tells ≡ true → Agrees (moment_of (D.state disk.old).history) self.old }
         requires within { i < length self.old.gates }
         requires fresh { slice_index_or self.old.gates i false ≡ false }
 
-        ensures past { D.tells ≡ true → Extends (D.history disk.old) (D.history disk.new) }
+        ensures past { D.tells ≡ true → Extends (D.state disk.old).history (D.state disk.new).history }
 
         // A crash at any moment of the call leaves a folder whose acknowledged frames are the reel's, with their records.
-        ensures run { D.tells ≡ true → RunsReelsWith i self.old (D.history disk.old) (D.history disk.new) }
+        ensures run { D.tells ≡ true → RunsReelsWith i self.old (D.state disk.old).history (D.state disk.new).history }
 
         // No acknowledgement is lost, whatever the reel is.
-        ensures none_lost { D.tells ≡ true → LosesNone self.old (D.history disk.old) (D.history disk.new) }
+        ensures none_lost { D.tells ≡ true → LosesNone self.old (D.state disk.old).history (D.state disk.new).history }
 
         // All other frames stay as they were, also after a fault.
-        ensures others { D.tells ≡ true → OpensAtMost i self.old (D.history disk.old) (D.history disk.new) }
-        ensures spares { D.tells ≡ true → Spares (D.history disk.old) (D.history disk.new) (λ q. q ≡ Body2) }
+        ensures others { D.tells ≡ true → OpensAtMost i self.old (D.state disk.old).history (D.state disk.new).history }
+        ensures spares { D.tells ≡ true → Spares (D.state disk.old).history (D.state disk.new).history (λ q. q ≡ Body2) }
 
-        ensures acked { OnOk result (D.tells ≡ true → SurelyAcks i self.old (D.history disk.new)) }
-        ensures written { OnOk result (D.tells ≡ true → HasWrittenGate i (D.history disk.old) (D.history disk.new)) }
-        ensures agrees { OnOk result (D.tells ≡ true → Agrees (moment_of (D.history disk.new)) self.new) }
+        ensures acked { OnOk result (D.tells ≡ true → SurelyAcks i self.old (D.state disk.new).history) }
+        ensures written { OnOk result (D.tells ≡ true → HasWrittenGate i (D.state disk.old).history (D.state disk.new).history) }
+        ensures agrees { OnOk result (D.tells ≡ true → Agrees (moment_of (D.state disk.new).history) self.new) }
         ensures ledger { OnOk result (self.new ≡ record self.old { gates = set self.old.gates i true }) }
         ensures closed { OnErr result (self.new ≡ record self.old { closed = true }) }
 
-        ensures same { D.loans disk.new ≡ D.loans disk.old }
-        ensures cause { HasCause (D.faults disk.old) (D.faults disk.new) (IsErr result) }
-        ensures steady { OnOk result (D.faults disk.new ≡ D.faults disk.old) }
+        ensures calls { PutsGate i result (D.state disk.old).calls (D.state disk.new).calls }
+        ensures disk { LeavesDisk (IsErr result) (D.state disk.old) (D.state disk.new) }
     {
         let at = Version::Two.gate(i) as u64;
         match patch_firmly(disk, FileId::Body2, at, &[OPEN]) {

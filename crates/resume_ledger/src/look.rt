@@ -1,12 +1,14 @@
 //! A look at a reel's folder that leaves it as it is.
 ghost use Rattle.std.specs.Prelude.{◌≡◌, ◌≢◌, ◌<◌, ◌≤◌, true, false, length, slice_index_or, count_by, IsErrOf, Err};
-ghost use Rattle.cf_base.specs.Count.{HasCause};
+ghost use Rattle.reel_disk.specs.State.{LeavesDisk};
 ghost use Rattle.reel_disk.specs.Disk.{view_of, IsStill};
 ghost use Rattle.resume_ledger.specs.Body.{layout_of};
 ghost use Rattle.resume_ledger.specs.Ledger.{IsInForce};
-ghost use Rattle.resume_ledger.specs.inside.Steps.{records_in};
+ghost use Rattle.resume_ledger.specs.Steps.{records_in};
 ghost use Rattle.resume_ledger.specs.Look.{hash_at, HasLooked, IsLookFor};
 ghost use Rattle.resume_ledger.specs.Peek.{HasPeeked, IsPeekFor};
+ghost use Rattle.resume_ledger.specs.Calls.{LooksSealed, Looks};
+ghost use Rattle.resume_ledger.specs.OpeningCalls.{Peeks};
 
 use crate::body::{judge, record_at};
 use crate::layout::Version;
@@ -89,16 +91,15 @@ impl Ledger {
     ) -> Result<LedgerView, OpenFault>
         requires count { (1 ≤ count) × (count ≤ 262144) }
 
-        ensures answer { D.tells ≡ true → HasLooked digest count (D.history disk.old) (D.history disk.new) result }
+        ensures answer { D.tells ≡ true → HasLooked digest count (D.state disk.old).history (D.state disk.new).history result }
 
         // What the disk holds stays as it is, at every moment and whatever the answer is.
-        ensures still { D.tells ≡ true → IsStill (D.history disk.old) (D.history disk.new) }
+        ensures still { D.tells ≡ true → IsStill (D.state disk.old).history (D.state disk.new).history }
 
         // The job's digest and the number of frames are known over every disk.
         ensures known { IsLookFor digest count result }
-        ensures same { D.loans disk.new ≡ D.loans disk.old }
-        ensures cause { HasCause (D.faults disk.old) (D.faults disk.new) (IsErrOf result OpenFault.DiskFault) }
-        ensures steady { result ≢ Err OpenFault.DiskFault → D.faults disk.new ≡ D.faults disk.old }
+        ensures calls { Looks digest count result (D.state disk.old).calls (D.state disk.new).calls }
+        ensures disk { LeavesDisk (IsErrOf result OpenFault.DiskFault) (D.state disk.old) (D.state disk.new) }
     {
         match in_force(disk) {
             Ok(Some(version)) => look_sealed(alloc, disk, version, digest, count),
@@ -120,16 +121,15 @@ impl Ledger {
     ) -> Result<u32, OpenFault>
         requires count { (1 ≤ count) × (count ≤ 262144) }
 
-        ensures answer { D.tells ≡ true → HasPeeked digest count (D.history disk.old) (D.history disk.new) result }
+        ensures answer { D.tells ≡ true → HasPeeked digest count (D.state disk.old).history (D.state disk.new).history result }
 
         // What the disk holds stays as it is, at every moment and whatever the answer is.
-        ensures still { D.tells ≡ true → IsStill (D.history disk.old) (D.history disk.new) }
+        ensures still { D.tells ≡ true → IsStill (D.state disk.old).history (D.state disk.new).history }
 
         // The job's digest and the size of the ledger are known over every disk.
         ensures known { IsPeekFor digest count result }
-        ensures same { D.loans disk.new ≡ D.loans disk.old }
-        ensures cause { HasCause (D.faults disk.old) (D.faults disk.new) (IsErrOf result OpenFault.DiskFault) }
-        ensures steady { result ≢ Err OpenFault.DiskFault → D.faults disk.new ≡ D.faults disk.old }
+        ensures calls { Peeks digest count result (D.state disk.old).calls (D.state disk.new).calls }
+        ensures disk { LeavesDisk (IsErrOf result OpenFault.DiskFault) (D.state disk.old) (D.state disk.new) }
     {
         match Ledger::look(alloc, disk, digest, count) {
             Ok(view) => Ok(view.acked()),
@@ -147,13 +147,12 @@ fn look_sealed<D: Disk>(
     count: u32,
 ) -> Result<LedgerView, OpenFault>
     requires most { count ≤ 262144 }
-    requires sealed { D.tells ≡ true → IsInForce version (view_of (D.history disk.old)) }
-    ensures answer { D.tells ≡ true → HasLooked digest count (D.history disk.old) (D.history disk.new) result }
-    ensures still { D.tells ≡ true → IsStill (D.history disk.old) (D.history disk.new) }
+    requires sealed { D.tells ≡ true → IsInForce version (view_of (D.state disk.old).history) }
+    ensures answer { D.tells ≡ true → HasLooked digest count (D.state disk.old).history (D.state disk.new).history result }
+    ensures still { D.tells ≡ true → IsStill (D.state disk.old).history (D.state disk.new).history }
     ensures known { IsLookFor digest count result }
-    ensures same { D.loans disk.new ≡ D.loans disk.old }
-    ensures cause { HasCause (D.faults disk.old) (D.faults disk.new) (IsErrOf result OpenFault.DiskFault) }
-    ensures steady { result ≢ Err OpenFault.DiskFault → D.faults disk.new ≡ D.faults disk.old }
+    ensures calls { LooksSealed version digest count result (D.state disk.old).calls (D.state disk.new).calls }
+    ensures disk { LeavesDisk (IsErrOf result OpenFault.DiskFault) (D.state disk.old) (D.state disk.new) }
 {
     let body = match load_body(alloc, disk, version) {
         Ok(body) => body,

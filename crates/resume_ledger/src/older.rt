@@ -1,12 +1,15 @@
 //! Opening a folder that is not sealed by version 2: an unsealed one, or one of version 1, which is taken over.
-ghost use Rattle.std.specs.Prelude.{◌≡◌, ◌≢◌, ◌+◌, ◌*◌, ◌<◌, ◌≤◌, ℕ, true, length, slice_index, OnOk, IsErr, IsErrOf, Err};
-ghost use Rattle.cf_base.specs.Count.{HasCause};
+ghost use Rattle.std.specs.Prelude.{◌≡◌, ◌≢◌, ◌+◌, ◌*◌, ◌<◌, ◌≤◌, ℕ, true, length, slice_index, OnOk, IsErr, IsErrOf, Err, None, IfOk, OnErr};
+ghost use Rattle.reel_disk.specs.State.{LeavesDisk};
 ghost use Rattle.reel_disk.specs.Disk.{view_of, moment_of, loose_of, IsFirm, IsStill};
 ghost use Rattle.resume_ledger.specs.Body.{closed_body};
 ghost use Rattle.resume_ledger.specs.Ledger.{IsInForce};
 ghost use Rattle.resume_ledger.specs.Sound.{IsFrameFile, file_at};
 ghost use Rattle.resume_ledger.specs.Attach.{HasAttachedTo, IsAnswerTo};
-ghost use Rattle.resume_ledger.specs.inside.Steps.{IsReading, HasAcked, IsAckedFor, HasFirstBodyOf, IsFirstFor, IsRecorded, OthersKept, AreNoted, IsOpeningPartOf, TakesOver, IsBegun};
+ghost use Rattle.resume_ledger.specs.Steps.{OthersKept};
+ghost use Rattle.resume_ledger.specs.inside.Steps.{IsReading, HasAcked, IsAckedFor, HasFirstBodyOf, IsFirstFor, IsRecorded, AreNoted, IsOpeningPartOf, TakesOver, IsBegun};
+ghost use Rattle.resume_ledger.specs.Calls.{Begins};
+ghost use Rattle.resume_ledger.specs.OpeningCalls.{FindsNone, MakesFresh, TakesFirst, TakesOverCalls, TakesFrame, TakesFrames, FailsHash, FailsFrames, AcksBefore, Takes, ReadsFirst, OpensOlder};
 
 use crate::body::{closed, gates, judge, set_record};
 use crate::hash::hash_of_file;
@@ -29,14 +32,18 @@ pub(crate) fn open_older<D: Disk>(
     requires some { 1 ≤ length files.now }
     requires most { length files.now ≤ 262144 }
     requires frames { (i : ℕ) → i < length files.now → IsFrameFile (file_at files.now i) }
-    requires unsealed { D.tells ≡ true → IsInForce Version.Two (view_of (D.history disk.old)) → ⊥ }
-    requires firm { D.tells ≡ true → IsFirm (loose_of (D.history disk.old)) FileId.Seal2 }
-    ensures part { D.tells ≡ true → IsOpeningPartOf digest files.now size (D.history disk.old) (D.history disk.new) }
-    ensures answer { D.tells ≡ true → HasAttachedTo digest files.now size (D.history disk.old) (D.history disk.new) result }
+    requires unsealed { D.tells ≡ true → IsInForce Version.Two (view_of (D.state disk.old).history) → ⊥ }
+    requires firm { D.tells ≡ true → IsFirm (loose_of (D.state disk.old).history) FileId.Seal2 }
+    ensures part { D.tells ≡ true → IsOpeningPartOf digest files.now size (D.state disk.old).history (D.state disk.new).history }
+    ensures answer { D.tells ≡ true → HasAttachedTo digest files.now size (D.state disk.old).history (D.state disk.new).history result }
     ensures known { IsAnswerTo digest (length files.now) result }
-    ensures same { D.loans disk.new ≡ D.loans disk.old }
-    ensures cause { HasCause (D.faults disk.old) (D.faults disk.new) (IsErrOf result OpenFault.DiskFault) }
-    ensures steady { result ≢ Err OpenFault.DiskFault → D.faults disk.new ≡ D.faults disk.old }
+    ensures calls { OpensOlder digest (length files.now) (file_at files.now) size result (D.state disk.old).calls (D.state disk.new).calls }
+    ensures taken { D.tells ≡ true → IsInForce Version.One (view_of (D.state disk.old).history)
+        → OnOk result (TakesOverCalls digest (length files.now) (file_at files.now) size (D.state disk.old).calls
+        (D.state disk.new).calls) }
+    ensures fresh { D.tells ≡ true → view_of (D.state disk.old).history FileId.Seal ≡ None
+        → OnOk result (MakesFresh digest (length files.now) (D.state disk.old).calls (D.state disk.new).calls) }
+    ensures disk { LeavesDisk (IsErrOf result OpenFault.DiskFault) (D.state disk.old) (D.state disk.new) }
 {
     let body = match first_body(alloc, disk, digest, files, size) {
         Ok(body) => body,
@@ -62,14 +69,19 @@ fn first_body<D: Disk>(
 ) -> Result<Vec<u8>, OpenFault>
     requires some { 1 ≤ length files.now }
     requires most { length files.now ≤ 262144 }
-    requires unsealed { D.tells ≡ true → IsInForce Version.Two (view_of (D.history disk.old)) → ⊥ }
-    requires firm { D.tells ≡ true → IsFirm (loose_of (D.history disk.old)) FileId.Seal2 }
-    ensures reading { D.tells ≡ true → IsReading (D.history disk.old) (D.history disk.new) }
-    ensures body { D.tells ≡ true → HasFirstBodyOf digest files.now size (D.history disk.old) (D.history disk.new) result }
+    requires unsealed { D.tells ≡ true → IsInForce Version.Two (view_of (D.state disk.old).history) → ⊥ }
+    requires firm { D.tells ≡ true → IsFirm (loose_of (D.state disk.old).history) FileId.Seal2 }
+    ensures reading { D.tells ≡ true → IsReading (D.state disk.old).history (D.state disk.new).history }
+    ensures body { D.tells ≡ true → HasFirstBodyOf digest files.now size (D.state disk.old).history (D.state disk.new).history result }
     ensures known { IsFirstFor digest (length files.now) result }
-    ensures same { D.loans disk.new ≡ D.loans disk.old }
-    ensures cause { HasCause (D.faults disk.old) (D.faults disk.new) (IsErrOf result OpenFault.DiskFault) }
-    ensures steady { result ≢ Err OpenFault.DiskFault → D.faults disk.new ≡ D.faults disk.old }
+    ensures calls { ReadsFirst digest (length files.now) (file_at files.now) size result (D.state disk.old).calls (D.state disk.new).calls }
+    ensures taken { D.tells ≡ true → IsInForce Version.One (view_of (D.state disk.old).history)
+        → IfOk result (λ body. TakesFirst digest (length files.now) (file_at files.now) size body.items (D.state disk.old).calls
+        (D.state disk.new).calls) }
+    ensures fresh { D.tells ≡ true → view_of (D.state disk.old).history FileId.Seal ≡ None
+        → IfOk result (λ body. (body.items ≡ closed_body digest (length files.now)) × FindsNone Version.One
+        (D.state disk.old).calls (D.state disk.new).calls) }
+    ensures disk { LeavesDisk (IsErrOf result OpenFault.DiskFault) (D.state disk.old) (D.state disk.new) }
 {
     let Ok(body) = closed(alloc, &digest, files.len() as u32) else {
         return Err(OpenFault::NoMemory);
@@ -94,15 +106,14 @@ fn taken_body<D: Disk>(
     requires most { length files.now ≤ 262144 }
     requires closed { body.items ≡ closed_body digest (length files.now) }
     requires size { length body.items ≡ 64 + 33 * length files.now }
-    requires sealed { D.tells ≡ true → IsInForce Version.One (view_of (D.history disk.old)) }
-    requires firm { D.tells ≡ true → IsFirm (loose_of (D.history disk.old)) FileId.Seal2 }
-    requires firm_first { D.tells ≡ true → IsFirm (loose_of (D.history disk.old)) FileId.Seal }
-    ensures reading { D.tells ≡ true → IsReading (D.history disk.old) (D.history disk.new) }
-    ensures body { D.tells ≡ true → HasFirstBodyOf digest files.now size (D.history disk.old) (D.history disk.new) result }
+    requires sealed { D.tells ≡ true → IsInForce Version.One (view_of (D.state disk.old).history) }
+    requires firm { D.tells ≡ true → IsFirm (loose_of (D.state disk.old).history) FileId.Seal2 }
+    requires firm_first { D.tells ≡ true → IsFirm (loose_of (D.state disk.old).history) FileId.Seal }
+    ensures reading { D.tells ≡ true → IsReading (D.state disk.old).history (D.state disk.new).history }
+    ensures body { D.tells ≡ true → HasFirstBodyOf digest files.now size (D.state disk.old).history (D.state disk.new).history result }
     ensures known { IsFirstFor digest (length files.now) result }
-    ensures same { D.loans disk.new ≡ D.loans disk.old }
-    ensures cause { HasCause (D.faults disk.old) (D.faults disk.new) (IsErrOf result OpenFault.DiskFault) }
-    ensures steady { result ≢ Err OpenFault.DiskFault → D.faults disk.new ≡ D.faults disk.old }
+    ensures calls { Takes digest (length files.now) (file_at files.now) size result (D.state disk.old).calls (D.state disk.new).calls }
+    ensures disk { LeavesDisk (IsErrOf result OpenFault.DiskFault) (D.state disk.old) (D.state disk.new) }
 {
     let gates = match acked_before(alloc, disk, digest, files.len() as u32) {
         Ok(gates) => gates,
@@ -126,13 +137,12 @@ fn acked_before<D: Disk>(
     count: u32,
 ) -> Result<Vec<bool>, OpenFault>
     requires most { count ≤ 262144 }
-    requires sealed { D.tells ≡ true → IsInForce Version.One (view_of (D.history disk.old)) }
-    ensures reading { D.tells ≡ true → IsReading (D.history disk.old) (D.history disk.new) }
-    ensures acked { D.tells ≡ true → HasAcked digest count (D.history disk.old) (D.history disk.new) result }
+    requires sealed { D.tells ≡ true → IsInForce Version.One (view_of (D.state disk.old).history) }
+    ensures reading { D.tells ≡ true → IsReading (D.state disk.old).history (D.state disk.new).history }
+    ensures acked { D.tells ≡ true → HasAcked digest count (D.state disk.old).history (D.state disk.new).history result }
     ensures known { IsAckedFor digest count result }
-    ensures same { D.loans disk.new ≡ D.loans disk.old }
-    ensures cause { HasCause (D.faults disk.old) (D.faults disk.new) (IsErrOf result OpenFault.DiskFault) }
-    ensures steady { result ≢ Err OpenFault.DiskFault → D.faults disk.new ≡ D.faults disk.old }
+    ensures calls { AcksBefore digest count result (D.state disk.old).calls (D.state disk.new).calls }
+    ensures disk { LeavesDisk (IsErrOf result OpenFault.DiskFault) (D.state disk.old) (D.state disk.new) }
 {
     let body = match read_body(alloc, disk, Version::One) {
         Ok(body) => body,
@@ -154,13 +164,13 @@ fn record_one<D: Disk>(
     requires piece { length piece.old ≡ 65536 }
     requires within { 64 + 33 * (i + 1) ≤ length body.old }
     requires closed { slice_index body.old (64 + 33 * i) ≢ 65 }
-    ensures still { D.tells ≡ true → IsStill (D.history disk.old) (D.history disk.new) }
-    ensures recorded { OnOk result (D.tells ≡ true → IsRecorded was_open (view_of (D.history disk.old) id) size body.new i) }
+    ensures still { D.tells ≡ true → IsStill (D.state disk.old).history (D.state disk.new).history }
+    ensures recorded { OnOk result (D.tells ≡ true → IsRecorded was_open (view_of (D.state disk.old).history id) size body.new i) }
     ensures others { OthersKept body.old body.new i }
     ensures piece { length piece.new ≡ 65536 }
-    ensures same { D.loans disk.new ≡ D.loans disk.old }
-    ensures cause { HasCause (D.faults disk.old) (D.faults disk.new) (IsErr result) }
-    ensures steady { OnOk result (D.faults disk.new ≡ D.faults disk.old) }
+    ensures calls { OnOk result (TakesFrame was_open id size i body.old body.new (D.state disk.old).calls (D.state disk.new).calls) }
+    ensures failed { OnErr result ((was_open ≡ true) × FailsHash id size (D.state disk.old).calls (D.state disk.new).calls) }
+    ensures disk { LeavesDisk (IsErr result) (D.state disk.old) (D.state disk.new) }
 {
     if !was_open {
         return Ok(());
@@ -189,12 +199,15 @@ fn record_all<D: Disk>(
     requires gates { length gates.now ≡ length files.now }
     requires body { length body.old ≡ 64 + 33 * length files.now }
     requires closed { (k : ℕ) → k < length files.now → slice_index body.old (64 + 33 * k) ≢ 65 }
-    ensures still { D.tells ≡ true → IsStill (D.history disk.old) (D.history disk.new) }
+    ensures still { D.tells ≡ true → IsStill (D.state disk.old).history (D.state disk.new).history }
     ensures size { length body.new ≡ length body.old }
-    ensures recorded { OnOk result (D.tells ≡ true → AreNoted gates.now files.now size (D.history disk.old) body.old body.new) }
-    ensures same { D.loans disk.new ≡ D.loans disk.old }
-    ensures cause { HasCause (D.faults disk.old) (D.faults disk.new) (IsErr result) }
-    ensures steady { OnOk result (D.faults disk.new ≡ D.faults disk.old) }
+    ensures recorded { OnOk result (D.tells ≡ true → AreNoted gates.now files.now size (D.state disk.old).history body.old body.new) }
+    ensures calls { OnOk result
+        (TakesFrames gates.now (file_at files.now) size (length files.now) body.old body.new (D.state disk.old).calls
+        (D.state disk.new).calls) }
+    ensures failed { OnErr result
+        (FailsFrames gates.now (file_at files.now) size (length files.now) body.old (D.state disk.old).calls (D.state disk.new).calls) }
+    ensures disk { LeavesDisk (IsErr result) (D.state disk.old) (D.state disk.new) }
 {
     for i in 0..files.len() {
         match record_one(disk, gates[i], files[i], size, piece, body, i as u32) {
@@ -207,11 +220,10 @@ fn record_all<D: Disk>(
 
 /// Puts version 2 in force: its body is on the disk before there is its seal.
 fn begin_second<D: Disk>(disk: &mut D, body: &[u8]) -> Result<(), DiskFault>
-    ensures part { D.tells ≡ true → TakesOver body.now (D.history disk.old) (D.history disk.new) }
-    ensures begun { OnOk result (D.tells ≡ true → IsBegun body.now (moment_of (D.history disk.new))) }
-    ensures same { D.loans disk.new ≡ D.loans disk.old }
-    ensures cause { HasCause (D.faults disk.old) (D.faults disk.new) (IsErr result) }
-    ensures steady { OnOk result (D.faults disk.new ≡ D.faults disk.old) }
+    ensures part { D.tells ≡ true → TakesOver body.now (D.state disk.old).history (D.state disk.new).history }
+    ensures begun { OnOk result (D.tells ≡ true → IsBegun body.now (moment_of (D.state disk.new).history)) }
+    ensures calls { Begins body.now result (D.state disk.old).calls (D.state disk.new).calls }
+    ensures disk { LeavesDisk (IsErr result) (D.state disk.old) (D.state disk.new) }
 {
     let Ok(()) = write_firmly(disk, FileId::Body2, body) else {
         return Err(DiskFault);

@@ -1,6 +1,6 @@
 //! Reading the files of a ledger.
-ghost use Rattle.std.specs.Prelude.{◌≡◌, ◌≢◌, ◌↔◌, ◌≤◌, true, IfOk, OnOk, IsErr, IsErrOf, Err};
-ghost use Rattle.cf_base.specs.Count.{HasCause};
+ghost use Rattle.std.specs.Prelude.{◌≡◌, ◌≢◌, ◌↔◌, ◌≤◌, true, IfOk, OnOk, IsErr, IsErrOf, Err, ◌∷◌, None};
+ghost use Rattle.reel_disk.specs.State.{LeavesDisk};
 ghost use Rattle.reel_disk.specs.Disk.{view_of, loose_of, IsFirm, IsStill};
 ghost use Rattle.resume_ledger.specs.Body.{layout_of};
 ghost use Rattle.resume_ledger.specs.Ledger.{HasSeal, IsInForce};
@@ -15,11 +15,12 @@ use std::alloc::Global;
 
 /// Whether a read finds the seal of a version.
 fn has_seal<D: Disk>(disk: &mut D, version: Version) -> Result<bool, DiskFault>
-    ensures still { D.tells ≡ true → IsStill (D.history disk.old) (D.history disk.new) }
-    ensures sealed { IfOk result (λ sealed. D.tells ≡ true → (sealed ≡ true ↔ HasSeal version (view_of (D.history disk.old)))) }
-    ensures same { D.loans disk.new ≡ D.loans disk.old }
-    ensures cause { HasCause (D.faults disk.old) (D.faults disk.new) (IsErr result) }
-    ensures steady { OnOk result (D.faults disk.new ≡ D.faults disk.old) }
+    ensures still { D.tells ≡ true → IsStill (D.state disk.old).history (D.state disk.new).history }
+    ensures sealed { IfOk result (λ sealed. D.tells ≡ true → (sealed ≡ true ↔ HasSeal version (view_of (D.state disk.old).history))) }
+    ensures calls { SeeksSeal version result (D.state disk.old).calls (D.state disk.new).calls }
+    ensures absent { D.tells ≡ true → view_of (D.state disk.old).history (layout_of version).seal ≡ None
+        → OnOk result ((D.state disk.new).calls ≡ Measured (layout_of version).seal Length.Absent ∷ (D.state disk.old).calls) }
+    ensures disk { LeavesDisk (IsErr result) (D.state disk.old) (D.state disk.new) }
 {
     match disk.length(version.seal()) {
         Length::There(15) => {
@@ -37,11 +38,10 @@ fn has_seal<D: Disk>(disk: &mut D, version: Version) -> Result<bool, DiskFault>
 
 /// The version in force, as a read finds it.
 pub(crate) fn in_force<D: Disk>(disk: &mut D) -> Result<Option<Version>, DiskFault>
-    ensures still { D.tells ≡ true → IsStill (D.history disk.old) (D.history disk.new) }
-    ensures version { IfOk result (λ version. D.tells ≡ true → IsVersionOf (view_of (D.history disk.old)) version) }
-    ensures same { D.loans disk.new ≡ D.loans disk.old }
-    ensures cause { HasCause (D.faults disk.old) (D.faults disk.new) (IsErr result) }
-    ensures steady { OnOk result (D.faults disk.new ≡ D.faults disk.old) }
+    ensures still { D.tells ≡ true → IsStill (D.state disk.old).history (D.state disk.new).history }
+    ensures version { IfOk result (λ version. D.tells ≡ true → IsVersionOf (view_of (D.state disk.old).history) version) }
+    ensures calls { SeeksVersion result (D.state disk.old).calls (D.state disk.new).calls }
+    ensures disk { LeavesDisk (IsErr result) (D.state disk.old) (D.state disk.new) }
 {
     match has_seal(disk, Version::Two) {
         Ok(true) => Ok(Some(Version::Two)),
@@ -56,12 +56,14 @@ pub(crate) fn in_force<D: Disk>(disk: &mut D) -> Result<Option<Version>, DiskFau
 
 /// Whether the seal of a version is there, and a crash keeps that so.
 pub(crate) fn is_sealed<D: Disk>(disk: &mut D, version: Version) -> Result<bool, DiskFault>
-    ensures reading { D.tells ≡ true → IsReading (D.history disk.old) (D.history disk.new) }
-    ensures read { OnOk result (D.tells ≡ true → IsReadFirmly (layout_of version).seal (D.history disk.old) (D.history disk.new)) }
-    ensures sealed { IfOk result (λ sealed. D.tells ≡ true → (sealed ≡ true ↔ HasSeal version (view_of (D.history disk.old)))) }
-    ensures same { D.loans disk.new ≡ D.loans disk.old }
-    ensures cause { HasCause (D.faults disk.old) (D.faults disk.new) (IsErr result) }
-    ensures steady { OnOk result (D.faults disk.new ≡ D.faults disk.old) }
+    ensures reading { D.tells ≡ true → IsReading (D.state disk.old).history (D.state disk.new).history }
+    ensures read { OnOk result
+        (D.tells ≡ true → IsReadFirmly (layout_of version).seal (D.state disk.old).history (D.state disk.new).history) }
+    ensures sealed { IfOk result (λ sealed. D.tells ≡ true → (sealed ≡ true ↔ HasSeal version (view_of (D.state disk.old).history))) }
+    ensures calls { SyncsSeal version result (D.state disk.old).calls (D.state disk.new).calls }
+    ensures absent { D.tells ≡ true → view_of (D.state disk.old).history (layout_of version).seal ≡ None
+        → OnOk result (FindsNone version (D.state disk.old).calls (D.state disk.new).calls) }
+    ensures disk { LeavesDisk (IsErr result) (D.state disk.old) (D.state disk.new) }
 {
     let Did::Done = disk.sync(version.seal()) else {
         return Err(DiskFault);
@@ -75,12 +77,11 @@ pub(crate) fn load_body<D: Disk>(
     disk: &mut D,
     version: Version,
 ) -> Result<Vec<u8>, OpenFault>
-    ensures still { D.tells ≡ true → IsStill (D.history disk.old) (D.history disk.new) }
-    ensures body { D.tells ≡ true → HasBody (layout_of version) (view_of (D.history disk.old) (layout_of version).body) result }
+    ensures still { D.tells ≡ true → IsStill (D.state disk.old).history (D.state disk.new).history }
+    ensures body { D.tells ≡ true → HasBody (layout_of version) (view_of (D.state disk.old).history (layout_of version).body) result }
     ensures known { HasRead (layout_of version) result }
-    ensures same { D.loans disk.new ≡ D.loans disk.old }
-    ensures cause { HasCause (D.faults disk.old) (D.faults disk.new) (IsErrOf result OpenFault.DiskFault) }
-    ensures steady { result ≢ Err OpenFault.DiskFault → D.faults disk.new ≡ D.faults disk.old }
+    ensures calls { LoadsBody version result (D.state disk.old).calls (D.state disk.new).calls }
+    ensures disk { LeavesDisk (IsErrOf result OpenFault.DiskFault) (D.state disk.old) (D.state disk.new) }
 {
     let len = match disk.length(version.body()) {
         Length::There(len) => len,
@@ -106,13 +107,13 @@ pub(crate) fn read_body<D: Disk>(
     disk: &mut D,
     version: Version,
 ) -> Result<Vec<u8>, OpenFault>
-    ensures reading { D.tells ≡ true → IsReading (D.history disk.old) (D.history disk.new) }
-    ensures read { result ≢ Err OpenFault.DiskFault → D.tells ≡ true → ReadsBody version (D.history disk.old) (D.history disk.new) }
-    ensures body { D.tells ≡ true → HasBody (layout_of version) (view_of (D.history disk.old) (layout_of version).body) result }
+    ensures reading { D.tells ≡ true → IsReading (D.state disk.old).history (D.state disk.new).history }
+    ensures read { result ≢ Err OpenFault.DiskFault → D.tells ≡ true
+        → ReadsBody version (D.state disk.old).history (D.state disk.new).history }
+    ensures body { D.tells ≡ true → HasBody (layout_of version) (view_of (D.state disk.old).history (layout_of version).body) result }
     ensures known { HasRead (layout_of version) result }
-    ensures same { D.loans disk.new ≡ D.loans disk.old }
-    ensures cause { HasCause (D.faults disk.old) (D.faults disk.new) (IsErrOf result OpenFault.DiskFault) }
-    ensures steady { result ≢ Err OpenFault.DiskFault → D.faults disk.new ≡ D.faults disk.old }
+    ensures calls { SyncsBody version result (D.state disk.old).calls (D.state disk.new).calls }
+    ensures disk { LeavesDisk (IsErrOf result OpenFault.DiskFault) (D.state disk.old) (D.state disk.new) }
 {
     let Did::Done = disk.sync(version.body()) else {
         return Err(OpenFault::DiskFault);
@@ -122,6 +123,9 @@ pub(crate) fn read_body<D: Disk>(
 
 ghost use Rattle.cf_base.specs.declared.file.FileId.TheVariants.{Seal2};
 ghost use Rattle.resume_ledger.specs.inside.Attach.{HasAttachedSecond};
+ghost use Rattle.reel_disk.specs.Call.{Measured};
+ghost use Rattle.resume_ledger.specs.Calls.{SeeksSeal, SeeksVersion, LoadsBody, SyncsSeal, SyncsBody, OpensSealed};
+ghost use Rattle.resume_ledger.specs.OpeningCalls.{FindsNone};
 
 /// Reads the body of a folder that is sealed by version 2.
 pub(crate) fn open_sealed<D: Disk>(
@@ -132,14 +136,13 @@ pub(crate) fn open_sealed<D: Disk>(
 ) -> Result<Ledger, OpenFault>
     requires some { 1 ≤ count }
     requires most { count ≤ 262144 }
-    requires sealed { D.tells ≡ true → IsInForce Version.Two (view_of (D.history disk.old)) }
-    requires firm { D.tells ≡ true → IsFirm (loose_of (D.history disk.old)) Seal2 }
-    ensures reading { D.tells ≡ true → IsReading (D.history disk.old) (D.history disk.new) }
-    ensures answer { D.tells ≡ true → HasAttachedSecond digest count (D.history disk.old) (D.history disk.new) result }
+    requires sealed { D.tells ≡ true → IsInForce Version.Two (view_of (D.state disk.old).history) }
+    requires firm { D.tells ≡ true → IsFirm (loose_of (D.state disk.old).history) Seal2 }
+    ensures reading { D.tells ≡ true → IsReading (D.state disk.old).history (D.state disk.new).history }
+    ensures answer { D.tells ≡ true → HasAttachedSecond digest count (D.state disk.old).history (D.state disk.new).history result }
     ensures known { IsAnswerTo digest count result }
-    ensures same { D.loans disk.new ≡ D.loans disk.old }
-    ensures cause { HasCause (D.faults disk.old) (D.faults disk.new) (IsErrOf result OpenFault.DiskFault) }
-    ensures steady { result ≢ Err OpenFault.DiskFault → D.faults disk.new ≡ D.faults disk.old }
+    ensures calls { OpensSealed digest count result (D.state disk.old).calls (D.state disk.new).calls }
+    ensures disk { LeavesDisk (IsErrOf result OpenFault.DiskFault) (D.state disk.old) (D.state disk.new) }
 {
     let body = match read_body(alloc, disk, Version::Two) {
         Ok(body) => body,

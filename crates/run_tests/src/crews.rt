@@ -28,8 +28,8 @@ pub(crate) fn crew_on<S: Scans + Send, D: Disk + Send, R: Threads + Wait + Sync>
     requires scans { (1 ≤ vec_len scans) × (vec_len scans ≤ 16) }
     requires workers { (1 ≤ workers) × (workers ≤ 16) }
     requires share { (1 ≤ share_cap) × (share_cap ≤ 16) }
-    requires moment { D.tells ≡ true → (D.history disk).now ≡ 0 }
-    requires faults { D.faults disk ≡ 0 }
+    requires moment { D.tells ≡ true → (D.state disk).history.now ≡ 0 }
+    requires faults { (D.state disk).faults ≡ 0 }
 {
     job.recall();
     run_crew::<Brand, S, D, R>(
@@ -137,8 +137,8 @@ pub(crate) fn crew_over<D: Disk + Drop + Send, R: Threads + Wait + Sync>(
     disk: D,
 ) -> Option<(RunEnd, Report, D)>
     requires workers { (1 ≤ workers) × (workers ≤ 16) }
-    requires moment { D.tells ≡ true → (D.history disk).now ≡ 0 }
-    requires faults { D.faults disk ≡ 0 }
+    requires moment { D.tells ≡ true → (D.state disk).history.now ≡ 0 }
+    requires faults { (D.state disk).faults ≡ 0 }
 {
     let scans = scans_together(alloc, workers, 0, 0, 0)?;
     let Crew {

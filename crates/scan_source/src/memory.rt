@@ -23,11 +23,11 @@ impl MemoryScans {
     /// The files by path, of which the first of two equal paths counts. Calls of both kinds are numbered together from
     /// 1, and those whose numbers are in `fails` fail. Takes no memory.
     pub fn new(files: Vec<(PathText, Vec<u8>)>, fails: Vec<u64>) -> Self
-        ensures world { ⟦<MemoryScans as Scans>⟧.world result ≡ Some (world_in files.items) }
-        ensures plan { ⟦<MemoryScans as Scans>⟧.plan result ≡ Some (record { calls = 0; fails = fails.items }) }
-        ensures faults { ⟦<MemoryScans as Scans>⟧.faults result ≡ 0 }
-        ensures loads { ⟦<MemoryScans as Scans>⟧.loads result ≡ 0 }
-        ensures heads { ⟦<MemoryScans as Scans>⟧.heads result ≡ 0 }
+        ensures world { (⟦<MemoryScans as Scans>⟧.state result).world ≡ Some (world_in files.items) }
+        ensures plan { (⟦<MemoryScans as Scans>⟧.state result).plan ≡ Some (record { calls = 0; fails = fails.items }) }
+        ensures faults { (⟦<MemoryScans as Scans>⟧.state result).faults ≡ 0 }
+        ensures loads { (⟦<MemoryScans as Scans>⟧.state result).loads ≡ 0 }
+        ensures heads { (⟦<MemoryScans as Scans>⟧.state result).heads ≡ 0 }
     {
         MemoryScans {
             files,
@@ -74,17 +74,17 @@ fn bytes_at<'a>(files: &'a [(PathText, Vec<u8>)], path: &PathText) -> Option<&'a
 }
 
 impl Scans for MemoryScans {
+    ghost use Rattle.std.specs.Prelude.{[]};
     ghost use Rattle.std.proofs.Common.{arith};
 
-    ghost world = { λ scan. Some (world_in scan.files.items) };
-
-    ghost faults = { λ scan. kept scan.faults };
-
-    ghost loads = { λ scan. kept scan.loads };
-
-    ghost heads = { λ scan. kept scan.heads };
-
-    ghost plan = { λ scan. Some (record { calls = scan.calls; fails = scan.fails.items }) };
+    ghost state = { λ scan. record {
+      world = Some (world_in scan.files.items);
+      faults = kept scan.faults;
+      loads = kept scan.loads;
+      heads = kept scan.heads;
+      plan = Some (record { calls = scan.calls; fails = scan.fails.items });
+      loans = [];
+    } };
 
     fn load(&mut self, path: &PathText, most: u64, into: &mut Vec<u8>) -> Loaded {
         into.clear();
@@ -116,10 +116,6 @@ impl Scans for MemoryScans {
             len: bytes.len() as u64,
         }
     }
-
-    ghost same_refl = { λ _. tt };
-
-    ghost same_trans = { λ _ _ _ _ _. tt };
 
     ghost bounded = { λ _. (Prim.omega arith, Prim.omega arith, Prim.omega arith) };
 }

@@ -5,6 +5,7 @@ ghost use Rattle.scan_source.specs.Answers.{Fills};
 ghost use Rattle.scan_source.specs.Memory.{memory_of};
 ghost use Rattle.scan_source.specs.Plan.{one_more};
 ghost use Rattle.scan_source.specs.Same.{same_of, HasLoadedSame, HasLookedSame, next_same, faults_in};
+ghost use Rattle.scan_source.specs.State.{untold};
 
 use crate::{Head, Loaded, MemoryScans, Scans};
 use cf_base::PathText;
@@ -26,11 +27,11 @@ impl SameScans {
     /// head is this one, the file has `len` bytes, and a load finds none. Takes no memory.
     pub fn new(texts: MemoryScans, head: [u8; 2048], len: u64) -> Self
         ensures same { same_of result ≡ record { texts = memory_of texts; head = head; len = len } }
-        ensures faults { ⟦<SameScans as Scans>⟧.faults result ≡ ⟦<MemoryScans as Scans>⟧.faults texts }
-        ensures world { ⟦<SameScans as Scans>⟧.world result ≡ None }
-        ensures plan { ⟦<SameScans as Scans>⟧.plan result ≡ None }
-        ensures loads { ⟦<SameScans as Scans>⟧.loads result ≡ 0 }
-        ensures heads { ⟦<SameScans as Scans>⟧.heads result ≡ 0 }
+        ensures faults { (⟦<SameScans as Scans>⟧.state result).faults ≡ (⟦<MemoryScans as Scans>⟧.state texts).faults }
+        ensures world { (⟦<SameScans as Scans>⟧.state result).world ≡ None }
+        ensures plan { (⟦<SameScans as Scans>⟧.state result).plan ≡ None }
+        ensures loads { (⟦<SameScans as Scans>⟧.state result).loads ≡ 0 }
+        ensures heads { (⟦<SameScans as Scans>⟧.state result).heads ≡ 0 }
     {
         SameScans {
             texts,
@@ -45,13 +46,7 @@ impl SameScans {
 impl Scans for SameScans {
     ghost use Rattle.std.proofs.Common.{arith};
 
-    ghost world = { λ _. None };
-
-    ghost faults = { faults_in };
-
-    ghost loads = { λ scan. kept scan.loads };
-
-    ghost heads = { λ scan. kept scan.heads };
+    ghost state = { λ scan. untold (faults_in scan) (kept scan.loads) (kept scan.heads) };
 
     fn load(&mut self, path: &PathText, most: u64, into: &mut Vec<u8>) -> Loaded
         ensures answer { HasLoadedSame (same_of self.old) path.now most result into.new.items }
@@ -60,8 +55,8 @@ impl Scans for SameScans {
 
         ensures fault { CountsOneFault (result ≡ Loaded.Failed) (faults_in self.old) (faults_in self.new) }
 
-        ensures loads { ⟦<SameScans as Scans>⟧.loads self.new ≡ one_more (⟦<SameScans as Scans>⟧.loads self.old) }
-        ensures heads { ⟦<SameScans as Scans>⟧.heads self.new ≡ ⟦<SameScans as Scans>⟧.heads self.old }
+        ensures loads { (⟦<SameScans as Scans>⟧.state self.new).loads ≡ one_more (⟦<SameScans as Scans>⟧.state self.old).loads }
+        ensures heads { (⟦<SameScans as Scans>⟧.state self.new).heads ≡ (⟦<SameScans as Scans>⟧.state self.old).heads }
     {
         self.loads = self.loads.saturating_add(1);
         if self.texts.has_file(path) {
@@ -77,8 +72,8 @@ impl Scans for SameScans {
 
         ensures fault { CountsOneFault (result ≡ Head.Failed) (faults_in self.old) (faults_in self.new) }
 
-        ensures heads { ⟦<SameScans as Scans>⟧.heads self.new ≡ one_more (⟦<SameScans as Scans>⟧.heads self.old) }
-        ensures loads { ⟦<SameScans as Scans>⟧.loads self.new ≡ ⟦<SameScans as Scans>⟧.loads self.old }
+        ensures heads { (⟦<SameScans as Scans>⟧.state self.new).heads ≡ one_more (⟦<SameScans as Scans>⟧.state self.old).heads }
+        ensures loads { (⟦<SameScans as Scans>⟧.state self.new).loads ≡ (⟦<SameScans as Scans>⟧.state self.old).loads }
     {
         self.heads = self.heads.saturating_add(1);
         if self.texts.has_file(path) {
@@ -87,10 +82,6 @@ impl Scans for SameScans {
         *into = self.head;
         Head::Found { len: self.len }
     }
-
-    ghost same_refl = { λ _. tt };
-
-    ghost same_trans = { λ _ _ _ _ _. tt };
 
     ghost bounded = { λ _. (Prim.omega arith, Prim.omega arith, Prim.omega arith) };
 }

@@ -1,6 +1,7 @@
 //! Source files of the file system.
 ghost use Rattle.std.specs.Prelude.{◌≡◌, ◌≤◌, None, IfOk, length, min, vec_len, ⊤};
 ghost use Rattle.cf_base.specs.Count.{CountsOneFault, kept};
+ghost use Rattle.scan_source.specs.State.{untold};
 
 use crate::{Head, Loaded, Scans};
 use arrayvec::ArrayString;
@@ -33,11 +34,11 @@ pub struct FileScans<R: Files> {
 impl<R: Files + Drop> FileScans<R> {
     /// Over the runtime that it is given, which it keeps. Takes no memory.
     pub fn new(rt: R) -> Self
-        ensures world { ⟦<FileScans<R> as Scans>⟧.world result ≡ None }
-        ensures plan { ⟦<FileScans<R> as Scans>⟧.plan result ≡ None }
-        ensures faults { ⟦<FileScans<R> as Scans>⟧.faults result ≡ 0 }
-        ensures loads { ⟦<FileScans<R> as Scans>⟧.loads result ≡ 0 }
-        ensures heads { ⟦<FileScans<R> as Scans>⟧.heads result ≡ 0 }
+        ensures world { (⟦<FileScans<R> as Scans>⟧.state result).world ≡ None }
+        ensures plan { (⟦<FileScans<R> as Scans>⟧.state result).plan ≡ None }
+        ensures faults { (⟦<FileScans<R> as Scans>⟧.state result).faults ≡ 0 }
+        ensures loads { (⟦<FileScans<R> as Scans>⟧.state result).loads ≡ 0 }
+        ensures heads { (⟦<FileScans<R> as Scans>⟧.state result).heads ≡ 0 }
     {
         FileScans {
             rt,
@@ -79,13 +80,7 @@ impl<R: Files + Drop> FileScans<R> {
 impl<R: Files + Drop> Scans for FileScans<R> {
     ghost use Rattle.std.proofs.Common.{arith};
 
-    ghost world = { λ _. None };
-
-    ghost faults = { λ scan. kept scan.faults };
-
-    ghost loads = { λ scan. kept scan.loads };
-
-    ghost heads = { λ scan. kept scan.heads };
+    ghost state = { λ scan. untold (kept scan.faults) (kept scan.loads) (kept scan.heads) };
 
     fn load(&mut self, path: &PathText, most: u64, into: &mut Vec<u8>) -> Loaded {
         self.loads = self.loads.saturating_add(1);
@@ -125,10 +120,6 @@ impl<R: Files + Drop> Scans for FileScans<R> {
             }
         }
     }
-
-    ghost same_refl = { λ _. tt };
-
-    ghost same_trans = { λ _ _ _ _ _. tt };
 
     ghost bounded = { λ _. (Prim.omega arith, Prim.omega arith, Prim.omega arith) };
 }

@@ -5,6 +5,7 @@ ghost use Rattle.scan_source.specs.Answers.{Fills};
 ghost use Rattle.scan_source.specs.Memory.{memory_of, HasLoaded, HasLooked};
 ghost use Rattle.scan_source.specs.Plan.{one_more};
 ghost use Rattle.scan_source.specs.Turning.{turning_of, is_before, serving, next_turning, both_counts, faults_in};
+ghost use Rattle.scan_source.specs.State.{untold};
 
 use crate::{Head, Loaded, MemoryScans, Scans};
 use cf_base::PathText;
@@ -26,12 +27,12 @@ impl TurningScans {
     /// ones to the second, and each of the two counts and fails those that go to it. Takes no memory.
     pub fn new(first: MemoryScans, then: MemoryScans, at: u64) -> Self
         ensures turning { turning_of result ≡ record { first = memory_of first; later = memory_of then; at = at; calls = 0 } }
-        ensures faults { let faults = ⟦<MemoryScans as Scans>⟧.faults in
-            ⟦<TurningScans as Scans>⟧.faults result ≡ both_counts (faults first) (faults then) }
-        ensures world { ⟦<TurningScans as Scans>⟧.world result ≡ None }
-        ensures plan { ⟦<TurningScans as Scans>⟧.plan result ≡ None }
-        ensures loads { ⟦<TurningScans as Scans>⟧.loads result ≡ 0 }
-        ensures heads { ⟦<TurningScans as Scans>⟧.heads result ≡ 0 }
+        ensures faults { let state = ⟦<MemoryScans as Scans>⟧.state in
+            (⟦<TurningScans as Scans>⟧.state result).faults ≡ both_counts (state first).faults (state then).faults }
+        ensures world { (⟦<TurningScans as Scans>⟧.state result).world ≡ None }
+        ensures plan { (⟦<TurningScans as Scans>⟧.state result).plan ≡ None }
+        ensures loads { (⟦<TurningScans as Scans>⟧.state result).loads ≡ 0 }
+        ensures heads { (⟦<TurningScans as Scans>⟧.state result).heads ≡ 0 }
     {
         TurningScans {
             first,
@@ -56,13 +57,7 @@ impl TurningScans {
 impl Scans for TurningScans {
     ghost use Rattle.std.proofs.Common.{arith};
 
-    ghost world = { λ _. None };
-
-    ghost faults = { faults_in };
-
-    ghost loads = { λ scan. kept scan.loads };
-
-    ghost heads = { λ scan. kept scan.heads };
+    ghost state = { λ scan. untold (faults_in scan) (kept scan.loads) (kept scan.heads) };
 
     fn load(&mut self, path: &PathText, most: u64, into: &mut Vec<u8>) -> Loaded
         ensures answer { HasLoaded (serving (turning_of self.old)) path.now most result into.new.items }
@@ -71,8 +66,8 @@ impl Scans for TurningScans {
 
         ensures fault { CountsOneFault (result ≡ Loaded.Failed) (faults_in self.old) (faults_in self.new) }
 
-        ensures loads { ⟦<TurningScans as Scans>⟧.loads self.new ≡ one_more (⟦<TurningScans as Scans>⟧.loads self.old) }
-        ensures heads { ⟦<TurningScans as Scans>⟧.heads self.new ≡ ⟦<TurningScans as Scans>⟧.heads self.old }
+        ensures loads { (⟦<TurningScans as Scans>⟧.state self.new).loads ≡ one_more (⟦<TurningScans as Scans>⟧.state self.old).loads }
+        ensures heads { (⟦<TurningScans as Scans>⟧.state self.new).heads ≡ (⟦<TurningScans as Scans>⟧.state self.old).heads }
     {
         self.loads = self.loads.saturating_add(1);
         if self.goes_first() {
@@ -88,8 +83,8 @@ impl Scans for TurningScans {
 
         ensures fault { CountsOneFault (result ≡ Head.Failed) (faults_in self.old) (faults_in self.new) }
 
-        ensures heads { ⟦<TurningScans as Scans>⟧.heads self.new ≡ one_more (⟦<TurningScans as Scans>⟧.heads self.old) }
-        ensures loads { ⟦<TurningScans as Scans>⟧.loads self.new ≡ ⟦<TurningScans as Scans>⟧.loads self.old }
+        ensures heads { (⟦<TurningScans as Scans>⟧.state self.new).heads ≡ one_more (⟦<TurningScans as Scans>⟧.state self.old).heads }
+        ensures loads { (⟦<TurningScans as Scans>⟧.state self.new).loads ≡ (⟦<TurningScans as Scans>⟧.state self.old).loads }
     {
         self.heads = self.heads.saturating_add(1);
         if self.goes_first() {
@@ -98,10 +93,6 @@ impl Scans for TurningScans {
             self.later.head(path, into)
         }
     }
-
-    ghost same_refl = { λ _. tt };
-
-    ghost same_trans = { λ _ _ _ _ _. tt };
 
     ghost bounded = { λ _. (Prim.omega arith, Prim.omega arith, Prim.omega arith) };
 }

@@ -5,7 +5,7 @@ ghost use Rattle.scan_source.specs.Planned.{FollowsIfTold};
 ghost use Rattle.scan_source.specs.World.{file_at};
 ghost use Rattle.source_reels.specs.Seen.{IsSeen, IsSeenFrame};
 ghost use Rattle.source_reels.specs.inside.Seen.{IsSeenIn};
-ghost use Rattle.scan_source.specs.Leaves.{LeavesScan};
+ghost use Rattle.scan_source.specs.State.{LeavesScan};
 
 use cf_base::PathText;
 use dpx_header::{DpxFault, FrameInfo, read_header};
@@ -26,14 +26,14 @@ pub enum Seen {
 
 /// What the file at a path says of its pixels, by one call of `head`. Takes no memory.
 pub fn inspect<S: Scans>(scans: &mut S, path: &PathText) -> Seen
-    ensures told { IfSome (S.world scans.old) (λ files. IsSeen result (file_at files path.now)) }
+    ensures told { IfSome (S.state scans.old).world (λ files. IsSeen result (file_at files path.now)) }
     ensures frame { IsSeenFrame result }
 
-    ensures scan { LeavesScan S.world S.faults S.same (result ≡ Seen.Fault) scans.old scans.new }
-    ensures plan { FollowsIfTold (S.plan scans.old) (S.plan scans.new) (result ≡ Seen.Fault) }
+    ensures scan { LeavesScan (result ≡ Seen.Fault) (S.state scans.old) (S.state scans.new) }
+    ensures plan { FollowsIfTold (S.state scans.old).plan (S.state scans.new).plan (result ≡ Seen.Fault) }
 
-    ensures heads { S.heads scans.new ≡ one_more (S.heads scans.old) }
-    ensures loads { S.loads scans.new ≡ S.loads scans.old }
+    ensures heads { (S.state scans.new).heads ≡ one_more (S.state scans.old).heads }
+    ensures loads { (S.state scans.new).loads ≡ (S.state scans.old).loads }
 {
     let mut head = [0; 2048];
     match scans.head(path, &mut head) {

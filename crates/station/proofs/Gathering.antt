@@ -5,6 +5,7 @@ use Rattle.std.proofs.lemmas.Option.{same_Some}
 use Rattle.std.proofs.lemmas.List.{get_or-map, get_or_past, length-map, get_or-set_other, get_or-set_same, get_or_default}
 use Rattle.std.proofs.lemmas.List.Sums.{sum_by-cons}
 use Rattle.std.proofs.lemmas.Bool.{cases_lt, true≢false, cases_eq}
+use Rattle.scan_source.specs.State.{ScanState}
 use Rattle.scan_source.specs.World.{World}
 use Rattle.render_board.specs.declared.step.Step.{Step}
 use Rattle.render_board.specs.declared.step.Step.TheVariants.{Claim, Finish, Stop}
@@ -58,8 +59,8 @@ mapped_at f R xs ys k s same lt each =
     subst (λ (a : _). R a (get_or (map f ys) k s)) (sym (get_or-map f xs k d s lt))
     (subst (λ (b : _). R (f (get_or xs k d)) b) (sym (get_or-map f ys k d s (omega (arith, lt, same)))) (each d))
 
-module _ {S N C A B D E F : Type 0} (told : Option World) (world : S → Option World) (faults loads : S → ℕ) (same : S → S → Type 0) (xs ys : List (Seat S N C A B D E F)) (threads most : ℕ) (size : length ys ≡ length xs)
-    (worked : EachBecame (length xs) (HasWorked told world faults loads same most) xs ys) (idle : All (λ x. IsFresh x) xs) where
+module _ {S N C A B D E F : Type 0} (told : Option World) (state : S → ScanState) (xs ys : List (Seat S N C A B D E F)) (threads most : ℕ) (size : length ys ≡ length xs)
+    (worked : EachBecame (length xs) (HasWorked told state most) xs ys) (idle : All (λ x. IsFresh x) xs) where
   abbrev scan_of : Seat S N C A B D E F → S
   scan_of x = x.scan
 
@@ -92,15 +93,15 @@ module _ {S N C A B D E F : Type 0} (told : Option World) (world : S → Option 
       omega (arith, loaded, item_within loads_of ys found.0 d found.1)
 
   abbrev IsScannedAt : ℕ → S → S → Type 0
-  IsScannedAt k a b = IsScanned world faults loads (get_or (map loads_of ys) k 0) (get_or (map failed_of ys) k false ≡ true) a b
+  IsScannedAt k a b = IsScanned (get_or (map loads_of ys) k 0) (get_or (map failed_of ys) k false ≡ true) (state a) (state b)
 
   pub gathered : (before after : List S) (all : ℕ) (Failed : Type 0) → map scan_of xs ≡ before → after ≡ map scan_of ys → all ≡ sum_by loads_of ys
       → ((k : ℕ) (d : Seat S N C A B D E F) → threads ≤ k → get_or ys k d ≡ get_or xs k d)
       → (Failed → 1 ≤ sum_by (λ x. x.marks.source.amount) ys)
-      → AreWorked world faults loads same threads all Failed before after
+      → AreWorked state threads all Failed before after
   gathered before after all Failed first last total unused fails =
-      subst (λ (l : List S). AreWorked world faults loads same threads all Failed l after) first
-      (subst (λ (l : List S). AreWorked world faults loads same threads all Failed (map scan_of xs) l) (sym last) (record {
+      subst (λ (l : List S). AreWorked state threads all Failed l after) first
+      (subst (λ (l : List S). AreWorked state threads all Failed (map scan_of xs) l) (sym last) (record {
         size = length-map ys scan_of ∙ size ∙ sym (length-map xs scan_of);
         counts = map loads_of ys;
         flags = map failed_of ys;
@@ -108,7 +109,7 @@ module _ {S N C A B D E F : Type 0} (told : Option World) (world : S → Option 
         each = λ k s lt.
             let within : k < length xs = omega (arith, lt, length-map xs scan_of) in
             mapped_at scan_of (λ a b. IsScannedAt k a b) xs ys k s size within (λ d. at_seat k d within);
-        lent = λ k s lt. let within : k < length xs = omega (arith, lt, length-map xs scan_of) in mapped_at scan_of same xs ys k s size within (λ d. (worked k d within).lent);
+        lent = λ k s lt. let within : k < length xs = omega (arith, lt, length-map xs scan_of) in mapped_at scan_of (λ a b. (state b).loans ≡ (state a).loans) xs ys k s size within (λ d. (worked k d within).lent);
         unused = λ k s late. same_at k s late (cases_lt k (length xs));
         failed = λ is.
             let found = source_seat (fails is) in
@@ -118,8 +119,8 @@ module _ {S N C A B D E F : Type 0} (told : Option World) (world : S → Option 
     where
       at_seat : (k : ℕ) (d : Seat S N C A B D E F) → k < length xs → IsScannedAt k ((get_or xs k d).scan) ((get_or ys k d).scan)
       at_seat k d within =
-          subst (λ (n : ℕ). IsScanned world faults loads n (get_or (map failed_of ys) k false ≡ true) ((get_or xs k d).scan) ((get_or ys k d).scan)) (sym (get_or-map loads_of ys k d 0 (omega (arith, within, size))))
-          (subst (λ (b : Bool). IsScanned world faults loads ((get_or ys k d).loads) (b ≡ true) ((get_or xs k d).scan) ((get_or ys k d).scan)) (sym (get_or-map failed_of ys k d false (omega (arith, within, size))))
+          subst (λ (n : ℕ). IsScanned n (get_or (map failed_of ys) k false ≡ true) (state ((get_or xs k d).scan)) (state ((get_or ys k d).scan))) (sym (get_or-map loads_of ys k d 0 (omega (arith, within, size))))
+          (subst (λ (b : Bool). IsScanned ((get_or ys k d).loads) (b ≡ true) (state ((get_or xs k d).scan)) (state ((get_or ys k d).scan))) (sym (get_or-map failed_of ys k d false (omega (arith, within, size))))
           (worked k d within).scanned)
 
       same_at : (k : ℕ) (s : S) → threads ≤ k → (k < length xs) ⊎ (length xs ≤ k) → get_or (map scan_of ys) k s ≡ get_or (map scan_of xs) k s
@@ -130,16 +131,16 @@ module _ {S N C A B D E F : Type 0} (told : Option World) (world : S → Option 
           get_or_past (map scan_of ys) k s (omega (arith, past, size, length-map ys scan_of)) ∙ sym (get_or_past (map scan_of xs) k s (omega (arith, past, length-map xs scan_of)))
 
 -- where no worker was made, no scan was used
-pub unworked : {S : Type 0} (world : S → Option World) (faults loads : S → ℕ) (same : S → S → Type 0) → ((s : S) → same s s) → (threads all : ℕ) (Failed : Type 0) (before after : List S)
-    → after ≡ before → all ≡ 0 → (Failed → ⊥) → AreWorked world faults loads same threads all Failed before after
-unworked world faults loads same itself threads all Failed before after is none never =
-    subst (λ (l : List _). AreWorked world faults loads same threads all Failed before l) (sym is) (record {
+pub unworked : {S : Type 0} (state : S → ScanState) → (threads all : ℕ) (Failed : Type 0) (before after : List S)
+    → after ≡ before → all ≡ 0 → (Failed → ⊥) → AreWorked state threads all Failed before after
+unworked state threads all Failed before after is none never =
+    subst (λ (l : List _). AreWorked state threads all Failed before l) (sym is) (record {
       size = refl;
       counts = [];
       flags = [];
       sum = sym none;
-      each = λ k s lt. scanned_itself world faults loads (false ≡ true) (λ e. true≢false (sym e)) (get_or before k s);
-      lent = λ k s lt. itself (get_or before k s);
+      each = λ k s lt. scanned_itself (false ≡ true) (λ e. true≢false (sym e)) (state (get_or before k s));
+      lent = λ k s lt. refl;
       unused = λ k s late. refl;
       failed = λ is. absurd (never is);
     })
@@ -197,13 +198,13 @@ end_done steps (Some Disk) first is = cc
 end_done steps (Some Memory) first is = cc
 end_done steps (Some (Changed key was now)) first is = cc
 
-module _ {S N C A B D E F : Type 0} (told : Option World) (world : S → Option World) (faults loads : S → ℕ) (same : S → S → Type 0) (itself : (s : S) → same s s) (along : (a b c : S) → same a b → same b c → same a c)
-    (xs ys : List (Seat S N C A B D E F)) (s : Seat S N C A B D E F) (threads n m most : ℕ) (some : 0 < threads) (le : n + m ≤ most) (size : length ys ≡ length xs) (ready : All (λ x. IsReady told world x) xs)
-    (worked : EachBecame threads (HasWorked told world faults loads same n) xs ys) (others : (k : ℕ) (d : Seat S N C A B D E F) → threads ≤ k → get_or ys k d ≡ get_or xs k d) where
+module _ {S N C A B D E F : Type 0} (told : Option World) (state : S → ScanState)
+    (xs ys : List (Seat S N C A B D E F)) (s : Seat S N C A B D E F) (threads n m most : ℕ) (some : 0 < threads) (le : n + m ≤ most) (size : length ys ≡ length xs) (ready : All (λ x. IsReady told state x) xs)
+    (worked : EachBecame threads (HasWorked told state n) xs ys) (others : (k : ℕ) (d : Seat S N C A B D E F) → threads ≤ k → get_or ys k d ≡ get_or xs k d) where
   abbrev Became : Seat S N C A B D E F → Seat S N C A B D E F → Type 0
-  Became x y = HasWorked told world faults loads same most x y
+  Became x y = HasWorked told state most x y
 
-  first_most : (x y : Seat S N C A B D E F) → HasWorked told world faults loads same n x y → Became x y
+  first_most : (x y : Seat S N C A B D E F) → HasWorked told state n x y → Became x y
   first_most x y work = record { few = omega (arith, work.few, le); units = work.units; scanned = work.scanned; lent = work.lent; causes = work.causes }
 
   worked_at : (k : ℕ) (d : Seat S N C A B D E F) → k < length xs → Became (get_or xs k d) (get_or ys k d)
@@ -211,17 +212,17 @@ module _ {S N C A B D E F : Type 0} (told : Option World) (world : S → Option 
     | inl early ↦ first_most (get_or xs k d) (get_or ys k d) (worked k d early)
     | inr late ↦
         subst (λ (y : Seat S N C A B D E F). Became (get_or xs k d) y) (sym (others k d late))
-        (worked_first told world faults loads same 0 most (get_or xs k d) (get_or xs k d) (omega arith) (ready k d lt).none (ready k d lt).unfailed (stepped_itself told world faults loads same itself 0 (get_or xs k d)))
+        (worked_first told state 0 most (get_or xs k d) (get_or xs k d) (omega arith) (ready k d lt).none (ready k d lt).unfailed (stepped_itself told state 0 (get_or xs k d)))
   ]
 
   -- each seat was worked in, or nothing was done to it; the first one may have gone on
-  pub worked_all : (e : Seat S N C A B D E F) → HasStepped told world faults loads same m (get_or ys 0 e) s → EachBecame (length xs) (HasWorked told world faults loads same most) xs (set ys 0 s)
+  pub worked_all : (e : Seat S N C A B D E F) → HasStepped told state m (get_or ys 0 e) s → EachBecame (length xs) (HasWorked told state most) xs (set ys 0 s)
   worked_all e stepped k d lt = elim (cases_eq k 0) [
     | inl front ↦
         let first : 0 < length ys = omega (arith, lt, size) in
         subst (λ (i : ℕ). Became (get_or xs i d) (get_or (set ys 0 s) i d)) (sym front)
         (subst (λ (y : Seat S N C A B D E F). Became (get_or xs 0 d) y) (sym (get_or-set_same ys 0 s d first))
-        (worked_on told world faults loads same along n m most (get_or xs 0 d) (get_or ys 0 d) s le (worked 0 d some)
-        (subst (λ (y : Seat S N C A B D E F). HasStepped told world faults loads same m y s) (get_or_default ys 0 e d first) stepped)))
+        (worked_on told state n m most (get_or xs 0 d) (get_or ys 0 d) s le (worked 0 d some)
+        (subst (λ (y : Seat S N C A B D E F). HasStepped told state m y s) (get_or_default ys 0 e d first) stepped)))
     | inr other ↦ subst (λ (y : Seat S N C A B D E F). Became (get_or xs k d) y) (sym (get_or-set_other ys 0 k s d other)) (worked_at k d lt)
   ]

@@ -28,9 +28,9 @@ impl<S: Scans, D: Disk, N: Work + Start, C: Crewed, R: Threads + Wait + Sync> Wo
     ghost use Rattle.crew_seat.specs.inside.Stepped.{IsReady};
 
     ghost may = { λ shared seat. IsSync R.row × (shared.job.now ≡ N.job) × AreInfosOf N.job.parts N.files N.job.infos
-        × IsReady N.files S.world seat };
+        × IsReady N.files S.state seat };
 
-    ghost has = { λ shared old new. HasWorked N.files S.world S.faults S.loads S.same 524288 old new };
+    ghost has = { λ shared old new. HasWorked N.files S.state 524288 old new };
 
     fn work(&self, seat: &mut Seat<S, N, C>) {
         drop(self.worker(seat));
@@ -70,9 +70,9 @@ where
     requires within { threads ≤ length seats.old }
     requires job { job.now ≡ N.job }
     requires infos { AreInfosOf N.job.parts N.files N.job.infos }
-    requires ready { All (λ s. IsReady N.files S.world s) seats.old }
+    requires ready { All (λ s. IsReady N.files S.state s) seats.old }
     ensures size { length seats.new ≡ length seats.old }
-    ensures worked { EachBecame (length seats.old) (HasWorked N.files S.world S.faults S.loads S.same 2097152) seats.old seats.new }
+    ensures worked { EachBecame (length seats.old) (HasWorked N.files S.state 2097152) seats.old seats.new }
     ensures unused { (k : ℕ) (d : _) → threads ≤ k → slice_index_or seats.new k d ≡ slice_index_or seats.old k d }
     ensures whole { HasFinished N.job result.0.log }
 {

@@ -31,17 +31,11 @@ impl<G: Gate + Drop> GatedScans<G> {
 }
 
 impl<G: Gate + Drop> Scans for GatedScans<G> {
-    ghost use Rattle.std.specs.Prelude.{None};
     ghost use Rattle.std.proofs.Common.{arith};
     ghost use Rattle.cf_base.specs.Count.{kept};
+    ghost use Rattle.scan_source.specs.State.{untold};
 
-    ghost world = { λ _. None };
-
-    ghost faults = { λ scan. kept scan.faults };
-
-    ghost loads = { λ scan. kept scan.loads };
-
-    ghost heads = { λ scan. kept scan.heads };
+    ghost state = { λ scan. untold (kept scan.faults) (kept scan.loads) (kept scan.heads) };
 
     fn load(&mut self, path: &PathText, most: u64, into: &mut Vec<u8>) -> Loaded {
         into.clear();
@@ -69,10 +63,6 @@ impl<G: Gate + Drop> Scans for GatedScans<G> {
             answer => answer,
         }
     }
-
-    ghost same_refl = { λ _. tt };
-
-    ghost same_trans = { λ _ _ _ _ _. tt };
 
     ghost bounded = { λ _. (Prim.omega arith, Prim.omega arith, Prim.omega arith) };
 }

@@ -33,11 +33,7 @@ pub struct Noted<D: Disk + Drop, N: Notes + Drop> {
 impl<D: Disk + Drop, N: Notes + Drop> Disk for Noted<D, N> {
     ghost tells = { D.tells };
 
-    ghost history = { λ noted. D.history noted.disk };
-
-    ghost faults = { λ noted. D.faults noted.disk };
-
-    ghost loans = { λ a. D.loans a.disk };
+    ghost state = { λ noted. D.state noted.disk };
 
     ghost bounded = { λ d. D.bounded d.disk };
 

@@ -3,7 +3,6 @@ use Rattle.std.specs.Prelude.{◌≡◌, ℕ, List}
 use Rattle.cf_base.specs.declared.key.Key.{Key}
 use Rattle.dpx_header.specs.Frame.{need_of}
 use Rattle.dpx_header.specs.declared.info.FrameInfo.{FrameInfo}
-use Rattle.scan_source.specs.declared.scans.Loaded.TheVariants as loaded
 use Rattle.frame_fetch.specs.declared.run_end.RunEnd.{RunEnd}
 use Rattle.frame_fetch.specs.declared.run_end.RunEnd.TheVariants.{Done, OtherJob, BadLedger, Changed, SourceFault, DiskFault, NoMemory}
 use Rattle.frame_fetch.specs.Ends.{IsSeenBy}

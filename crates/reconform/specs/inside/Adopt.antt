@@ -2,6 +2,7 @@
 use Rattle.std.specs.Prelude.{◌≡◌, ◌⊎◌, ◌↔◌, ℕ, ◌+◌, ◌<◌, Bool, true, false, List, count_by, length, slice_index_or, Result, Ok, Err}
 use Rattle.conform_job.specs.Job.{JobData}
 use Rattle.reel_disk.specs.Disk.{Files, History, view_of}
+use Rattle.reel_disk.specs.State.{DiskState}
 use Rattle.resume_ledger.specs.Ledger.{IsFit, AreFlagsOf}
 use Rattle.resume_ledger.specs.Look.{ViewState}
 use Rattle.resume_ledger.specs.declared.attach.OpenFault.{OpenFault}
@@ -68,7 +69,7 @@ AsOpened new old old_tells tells view files opened after (Ok done) = HasServed n
 AsOpened new old old_tells tells view files opened after (Err fault) = IsStop fault
 
 -- the same of what an adoption answers: its result and the disk
-abbrev pub AsOpenedFor : {E : Type 0} → JobData → JobData → Bool → ViewState → History → Bool → (E → History) → ReelView E
+abbrev pub AsOpenedFor : {E : Type 0} → JobData → JobData → Bool → ViewState → History → Bool → (E → DiskState) → ReelView E
     → Result Adopted AdoptFault × E → Type 0
-AsOpenedFor new old old_tells view held tells history opened answer =
-    AsOpened new old old_tells tells view (view_of held) opened (view_of (history answer.1)) answer.0
+AsOpenedFor new old old_tells view held tells state opened answer =
+    AsOpened new old old_tells tells view (view_of held) opened (view_of (state answer.1).history) answer.0

@@ -10,9 +10,9 @@ use Rattle.std.specs.Prelude.{◌≡◌, ℕ, Bool, true, false, List, length, O
 use Rattle.std.specs.BTreeMap.{BTreeMap}
 use Rattle.scan_source.specs.World.{World}
 use Rattle.conform_job.specs.Job.{JobData}
-use Rattle.reel_disk.specs.Disk.{Files, History, view_of, IsStill}
-use Rattle.reel_disk.specs.Loan.{Loan}
+use Rattle.reel_disk.specs.Disk.{Files, view_of, IsStill}
 use Rattle.reel_disk.specs.Runs.{Spares}
+use Rattle.reel_disk.specs.State.{DiskState}
 use Rattle.reel_disk.specs.declared.disk.DiskFault.{DiskFault}
 use Rattle.resume_ledger.specs.Look.{ViewState, IsViewOf}
 use Rattle.resume_ledger.specs.Sound.{WritesOnly}
@@ -51,46 +51,43 @@ pub record CanTake (new old : JobData) (told : Option World) (tells : Bool) (fil
 -- What a part does to the new folder, from where these frames were acknowledged: a crash at any moment leaves only frames
 -- acknowledged that are the reel's, no acknowledgement is lost, and no file is changed but the ledger's and those of the other
 -- frames.
-pub record IsPart {E : Type 0} (job : JobData) (told : Option World) (tells : Bool) (history : E → History)
-    (gates : List Bool) (before after : E) : Type 0 where
-  pub run : tells ≡ true → IsReelRun job told (history before) (history after)
-  pub none_lost : tells ≡ true → KeepsReel job (history before) (history after)
-  pub spares : tells ≡ true → Spares (history before) (history after) (IsRunFile job gates)
+pub record IsPart (job : JobData) (told : Option World) (tells : Bool) (gates : List Bool) (before after : DiskState) : Type 0 where
+  pub run : tells ≡ true → IsReelRun job told before.history after.history
+  pub none_lost : tells ≡ true → KeepsReel job before.history after.history
+  pub spares : tells ≡ true → Spares before.history after.history (IsRunFile job gates)
 
 -- What is done for one frame: it is taken over if it isn't acknowledged and has an intact donor, and nothing else of the reel is
 -- changed; the old folder is only read, and a fault of one of the two disks has its cause.
 pub record HasServed {D E : Type 0} (new old : JobData) (told : Option World)
-    (tells : Bool) (history : D → History) (faults : D → ℕ) (loans : D → List Loan)
-    (reel_tells : Bool) (reel_history : E → History) (reel_faults : E → ℕ) (reel_loans : E → List Loan)
+    (tells : Bool) (state : D → DiskState)
+    (reel_tells : Bool) (reel_state : E → DiskState)
     (view : ViewState) (i : ℕ) (result : Result (Unit {0}) DiskFault)
     (disk disk_after : D) (reel reel_after : ReelView E) : Type 0 where
   pub served : OnOk result (tells ≡ true
-      → IsServed new old view (view_of (history disk)) i reel.ledger.gates reel_after.ledger.gates)
+      → IsServed new old view (view_of (state disk).history) i reel.ledger.gates reel_after.ledger.gates)
   pub stays : IsSameReel reel reel_after
   pub stays_open : OnOk result (reel_after.ledger.closed ≡ false)
-  pub part : IsPart new told reel_tells reel_history reel.ledger.gates reel.disk reel_after.disk
-  pub still : tells ≡ true → IsStill (history disk) (history disk_after)
-  pub disks : LeavesBoth faults loans reel_faults reel_loans (IsErr result) disk disk_after reel.disk reel_after.disk
+  pub part : IsPart new told reel_tells reel.ledger.gates (reel_state reel.disk) (reel_state reel_after.disk)
+  pub still : tells ≡ true → IsStill (state disk).history (state disk_after).history
+  pub disks : LeavesBoth (IsErr result) (state disk) (state disk_after) (reel_state reel.disk) (reel_state reel_after.disk)
 
 -- Each frame that isn't acknowledged and has an intact donor is taken over, and nothing else of the reel is changed; the old
 -- folder is only read. It ends before where memory or a disk fails.
-pub record HasAdopted {D E : Type 0} (new old : JobData) (told : Option World) (tells : Bool) (history : D
-    → History) (reel_tells : Bool) (reel_history : E → History)
+pub record HasAdopted {D E : Type 0} (new old : JobData) (told : Option World) (tells : Bool) (state : D → DiskState) (reel_tells : Bool) (reel_state : E → DiskState)
     (view : ViewState) (result : Result (Unit {0}) AdoptFault) (disk disk_after : D) (reel reel_after : ReelView E) : Type 0 where
-  pub served : OnOk result (tells ≡ true → IsReelServed new old view (view_of (history disk)) reel reel_after)
+  pub served : OnOk result (tells ≡ true → IsReelServed new old view (view_of (state disk).history) reel reel_after)
   pub stays : IsSameReel reel reel_after
   pub stays_open : OnOk result (reel_after.ledger.closed ≡ false)
   pub end : IfErr result IsStop
-  pub part : IsPart new told reel_tells reel_history reel.ledger.gates reel.disk reel_after.disk
-  pub still : tells ≡ true → IsStill (history disk) (history disk_after)
+  pub part : IsPart new told reel_tells reel.ledger.gates (reel_state reel.disk) (reel_state reel_after.disk)
+  pub still : tells ≡ true → IsStill (state disk).history (state disk_after).history
 
 -- What an adoption does to the new folder: a crash at any moment leaves only frames acknowledged that are the reel's, and no
 -- acknowledgement is lost where each frame that version 1 acknowledged had a file of a frame's length, as sound files have. No
 -- file is changed but the ledger's and those of frames that the opening didn't keep, and of the ledger's those of version 2
 -- alone are written.
-pub record IsSafeAdoption {E : Type 0} (job : JobData) (told : Option World) (tells : Bool) (history : E
-    → History) (before after : E) : Type 0 where
-  pub run : tells ≡ true → IsReelRun job told (history before) (history after)
+pub record IsSafeAdoption (job : JobData) (told : Option World) (tells : Bool) (before after : DiskState) : Type 0 where
+  pub run : tells ≡ true → IsReelRun job told before.history after.history
   pub sound_has : (world : World) (files : Files) → IsSoundReel job world files → HasFrameFiles job files
-  pub spares : tells ≡ true → Spares (history before) (history after) (IsOwnFile job (view_of (history before)))
-  pub writes : tells ≡ true → WritesOnly (history before) (history after) (MayWrite job (view_of (history before)))
+  pub spares : tells ≡ true → Spares before.history after.history (IsOwnFile job (view_of before.history))
+  pub writes : tells ≡ true → WritesOnly before.history after.history (MayWrite job (view_of before.history))

@@ -1,5 +1,5 @@
 -- The bytes of a ledger's two files, by its version: the seal, and the body with a gate for each frame: words of private clauses.
-use Rattle.std.specs.Prelude.{◌≡◌, ℕ, length, Option, MatchOption}
+use Rattle.std.specs.Prelude.{◌≡◌, ℕ, Option, MatchOption}
 use Rattle.resume_ledger.specs.Body.{Layout}
 
 -- for how many frames a body of that length is, where it is for any

@@ -1,5 +1,5 @@
 -- What is said of parts of the ledger's calls: words of private clauses.
-use Rattle.std.specs.Prelude.{◌≡◌, ◌≢◌, ◌↔◌, ℕ, ◌<◌, ◌≤◌, Bool, true, false, List, length, take, slice_index, slice_index_or, Option, Some, None, Result, Ok, Err, Vec}
+use Rattle.std.specs.Prelude.{◌≡◌, ◌↔◌, ℕ, ◌<◌, ◌≤◌, Bool, true, false, List, length, take, slice_index, slice_index_or, Option, Some, None, Result, Ok, Err, Vec}
 use Rattle.std.specs.declared.alloc.Global.{Global}
 use Rattle.cf_base.specs.declared.file.FileId.{FileId}
 use Rattle.cf_base.specs.declared.file.FileId.TheVariants.{Seal, Seal2}
@@ -9,9 +9,9 @@ use Rattle.reel_disk.specs.Runs.{Narrows, Spares, StaysFirm}
 use Rattle.resume_ledger.specs.declared.layout.Version.{Version}
 use Rattle.resume_ledger.specs.declared.layout.Version.TheVariants.{One, Two}
 use Rattle.resume_ledger.specs.Body.{Layout, layout_of, IsOwn, closed_body, record_of}
-use Rattle.resume_ledger.specs.Ledger.{IsLedgerFile, IsWrittenLedgerFile, IsInForce, IsSealed, HasOwn, IsFit, AreFlagsOf, AreGatesOf}
+use Rattle.resume_ledger.specs.Ledger.{IsLedgerFile, IsWrittenLedgerFile, IsInForce, IsSealed, HasOwn, IsFit, AreFlagsOf}
 use Rattle.resume_ledger.specs.Sound.{IsFrameFile, HasSize, file_at, AddsNone, IsOpeningRun, WritesOnly}
-use Rattle.resume_ledger.specs.Attach.{IsKept, IsOthers, IsBad, IsRefused, IsRefusalFor, size_of}
+use Rattle.resume_ledger.specs.Attach.{IsKept, IsRefused, IsRefusalFor, size_of}
 use Rattle.resume_ledger.specs.declared.attach.OpenFault.{OpenFault}
 use Rattle.resume_ledger.specs.declared.attach.OpenFault.TheVariants.{OtherJob, BadLedger, DiskFault, NoMemory}
 use Rattle.resume_ledger.specs.Steps.{IsFirmly}
@@ -51,14 +51,6 @@ HasRead layout (Err (OtherJob kept wanted)) = ⊥
 HasRead layout (Err (BadLedger len)) = Unit {0}
 HasRead layout (Err DiskFault) = Unit {0}
 HasRead layout (Err NoMemory) = Unit {0}
-
--- what the bytes of a body say of a job: the flags of its gates, or why they are not the job's
-abbrev pub IsJudged : Layout → List ℕ → ℕ → List ℕ → Result (Vec Bool Global) OpenFault → Type 0
-IsJudged layout digest count body (Ok gates) = IsOwn layout digest count body × AreGatesOf layout body count gates.items
-IsJudged layout digest count body (Err (OtherJob kept wanted)) = IsOthers layout digest kept wanted body
-IsJudged layout digest count body (Err (BadLedger len)) = IsBad layout digest count len (Some body)
-IsJudged layout digest count body (Err DiskFault) = ⊥
-IsJudged layout digest count body (Err NoMemory) = Unit {0}
 
 -- the version in force
 abbrev pub IsVersionOf : Files → Option Version → Type 0
@@ -118,13 +110,6 @@ pub record IsRecorded (open_gate : Bool) (content : Option (List ℕ)) (size : �
   pub opens : (slice_index body ((layout_of Two).gate i) ≡ 65) ↔ ((open_gate ≡ true) × HasSize size content)
   pub hash : slice_index body ((layout_of Two).gate i) ≡ 65 → (bytes : List ℕ) → content ≡ Some bytes → record_of body i ≡ sha256 bytes
 
--- all but a frame's gate and record is as it was
-pub record OthersKept (old new : List ℕ) (i : ℕ) : Type 0 where
-  pub size : length new ≡ length old
-  pub head : take 64 new ≡ take 64 old
-  pub gates : (k : ℕ) → k ≢ i → slice_index new ((layout_of Two).gate k) ≡ slice_index old ((layout_of Two).gate k)
-  pub records : (k : ℕ) → k ≢ i → record_of new k ≡ record_of old k
-
 -- all frames have what they get, and the head is as it was
 pub record AreRecorded (gates : List Bool) (count : ℕ) (name : ℕ → FileId) (size : ℕ) (view : Files) (old new : List ℕ) : Type 0 where
   pub head : take 64 new ≡ take 64 old
@@ -140,11 +125,6 @@ pub record IsBegun (body : List ℕ) (moment : Moment) : Type 0 where
   pub there : moment.view (layout_of Two).body ≡ Some body
   pub firm_seal : IsFirm moment.loose Seal2
   pub firm_body : IsFirm moment.loose (layout_of Two).body
-
--- the body that has the records
-abbrev pub records_in : Version → List ℕ → Option (List ℕ)
-records_in One body = None
-records_in Two body = Some body
 
 -- What a part of an opening keeps at each moment.
 pub record IsOpeningPart (digest : List ℕ) (count : ℕ) (name : ℕ → FileId) (size : ℕ) (old new : History) : Type 0 where

@@ -5,10 +5,10 @@ use Rattle.std.specs.Prelude.{◌≡◌, ◌≢◌, ◌⊎◌, ◌↔◌, ℕ, �
 use Rattle.cf_base.specs.Count.{HasCause}
 use Rattle.cf_base.specs.declared.file.FileId.{FileId}
 use Rattle.cf_base.specs.declared.file.FileId.TheVariants.{Body2}
+use Rattle.reel_disk.specs.State.{DiskState}
 use Rattle.scan_source.specs.World.{World}
 use Rattle.conform_job.specs.Job.{JobData, file_of}
 use Rattle.reel_disk.specs.Disk.{History, view_of}
-use Rattle.reel_disk.specs.Loan.{Loan}
 use Rattle.reel_disk.specs.Runs.{Spares}
 use Rattle.reel_writer.specs.Reel.{HasAcked, IsWrittenFile, IsReelRun, KeepsReel}
 use Rattle.reel_writer.specs.View.{ReelView}
@@ -41,35 +41,33 @@ IsRangeFile job low high gates q = (q ≡ Body2)
 
 -- What the work on frame i, whose gate was closed, makes of an open reel: the frame is finished, or no frame is where the
 -- work ended early. No file is written but the frame's and the ledger's.
-pub record HasRunFrame {D R : Type 0} (i : ℕ) (job : JobData) (told : Option World) (tells : Bool) (history : D → History)
-    (loans : D → List Loan) (faults : D → ℕ) (result : Result R RunEnd) (old new : ReelView D) : Type 0 where
+pub record HasRunFrame {D R : Type 0} (i : ℕ) (job : JobData) (told : Option World) (tells : Bool) (state : D → DiskState) (result : Result R RunEnd) (old new : ReelView D) : Type 0 where
   pub fresh : slice_index_or old.ledger.gates i false ≡ false
   pub past : OnOk result (IsPast i old new)
   pub unfinished : OnErr result (IsUnfinished old new)
   pub stays_open : result ≢ Err DiskFault → new.ledger.closed ≡ false
   pub failed : tells ≡ true → result ≡ Err DiskFault
-      → AcksOpenBut i job old.ledger.gates (history new.disk)
-  pub run : tells ≡ true → IsReelRun job told (history old.disk) (history new.disk)
-  pub none_lost : tells ≡ true → KeepsReel job (history old.disk) (history new.disk)
+      → AcksOpenBut i job old.ledger.gates (state new.disk).history
+  pub run : tells ≡ true → IsReelRun job told (state old.disk).history (state new.disk).history
+  pub none_lost : tells ≡ true → KeepsReel job (state old.disk).history (state new.disk).history
   pub spares : tells ≡ true
-      → Spares (history old.disk) (history new.disk) (IsWrittenFile (file_of job i))
-  pub same : loans new.disk ≡ loans old.disk
-  pub cause : HasCause (faults old.disk) (faults new.disk) (result ≡ Err DiskFault)
-  pub steady : result ≢ Err DiskFault → faults new.disk ≡ faults old.disk
+      → Spares (state old.disk).history (state new.disk).history (IsWrittenFile (file_of job i))
+  pub same : (state new.disk).loans ≡ (state old.disk).loans
+  pub cause : HasCause (state old.disk).faults (state new.disk).faults (result ≡ Err DiskFault)
+  pub steady : result ≢ Err DiskFault → (state new.disk).faults ≡ (state old.disk).faults
 
 -- What a run over a range of frames of an open reel makes of it, until it ends so. It finished so many of the
 -- frames whose gate was closed, in their order, and wrote no file but theirs and the ledger's.
-pub record HasRunOver {D : Type 0} (job : JobData) (low high : ℕ) (told : Option World) (tells : Bool) (history : D → History)
-    (loans : D → List Loan) (faults : D → ℕ) (end : RunEnd) (old new : ReelView D) : Type 0 where
+pub record HasRunOver {D : Type 0} (job : JobData) (low high : ℕ) (told : Option World) (tells : Bool) (state : D → DiskState) (end : RunEnd) (old new : ReelView D) : Type 0 where
   pub acks : new.acks ≡ take (length new.acks) (closed_frames old.ledger.gates low high)
   pub gates : AreOpened old.ledger.gates new.acks new.ledger.gates
   pub kept : new.kept ≡ old.kept
   pub stays_open : end ≢ DiskFault → new.ledger.closed ≡ false
   pub failed : tells ≡ true → end ≡ DiskFault
-      → AcksButNext job low high old.ledger.gates new.acks (history new.disk)
-  pub run : tells ≡ true → IsReelRun job told (history old.disk) (history new.disk)
+      → AcksButNext job low high old.ledger.gates new.acks (state new.disk).history
+  pub run : tells ≡ true → IsReelRun job told (state old.disk).history (state new.disk).history
   pub spares : tells ≡ true
-      → Spares (history old.disk) (history new.disk) (IsRangeFile job low high old.ledger.gates)
-  pub same : loans new.disk ≡ loans old.disk
-  pub cause : HasCause (faults old.disk) (faults new.disk) (end ≡ DiskFault)
-  pub steady : end ≢ DiskFault → faults new.disk ≡ faults old.disk
+      → Spares (state old.disk).history (state new.disk).history (IsRangeFile job low high old.ledger.gates)
+  pub same : (state new.disk).loans ≡ (state old.disk).loans
+  pub cause : HasCause (state old.disk).faults (state new.disk).faults (end ≡ DiskFault)
+  pub steady : end ≢ DiskFault → (state new.disk).faults ≡ (state old.disk).faults

@@ -1,8 +1,9 @@
 -- What a crew leaves: words of private clauses.
 use Rattle.std.specs.Prelude.{◌≡◌, ℕ, ◌<◌, ◌≤◌, Bool, true, false, List, length, Option, IfSome}
+use Rattle.reel_disk.specs.State.{DiskState}
 use Rattle.scan_source.specs.World.{World}
 use Rattle.conform_job.specs.Job.{JobData}
-use Rattle.reel_disk.specs.Disk.{Moment, History}
+use Rattle.reel_disk.specs.Disk.{Moment}
 use Rattle.render_board.specs.Board.{has_stop, is_done}
 use Rattle.render_board.specs.History.{finished_of, first_why}
 use Rattle.render_board.specs.declared.step.Step.{Step}
@@ -14,10 +15,10 @@ use Rattle.station.specs.Crews.{end_by}
 
 -- what the station keeps holds to the end
 pub record IsClosedStation {D : Type 0} (job : JobData) (low high : ℕ) (told : Option World) (workers : ℕ)
-    (start : Option Moment) (tells : Bool) (history : D → History) (faults : D → ℕ) (steps : List Step)
+    (start : Option Moment) (tells : Bool) (state : D → DiskState) (steps : List Step)
     (end : RunEnd) (report : Report) (disk : D) : Type 0 where
   pub station : StationView D
-  pub is : IsStation job told start tells history faults station
+  pub is : IsStation job told start tells state station
   pub named : station.log.workers ≡ workers
   pub range : (station.log.low ≡ low) × (station.log.high ≡ high)
   pub disk_is : station.reel.disk ≡ disk
@@ -29,6 +30,6 @@ pub record IsClosedStation {D : Type 0} (job : JobData) (low high : ℕ) (told :
 
 -- the same of a crew that took steps
 abbrev pub HasClosedStation : {S D : Type 0} → JobData → (low high : ℕ) → (told : Option World) → (workers : ℕ)
-    → (start : Option Moment) → (tells : Bool) → (history : D → History) → (faults : D → ℕ) → Crew S D → Type 0
-HasClosedStation job low high told workers start tells history faults crew =
-    IfSome crew.history (λ steps. IsClosedStation job low high told workers start tells history faults steps crew.end crew.report crew.disk)
+    → (start : Option Moment) → (tells : Bool) → (state : D → DiskState) → Crew S D → Type 0
+HasClosedStation job low high told workers start tells state crew =
+    IfSome crew.history (λ steps. IsClosedStation job low high told workers start tells state steps crew.end crew.report crew.disk)

@@ -1,6 +1,6 @@
 -- What was read of the words gives the answer, and the answer gives the headline and completeness.
 use Rattle.std.proofs.Common.{map}
-use Rattle.command_answers.specs.States.{folders_of, house_of, scan_state}
+use Rattle.command_answers.specs.States.{folders_of, house_of}
 use Rattle.command_answers.proofs.Answering.{answered_unread}
 use Rattle.command_answers.proofs.Completes.{answered_complete, answered_unfailed}
 use Rattle.command_answers.proofs.Headlines.{answered_adoption, answered_promise}
@@ -23,22 +23,22 @@ returns-clause-complete g c =
 
 pub returns-in_default-clause-answered : goal.returns-in_default-clause-answered
 returns-in_default-clause-answered g c =
-    answered_unread {house = house_of (map (λ p. p.kind) c.args.probes.now) c.args.tone.now.table} _ (scan_state g.S.Scans.world g.S.Scans.faults g.S.Scans.loads g.S.Scans.heads c.args.scan.now) (folders_of g.D.Disk.tells g.D.Disk.history g.D.Disk.faults c.args.disk.now c.args.old.now) _ _ _ c.put_line.ensures.put
+    answered_unread {house = house_of (map (λ p. p.kind) c.args.probes.now) c.args.tone.now.table} _ (g.S.Scans.state c.args.scan.now) (folders_of g.D.Disk.tells (g.D.Disk.state c.args.disk.now) (g.D.Disk.state c.args.old.now)) _ _ _ c.put_line.ensures.put
 
 pub returns-in_default-clause-headline : goal.returns-in_default-clause-headline
 returns-in_default-clause-headline g c =
     answered_promise {house = house_of (map (λ p. p.kind) c.args.probes.now) c.args.tone.now.table} c.job_laws.ensures.job _ _ _ _ _ _ _ _
-    (answered_unread _ (scan_state g.S.Scans.world g.S.Scans.faults g.S.Scans.loads g.S.Scans.heads c.args.scan.now) (folders_of g.D.Disk.tells g.D.Disk.history g.D.Disk.faults c.args.disk.now c.args.old.now) _ _ _ c.put_line.ensures.put)
+    (answered_unread _ (g.S.Scans.state c.args.scan.now) (folders_of g.D.Disk.tells (g.D.Disk.state c.args.disk.now) (g.D.Disk.state c.args.old.now)) _ _ _ c.put_line.ensures.put)
 
 pub returns-in_default-clause-adopted : goal.returns-in_default-clause-adopted
 returns-in_default-clause-adopted g c =
     answered_adoption {house = house_of (map (λ p. p.kind) c.args.probes.now) c.args.tone.now.table} c.job_laws.ensures.job _ _ _ _ _ _ _ _
-    (answered_unread _ (scan_state g.S.Scans.world g.S.Scans.faults g.S.Scans.loads g.S.Scans.heads c.args.scan.now) (folders_of g.D.Disk.tells g.D.Disk.history g.D.Disk.faults c.args.disk.now c.args.old.now) _ _ _ c.put_line.ensures.put)
+    (answered_unread _ (g.S.Scans.state c.args.scan.now) (folders_of g.D.Disk.tells (g.D.Disk.state c.args.disk.now) (g.D.Disk.state c.args.old.now)) _ _ _ c.put_line.ensures.put)
 
 pub returns-in_default-clause-complete : goal.returns-in_default-clause-complete
 returns-in_default-clause-complete g c =
     answered_complete {house = house_of (map (λ p. p.kind) c.args.probes.now) c.args.tone.now.table} c.job_laws.ensures.job _ _ _ _ _ _ _ _
-    (answered_unread _ (scan_state g.S.Scans.world g.S.Scans.faults g.S.Scans.loads g.S.Scans.heads c.args.scan.now) (folders_of g.D.Disk.tells g.D.Disk.history g.D.Disk.faults c.args.disk.now c.args.old.now) _ _ _ c.put_line.ensures.put)
+    (answered_unread _ (g.S.Scans.state c.args.scan.now) (folders_of g.D.Disk.tells (g.D.Disk.state c.args.disk.now) (g.D.Disk.state c.args.old.now)) _ _ _ c.put_line.ensures.put)
 
 pub returns-clause-unfailed : goal.returns-clause-unfailed
 returns-clause-unfailed g c =
@@ -47,7 +47,7 @@ returns-clause-unfailed g c =
 pub returns-in_default-clause-unfailed : goal.returns-in_default-clause-unfailed
 returns-in_default-clause-unfailed g c =
     answered_unfailed {house = house_of (map (λ p. p.kind) c.args.probes.now) c.args.tone.now.table} _ _ _ _ _ _ _ _
-    (answered_unread _ (scan_state g.S.Scans.world g.S.Scans.faults g.S.Scans.loads g.S.Scans.heads c.args.scan.now) (folders_of g.D.Disk.tells g.D.Disk.history g.D.Disk.faults c.args.disk.now c.args.old.now) _ _ _ c.put_line.ensures.put)
+    (answered_unread _ (g.S.Scans.state c.args.scan.now) (folders_of g.D.Disk.tells (g.D.Disk.state c.args.disk.now) (g.D.Disk.state c.args.old.now)) _ _ _ c.put_line.ensures.put)
 
 pub returns-clause-no_call : goal.returns-clause-no_call
 returns-clause-no_call g c = c.answer_found.ensures.no_call _ c.in-Ok.ensures.command

@@ -46,38 +46,38 @@ returns-in-Adopt-clause-no_old_call g c none = absurd (none (subst CallsOld (sym
 -- these make calls on the folder of the reel alone
 pub returns-in-Run-clause-reply : goal.returns-in-Run-clause-reply
 returns-in-Run-clause-reply g c =
-    reel_replied _ (commands.Run _ _ _ _) _ _ (λ house. IsRunReply _ _ _) IsThrough refl (replied_run c.in-Run.project c.in-Run.extent c.in-Run.workers c.in-Run.share) g.S.Scans.world g.S.Scans.faults g.S.Scans.loads g.S.Scans.heads g.S.Scans.same c.args.scan.now c.run.new.scan
-    g.D.Disk.tells g.D.Disk.history g.D.Disk.faults g.D.Disk.loans c.args.disk.now c.run.new.disk c.args.old.now
+    reel_replied _ (commands.Run _ _ _ _) _ _ (λ house. IsRunReply _ _ _) IsThrough refl (replied_run c.in-Run.project c.in-Run.extent c.in-Run.workers c.in-Run.share) (g.S.Scans.state c.args.scan.now) (g.S.Scans.state c.run.new.scan)
+    g.D.Disk.tells g.D.Disk.state c.args.disk.now c.run.new.disk c.args.old.now
     c.args.command.now c.run.result c.in-Run.is c.run.ensures.folder c.run.ensures.kind c.run.ensures.scan c.run.ensures.disk
 
 pub returns-in-Status-clause-reply : goal.returns-in-Status-clause-reply
 returns-in-Status-clause-reply g c =
-    reel_replied _ (commands.Status _) _ _ (λ house. IsStatusReply _) IsThrough refl (replied_look (commands.Status c.in-Status.project) tt) g.S.Scans.world g.S.Scans.faults g.S.Scans.loads g.S.Scans.heads g.S.Scans.same c.args.scan.now c.status.new.scan
-    g.D.Disk.tells g.D.Disk.history g.D.Disk.faults g.D.Disk.loans c.args.disk.now c.status.new.disk c.args.old.now
+    reel_replied _ (commands.Status _) _ _ (λ house. IsStatusReply _) IsThrough refl (replied_look (commands.Status c.in-Status.project) tt) (g.S.Scans.state c.args.scan.now) (g.S.Scans.state c.status.new.scan)
+    g.D.Disk.tells g.D.Disk.state c.args.disk.now c.status.new.disk c.args.old.now
     c.args.command.now c.status.result c.in-Status.is c.status.ensures.folder c.status.ensures.kind c.status.ensures.scan c.status.ensures.disk
 
 pub returns-in-Verify-clause-reply : goal.returns-in-Verify-clause-reply
 returns-in-Verify-clause-reply g c =
-    reel_replied _ (commands.Verify _) _ _ (λ house. IsVerifyReply _) IsThroughOrDamaged refl (replied_verify c.in-Verify.project) g.S.Scans.world g.S.Scans.faults g.S.Scans.loads g.S.Scans.heads g.S.Scans.same c.args.scan.now c.verify.new.scan
-    g.D.Disk.tells g.D.Disk.history g.D.Disk.faults g.D.Disk.loans c.args.disk.now c.verify.new.disk c.args.old.now
+    reel_replied _ (commands.Verify _) _ _ (λ house. IsVerifyReply _) IsThroughOrDamaged refl (replied_verify c.in-Verify.project) (g.S.Scans.state c.args.scan.now) (g.S.Scans.state c.verify.new.scan)
+    g.D.Disk.tells g.D.Disk.state c.args.disk.now c.verify.new.disk c.args.old.now
     c.args.command.now c.verify.result c.in-Verify.is c.verify.ensures.folder c.verify.ensures.kind c.verify.ensures.scan c.verify.ensures.disk
 
 pub returns-in-Sums-clause-reply : goal.returns-in-Sums-clause-reply
 returns-in-Sums-clause-reply g c =
-    reel_replied _ (commands.Sums _) _ _ (λ house. IsSumsReply _) IsThrough refl (replied_look (commands.Sums c.in-Sums.project) tt) g.S.Scans.world g.S.Scans.faults g.S.Scans.loads g.S.Scans.heads g.S.Scans.same c.args.scan.now c.sums.new.scan
-    g.D.Disk.tells g.D.Disk.history g.D.Disk.faults g.D.Disk.loans c.args.disk.now c.sums.new.disk c.args.old.now
+    reel_replied _ (commands.Sums _) _ _ (λ house. IsSumsReply _) IsThrough refl (replied_look (commands.Sums c.in-Sums.project) tt) (g.S.Scans.state c.args.scan.now) (g.S.Scans.state c.sums.new.scan)
+    g.D.Disk.tells g.D.Disk.state c.args.disk.now c.sums.new.disk c.args.old.now
     c.args.command.now c.sums.result c.in-Sums.is c.sums.ensures.folder c.sums.ensures.kind c.sums.ensures.scan c.sums.ensures.disk
 
 pub returns-in-Qc-clause-reply : goal.returns-in-Qc-clause-reply
 returns-in-Qc-clause-reply g c =
-    reel_replied _ (commands.Qc _) _ _ (λ house. IsQcReply house.kinds _) IsThrough refl (replied_look (commands.Qc c.in-Qc.project) tt) g.S.Scans.world g.S.Scans.faults g.S.Scans.loads g.S.Scans.heads g.S.Scans.same c.args.scan.now c.qc.new.scan
-    g.D.Disk.tells g.D.Disk.history g.D.Disk.faults g.D.Disk.loans c.args.disk.now c.qc.new.disk c.args.old.now
+    reel_replied _ (commands.Qc _) _ _ (λ house. IsQcReply house.kinds _) IsThrough refl (replied_look (commands.Qc c.in-Qc.project) tt) (g.S.Scans.state c.args.scan.now) (g.S.Scans.state c.qc.new.scan)
+    g.D.Disk.tells g.D.Disk.state c.args.disk.now c.qc.new.disk c.args.old.now
     c.args.command.now c.qc.result c.in-Qc.is c.qc.ensures.folder c.qc.ensures.kind c.qc.ensures.scan c.qc.ensures.disk
 
 pub returns-in-Sheet-clause-reply : goal.returns-in-Sheet-clause-reply
 returns-in-Sheet-clause-reply g c =
-    reel_replied _ (commands.Sheet _) _ _ (λ house. IsSheetReply house.tone _) IsThrough refl (replied_look (commands.Sheet c.in-Sheet.project) tt) g.S.Scans.world g.S.Scans.faults g.S.Scans.loads g.S.Scans.heads g.S.Scans.same c.args.scan.now c.sheet.new.scan
-    g.D.Disk.tells g.D.Disk.history g.D.Disk.faults g.D.Disk.loans c.args.disk.now c.sheet.new.disk c.args.old.now
+    reel_replied _ (commands.Sheet _) _ _ (λ house. IsSheetReply house.tone _) IsThrough refl (replied_look (commands.Sheet c.in-Sheet.project) tt) (g.S.Scans.state c.args.scan.now) (g.S.Scans.state c.sheet.new.scan)
+    g.D.Disk.tells g.D.Disk.state c.args.disk.now c.sheet.new.disk c.args.old.now
     c.args.command.now c.sheet.result c.in-Sheet.is c.sheet.ensures.folder c.sheet.ensures.kind c.sheet.ensures.scan c.sheet.ensures.disk
 
 -- these make none on a folder
@@ -91,9 +91,9 @@ returns-in-Pull-clause-reply g c =
 -- the old folder and the new one keep their places
 pub returns-in-Adopt-clause-reply : goal.returns-in-Adopt-clause-reply
 returns-in-Adopt-clause-reply g c =
-    adopt_replied _ c.args.command.now _ _ g.S.Scans.world g.S.Scans.faults g.S.Scans.loads g.S.Scans.heads c.args.scan.now c.adopt.new.scan g.D.Disk.tells g.D.Disk.history g.D.Disk.faults g.D.Disk.loans c.args.old.now c.adopt.new.old c.args.disk.now c.adopt.new.disk
+    adopt_replied _ c.args.command.now _ _ (g.S.Scans.state c.args.scan.now) (g.S.Scans.state c.adopt.new.scan) g.D.Disk.tells (g.D.Disk.state c.args.old.now) (g.D.Disk.state c.adopt.new.old) (g.D.Disk.state c.args.disk.now) (g.D.Disk.state c.adopt.new.disk)
     c.adopt.result c.in-Adopt.is
-    (replied_over (commands.Adopt _ _) _ g.S.Scans.world g.S.Scans.faults g.S.Scans.loads g.S.Scans.heads g.S.Scans.same c.args.scan.now c.adopt.new.scan (replied_adopt c.in-Adopt.project c.in-Adopt.old_project) (λ reached output. tt) (λ reached. tt) (λ reached asked. asked) c.adopt.result c.adopt.ensures.kind c.adopt.ensures.scan)
+    (replied_over (commands.Adopt _ _) _ (g.S.Scans.state c.args.scan.now) (g.S.Scans.state c.adopt.new.scan) (replied_adopt c.in-Adopt.project c.in-Adopt.old_project) (λ reached output. tt) (λ reached. tt) (λ reached asked. asked) c.adopt.result c.adopt.ensures.kind c.adopt.ensures.scan)
     c.adopt.ensures.folders c.adopt.ensures.disks
 
 pub returns-in-Adopt-clause-untouched : goal.returns-in-Adopt-clause-untouched

@@ -9,42 +9,42 @@ use Rattle.conform_job.proofs.frames.infos_of.Goals as goal
 pub loop-i-init : goal.loop-i-init
 loop-i-init g c = record {
   within = search rules;
-  scan = leaves_still g.S.Scans.world g.S.Scans.faults g.S.Scans.same _ (g.met.S.Scans.same_refl _) (λ never. never);
-  heads = heads_start (g.S.Scans.heads c.args.scans.now) c.new-infos.result c.new-infos.ensures;
+  scan = leaves_still (λ never. never);
+  heads = heads_start (g.S.Scans.state c.args.scans.now).heads c.new-infos.result c.new-infos.ensures;
   loads = refl;
-  rest = rest_start c.args.parts.now (g.S.Scans.world c.args.scans.now);
-  grows = grown_start c.args.parts.now (g.S.Scans.world c.args.scans.now) c.new-infos.result c.new-infos.ensures;
+  rest = rest_start c.args.parts.now (g.S.Scans.state c.args.scans.now).world;
+  grows = grown_start c.args.parts.now (g.S.Scans.state c.args.scans.now).world c.new-infos.result c.new-infos.ensures;
 }
 
 pub returns-in-Err-clause-told : goal.returns-in-Err-clause-told
 returns-in-Err-clause-told g c =
-    refused_here c.args.parts.now (g.S.Scans.world c.args.scans.now) (g.S.Scans.world c.loop-i.scans) c.loop-i.invariant.scan.told c.loop-i.i c.shot_of-shot.result
+    refused_here c.args.parts.now (g.S.Scans.state c.args.scans.now).world (g.S.Scans.state c.loop-i.scans).world c.loop-i.invariant.scan.told c.loop-i.i c.shot_of-shot.result
     (omega (arith, c.loop-i-test.true, c.count-i-end.ensures.count)) c.shot_of-shot.ensures.shot c.in-Err.fault c.loop-i.invariant.rest c.in-Err.ensures.told
 
 pub returns-in-Err-clause-scan : goal.returns-in-Err-clause-scan
-returns-in-Err-clause-scan g c = leaves_then g.S.Scans.world g.S.Scans.faults g.S.Scans.same g.met.S.Scans.same_trans _ _ _ (λ never. never) c.loop-i.invariant.scan
-    (leaves_as g.S.Scans.world g.S.Scans.faults g.S.Scans.same _ _ (err_as _ _) (err_as _ _) c.in-Err.ensures.scan)
+returns-in-Err-clause-scan g c = leaves_then (λ never. never) c.loop-i.invariant.scan
+    (leaves_as (err_as _ _) (err_as _ _) c.in-Err.ensures.scan)
 
 pub returns-clause-scan : goal.returns-clause-scan
-returns-clause-scan g c = leaves_done g.S.Scans.world g.S.Scans.faults g.S.Scans.same _ _ (λ never. never) (no_err _ _) c.loop-i.invariant.scan
+returns-clause-scan g c = leaves_done (λ never. never) (no_err _ _) c.loop-i.invariant.scan
 
 pub loop-i-preserved : goal.loop-i-preserved
 loop-i-preserved g c = record {
   within = omega (arith, c.loop-i-test.true, c.count-i-end.ensures.count);
-  scan = leaves_then g.S.Scans.world g.S.Scans.faults g.S.Scans.same g.met.S.Scans.same_trans _ _ _ (λ never. never) c.loop-i.invariant.scan
-      (leaves_done g.S.Scans.world g.S.Scans.faults g.S.Scans.same _ _ (no_err _ _) (λ never. never) c.in_default.ensures.scan);
+  scan = leaves_then (λ never. never) c.loop-i.invariant.scan
+      (leaves_done (no_err _ _) (λ never. never) c.in_default.ensures.scan);
   heads = heads_both _ _ _ _ _ _ c.loop-i.invariant.heads c.in_default.ensures.heads;
   loads = c.inspect_shot.ensures.loads ∙ c.loop-i.invariant.loads;
-  rest = rest_next c.args.parts.now (g.S.Scans.world c.args.scans.now) (g.S.Scans.world c.loop-i.scans) c.loop-i.invariant.scan.told c.loop-i.i c.shot_of-shot.result
+  rest = rest_next c.args.parts.now (g.S.Scans.state c.args.scans.now).world (g.S.Scans.state c.loop-i.scans).world c.loop-i.invariant.scan.told c.loop-i.i c.shot_of-shot.result
       (omega (arith, c.loop-i-test.true, c.count-i-end.ensures.count)) c.shot_of-shot.ensures.shot c.loop-i.invariant.rest c.in_default.ensures.told;
-  grows = grown_next c.args.parts.now (g.S.Scans.world c.args.scans.now) (g.S.Scans.world c.loop-i.scans) c.loop-i.invariant.scan.told c.loop-i.i c.shot_of-shot.result
+  grows = grown_next c.args.parts.now (g.S.Scans.state c.args.scans.now).world (g.S.Scans.state c.loop-i.scans).world c.loop-i.invariant.scan.told c.loop-i.i c.shot_of-shot.result
       (omega (arith, c.loop-i-test.true, c.count-i-end.ensures.count)) c.shot_of-shot.ensures.shot _ _ _ c.loop-i.invariant.grows c.in_default.ensures.grows;
 }
 
 pub returns-clause-grows : goal.returns-clause-grows
-returns-clause-grows g c = grown_whole c.args.parts.now (g.S.Scans.world c.args.scans.now) c.loop-i.i _ _ (omega (arith, c.loop-i-test.false, c.count-i-end.ensures.count, c.loop-i.invariant.within)) c.loop-i.invariant.grows
+returns-clause-grows g c = grown_whole c.args.parts.now (g.S.Scans.state c.args.scans.now).world c.loop-i.i _ _ (omega (arith, c.loop-i-test.false, c.count-i-end.ensures.count, c.loop-i.invariant.within)) c.loop-i.invariant.grows
 
 pub returns-in-Err-clause-end : goal.returns-in-Err-clause-end
 returns-in-Err-clause-end g c =
-    ended_whole c.args.parts.now (g.S.Scans.world c.args.scans.now) (g.S.Scans.world c.loop-i.scans) c.loop-i.invariant.scan.told c.loop-i.i c.shot_of-shot.result
+    ended_whole c.args.parts.now (g.S.Scans.state c.args.scans.now).world (g.S.Scans.state c.loop-i.scans).world c.loop-i.invariant.scan.told c.loop-i.i c.shot_of-shot.result
     (omega (arith, c.loop-i-test.true, c.count-i-end.ensures.count)) c.shot_of-shot.ensures.shot _ _ _ _ c.in-Err.fault c.loop-i.invariant.grows c.loop-i.invariant.heads c.in-Err.ensures.end

@@ -16,19 +16,19 @@ seen_is : (g : given.Over) (c : goal.After-judged g) (world : World) → IsSeen 
 seen_is g c world h = rw (path_is g c) h
 
 pub returns-clause-told : goal.returns-clause-told
-returns-clause-told g c = told_more (g.S.Scans.world c.args.scans.now) _ _
+returns-clause-told g c = told_more (g.S.Scans.state c.args.scans.now).world _ _
     (λ world h. judged_told c.args.named.now c.args.parts.now.project.width c.args.parts.now.project.height c.inspect-seen.result c.judged.result _ c.judged.ensures (seen_is g c world h))
     c.inspect-seen.ensures.told
 
 pub returns-clause-info : goal.returns-clause-info
-returns-clause-info g c = judged_info c.args.parts.now (g.S.Scans.world c.args.scans.now) c.args.key c.args.named.now c.inspect-seen.result c.judged.result
-    (told_more (g.S.Scans.world c.args.scans.now) _ _ (seen_is g c) c.inspect-seen.ensures.told) c.inspect-seen.ensures.frame c.judged.ensures
+returns-clause-info g c = judged_info c.args.parts.now (g.S.Scans.state c.args.scans.now).world c.args.key c.args.named.now c.inspect-seen.result c.judged.result
+    (told_more (g.S.Scans.state c.args.scans.now).world _ _ (seen_is g c) c.inspect-seen.ensures.told) c.inspect-seen.ensures.frame c.judged.ensures
 
 pub returns-clause-names : goal.returns-clause-names
 returns-clause-names g c = judged_named c.args.named.now _ _ c.inspect-seen.result c.judged.result c.judged.ensures
 
 pub returns-clause-scan : goal.returns-clause-scan
-returns-clause-scan g c = leaves_as g.S.Scans.world g.S.Scans.faults g.S.Scans.same _ _
+returns-clause-scan g c = leaves_as
     (judged_failed c.args.named.now _ _ c.inspect-seen.result c.judged.result c.judged.ensures) (failed_judged c.args.named.now _ _ c.inspect-seen.result c.judged.result c.judged.ensures)
     c.inspect-seen.ensures.scan
 

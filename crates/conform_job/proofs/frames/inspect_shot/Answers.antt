@@ -11,7 +11,7 @@ pub inspect_side-requires-in-Ok-clause-each : goal.inspect_side-requires-in-Ok-c
 inspect_side-requires-in-Ok-clause-each g c = rw c.inspect_side-in-Two.ensures.scan.told c.in-Ok.ensures.grows.each
 
 pub returns-in-Gap-clause-grows : goal.returns-in-Gap-clause-grows
-returns-in-Gap-clause-grows g c = rw c.in-Gap.is (grown_none c.args.parts.now (g.S.Scans.world c.args.scans.now) c.args.infos.now c.requires.each)
+returns-in-Gap-clause-grows g c = rw c.in-Gap.is (grown_none c.args.parts.now (g.S.Scans.state c.args.scans.now).world c.args.infos.now c.requires.each)
 
 pub returns-in-One-clause-told : goal.returns-in-One-clause-told
 returns-in-One-clause-told g c = rw (c.in-One.is, one_side) c.inspect_side.ensures.told
@@ -21,21 +21,21 @@ returns-in-One-clause-grows g c = rw (c.in-One.is, one_side) c.inspect_side.ensu
 
 pub returns-in-Ok-clause-told : goal.returns-in-Ok-clause-told
 returns-in-Ok-clause-told g c = rw (c.in-Two.is, two_sides)
-    (told_then c.args.parts.now (g.S.Scans.world c.args.scans.now) _ _ c.inspect_side-in-Ok.result c.in-Ok.ensures.told (rw c.inspect_side-in-Two.ensures.scan.told at c.inspect_side-in-Ok.ensures.told))
+    (told_then c.args.parts.now (g.S.Scans.state c.args.scans.now).world _ _ c.inspect_side-in-Ok.result c.in-Ok.ensures.told (rw c.inspect_side-in-Two.ensures.scan.told at c.inspect_side-in-Ok.ensures.told))
 
 pub returns-in-Ok-clause-grows : goal.returns-in-Ok-clause-grows
 returns-in-Ok-clause-grows g c = rw (c.in-Two.is, two_sides)
-    (on_ok c.inspect_side-in-Ok.result _ _ (grown_both c.args.parts.now (g.S.Scans.world c.args.scans.now) _ _ _ _ _ c.in-Ok.ensures.grows) (rw c.inspect_side-in-Two.ensures.scan.told at c.inspect_side-in-Ok.ensures.grows))
+    (on_ok c.inspect_side-in-Ok.result _ _ (grown_both c.args.parts.now (g.S.Scans.state c.args.scans.now).world _ _ _ _ _ c.in-Ok.ensures.grows) (rw c.inspect_side-in-Two.ensures.scan.told at c.inspect_side-in-Ok.ensures.grows))
 
 pub returns-in-Ok-clause-heads : goal.returns-in-Ok-clause-heads
 returns-in-Ok-clause-heads g c = on_ok c.inspect_side-in-Ok.result _ _ (heads_both _ _ _ _ _ _ c.in-Ok.ensures.heads) c.inspect_side-in-Ok.ensures.heads
 
 pub returns-in-Ok-clause-scan : goal.returns-in-Ok-clause-scan
 returns-in-Ok-clause-scan g c =
-    leaves_then g.S.Scans.world g.S.Scans.faults g.S.Scans.same g.met.S.Scans.same_trans _ _ _ (no_err _ _) c.in-Ok.ensures.scan c.inspect_side-in-Ok.ensures.scan
+    leaves_then (no_err _ _) c.in-Ok.ensures.scan c.inspect_side-in-Ok.ensures.scan
 
 pub returns-in-Err-clause-told : goal.returns-in-Err-clause-told
-returns-in-Err-clause-told g c = rw (c.in-Two.is, two_sides) (told_refused c.args.parts.now (g.S.Scans.world c.args.scans.now) _ _ c.in-Err.fault c.in-Err.ensures.told)
+returns-in-Err-clause-told g c = rw (c.in-Two.is, two_sides) (told_refused c.args.parts.now (g.S.Scans.state c.args.scans.now).world _ _ c.in-Err.fault c.in-Err.ensures.told)
 
 pub returns-in-Err-clause-scan : goal.returns-in-Err-clause-scan
 returns-in-Err-clause-scan g c = c.in-Err.ensures.scan
@@ -46,8 +46,8 @@ returns-in-One-clause-end g c = rw (c.in-One.is, one_side) c.inspect_side.ensure
 pub returns-in-Ok-clause-end : goal.returns-in-Ok-clause-end
 returns-in-Ok-clause-end g c = rw (c.in-Two.is, two_sides)
     (second_ended c.inspect_side-in-Ok.result _ _
-    (λ why e. ended_then c.args.parts.now (g.S.Scans.world c.args.scans.now) _ _ _ _ _ _ _ why c.in-Ok.ensures.grows c.in-Ok.ensures.heads e)
+    (λ why e. ended_then c.args.parts.now (g.S.Scans.state c.args.scans.now).world _ _ _ _ _ _ _ why c.in-Ok.ensures.grows c.in-Ok.ensures.heads e)
     (rw c.inspect_side-in-Two.ensures.scan.told at c.inspect_side-in-Ok.ensures.end))
 
 pub returns-in-Err-clause-end : goal.returns-in-Err-clause-end
-returns-in-Err-clause-end g c = rw (c.in-Two.is, two_sides) (ended_first c.args.parts.now (g.S.Scans.world c.args.scans.now) _ _ _ _ _ _ c.in-Err.ensures.end)
+returns-in-Err-clause-end g c = rw (c.in-Two.is, two_sides) (ended_first c.args.parts.now (g.S.Scans.state c.args.scans.now).world _ _ _ _ _ _ c.in-Err.ensures.end)

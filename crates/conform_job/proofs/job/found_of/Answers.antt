@@ -5,28 +5,28 @@ use Rattle.conform_job.proofs.Ending.{cut_asked, ended_asked, placed_asked}
 use Rattle.conform_job.proofs.job.found_of.Goals as goal
 
 pub returns-in-Err-clause-told : goal.returns-in-Err-clause-told
-returns-in-Err-clause-told g c = cut_told c.args.parts.now (g.S.Scans.world c.args.scans.now) c.in-Err.fault c.in-Err.ensures.refused
+returns-in-Err-clause-told g c = cut_told c.args.parts.now (g.S.Scans.state c.args.scans.now).world c.in-Err.fault c.in-Err.ensures.refused
 
 pub returns-in-Err-clause-lines : goal.returns-in-Err-clause-lines
 returns-in-Err-clause-lines g c = cut_lines c.args.parts.now c.in-Err.fault c.in-Err.ensures.refused
 
 pub returns-in-Err-clause-scan : goal.returns-in-Err-clause-scan
-returns-in-Err-clause-scan g c = leaves_still g.S.Scans.world g.S.Scans.faults g.S.Scans.same _ (g.met.S.Scans.same_refl _) (cut_steady c.args.parts.now c.in-Err.fault c.in-Err.ensures.refused)
+returns-in-Err-clause-scan g c = leaves_still (cut_steady c.args.parts.now c.in-Err.fault c.in-Err.ensures.refused)
 
 pub returns-in-Err-places_in-clause-told : goal.returns-in-Err-places_in-clause-told
 returns-in-Err-places_in-clause-told g c =
-    placed_told c.args.parts.now (g.S.Scans.world c.args.scans.now) c.in-Err-places_in.fault c.in-Ok.ensures.none.0 c.in-Err-places_in.ensures.refused
+    placed_told c.args.parts.now (g.S.Scans.state c.args.scans.now).world c.in-Err-places_in.fault c.in-Ok.ensures.none.0 c.in-Err-places_in.ensures.refused
 
 pub returns-in-Err-places_in-clause-lines : goal.returns-in-Err-places_in-clause-lines
 returns-in-Err-places_in-clause-lines g c = placed_lines c.args.parts.now c.in-Err-places_in.fault c.in-Ok.ensures.none.0 c.in-Err-places_in.ensures.refused
 
 pub returns-in-Err-places_in-clause-scan : goal.returns-in-Err-places_in-clause-scan
 returns-in-Err-places_in-clause-scan g c =
-    leaves_still g.S.Scans.world g.S.Scans.faults g.S.Scans.same _ (g.met.S.Scans.same_refl _) (placed_steady c.args.parts.now c.in-Err-places_in.fault c.in-Err-places_in.ensures.refused)
+    leaves_still (placed_steady c.args.parts.now c.in-Err-places_in.fault c.in-Err-places_in.ensures.refused)
 
 pub returns-in-Ok-infos_of-clause-told : goal.returns-in-Ok-infos_of-clause-told
 returns-in-Ok-infos_of-clause-told g c =
-    frames_none c.args.parts.now (g.S.Scans.world c.args.scans.now) c.in-Ok.ensures.none.0 c.in-Ok-places_in.ensures.none.0 c.in-Ok-infos_of.ensures.told
+    frames_none c.args.parts.now (g.S.Scans.state c.args.scans.now).world c.in-Ok.ensures.none.0 c.in-Ok-places_in.ensures.none.0 c.in-Ok-infos_of.ensures.told
 
 pub returns-in-Ok-infos_of-clause-lines : goal.returns-in-Ok-infos_of-clause-lines
 returns-in-Ok-infos_of-clause-lines g c = none_told c.args.parts.now c.in-Ok.ensures.none.0 c.in-Ok-places_in.ensures.none.0
@@ -41,26 +41,26 @@ returns-in-Ok-infos_of-clause-found g c = record {
 }
 
 pub returns-in-Ok-infos_of-clause-scan : goal.returns-in-Ok-infos_of-clause-scan
-returns-in-Ok-infos_of-clause-scan g c = leaves_done g.S.Scans.world g.S.Scans.faults g.S.Scans.same _ _ (no_err _ _) (no_err _ _) c.in-Ok-infos_of.ensures.scan
+returns-in-Ok-infos_of-clause-scan g c = leaves_done (no_err _ _) (no_err _ _) c.in-Ok-infos_of.ensures.scan
 
 pub returns-in-Err-infos_of-clause-told : goal.returns-in-Err-infos_of-clause-told
 returns-in-Err-infos_of-clause-told g c =
-    frames_told c.args.parts.now (g.S.Scans.world c.args.scans.now) c.in-Ok.ensures.none.0 c.in-Ok-places_in.ensures.none.0 c.in-Err-infos_of.fault c.in-Err-infos_of.ensures.told
+    frames_told c.args.parts.now (g.S.Scans.state c.args.scans.now).world c.in-Ok.ensures.none.0 c.in-Ok-places_in.ensures.none.0 c.in-Err-infos_of.fault c.in-Err-infos_of.ensures.told
 
 pub returns-in-Err-infos_of-clause-lines : goal.returns-in-Err-infos_of-clause-lines
 returns-in-Err-infos_of-clause-lines g c =
-    frames_lines c.args.parts.now (g.S.Scans.world c.args.scans.now) c.in-Ok.ensures.none.0 c.in-Ok-places_in.ensures.none.0 _ c.in-Err-infos_of.fault c.in-Err-infos_of.ensures.end.named
+    frames_lines c.args.parts.now (g.S.Scans.state c.args.scans.now).world c.in-Ok.ensures.none.0 c.in-Ok-places_in.ensures.none.0 _ c.in-Err-infos_of.fault c.in-Err-infos_of.ensures.end.named
 
 pub returns-in-Err-infos_of-clause-scan : goal.returns-in-Err-infos_of-clause-scan
-returns-in-Err-infos_of-clause-scan g c = leaves_as g.S.Scans.world g.S.Scans.faults g.S.Scans.same _ _ (err_as _ _) (err_as _ _) c.in-Err-infos_of.ensures.scan
+returns-in-Err-infos_of-clause-scan g c = leaves_as (err_as _ _) (err_as _ _) c.in-Err-infos_of.ensures.scan
 
 pub returns-in-Err-clause-asked : goal.returns-in-Err-clause-asked
-returns-in-Err-clause-asked g c = cut_asked c.args.parts.now (g.S.Scans.world c.args.scans.now) (g.S.Scans.heads c.args.scans.now) c.in-Err.fault c.in-Err.ensures.refused
+returns-in-Err-clause-asked g c = cut_asked c.args.parts.now (g.S.Scans.state c.args.scans.now).world (g.S.Scans.state c.args.scans.now).heads c.in-Err.fault c.in-Err.ensures.refused
 
 pub returns-in-Err-places_in-clause-asked : goal.returns-in-Err-places_in-clause-asked
 returns-in-Err-places_in-clause-asked g c =
-    placed_asked c.args.parts.now (g.S.Scans.world c.args.scans.now) (g.S.Scans.heads c.args.scans.now) c.in-Err-places_in.fault c.in-Err-places_in.ensures.refused
+    placed_asked c.args.parts.now (g.S.Scans.state c.args.scans.now).world (g.S.Scans.state c.args.scans.now).heads c.in-Err-places_in.fault c.in-Err-places_in.ensures.refused
 
 pub returns-in-Err-infos_of-clause-asked : goal.returns-in-Err-infos_of-clause-asked
 returns-in-Err-infos_of-clause-asked g c =
-    ended_asked c.args.parts.now (g.S.Scans.world c.args.scans.now) _ _ c.in-Err-infos_of.fault c.in-Err-infos_of.ensures.end
+    ended_asked c.args.parts.now (g.S.Scans.state c.args.scans.now).world _ _ c.in-Err-infos_of.fault c.in-Err-infos_of.ensures.end

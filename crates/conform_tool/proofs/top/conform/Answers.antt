@@ -2,7 +2,7 @@
 use Rattle.std.proofs.Common.{◌≡◌, ◌∙◌, ◌≤◌, arith, length, refl, rules, subst, sym, vec_len}
 use Rattle.command_words.specs.declared.command.Command.TheVariants as commands
 use Rattle.frame_range.specs.declared.range.Extent.TheVariants.{Whole}
-use Rattle.project_run.specs.Calls.{disk_state}
+use Rattle.project_run.specs.Calls.{folder_state}
 use Rattle.command_answers.specs.States.{folders_of}
 use Rattle.command_answers.specs.Complete.{IsAccepted, IsComplete}
 use Rattle.conform_tool.proofs.Alone.{alone_adoption, alone_complete, alone_promise, alone_unfailed, first_answered}
@@ -12,7 +12,7 @@ use Rattle.conform_tool.proofs.top.conform.Goals as goal
 
 pub returns-in-Some-clause-crew : goal.returns-in-Some-clause-crew
 returns-in-Some-clause-crew g c path extent workers share spells many =
-    crew_as g.S.Scans.world g.S.Scans.faults g.S.Scans.loads g.S.Scans.same _ _ _ _ _ _ _ _ _ _ _ _ _ _ _
+    crew_as g.S.Scans.state _ _ _ _ _ _ _ _ _ _ _ _ _ _ _
     (run_found _ _ c.in-Some.crew.project path c.in-Some.crew.extent extent c.in-Some.crew.workers c.in-Some.crew.share workers share c.in-Ok.ensures.command c.in-Some.ensures.0 spells) c.by_crew.ensures.crew
 
 pub returns-in-Some-clause-answered : goal.returns-in-Some-clause-answered
@@ -41,23 +41,23 @@ returns-in-None-clause-crew g c path extent workers share spells many =
 -- a crew's run
 pub returns-in-Some-clause-headline : goal.returns-in-Some-clause-headline
 returns-in-Some-clause-headline g c world job extent runs =
-    crew_answered_promise c.job_laws.ensures.job g.S.Scans.world g.S.Scans.faults g.S.Scans.loads g.S.Scans.same runs.path extent runs.workers runs.share _ _ _ _ _ _ _
-    (crew_as g.S.Scans.world g.S.Scans.faults g.S.Scans.loads g.S.Scans.same _ _ _ _ _ _ _ _ _ _ _ _ _ _ _
+    crew_answered_promise c.job_laws.ensures.job g.S.Scans.state runs.path extent runs.workers runs.share _ _ _ _ _ _ _
+    (crew_as g.S.Scans.state _ _ _ _ _ _ _ _ _ _ _ _ _ _ _
     (run_found _ _ c.in-Some.crew.project runs.path c.in-Some.crew.extent extent c.in-Some.crew.workers c.in-Some.crew.share runs.workers runs.share c.in-Ok.ensures.command c.in-Some.ensures.0 runs.spells) c.by_crew.ensures.crew)
     world job runs.scans_tell runs.disk_tells runs.comes
 
 pub returns-in-Some-clause-complete : goal.returns-in-Some-clause-complete
 returns-in-Some-clause-complete g c command world spells is accepted =
-    let disk = disk_state g.D.Disk.tells g.D.Disk.history g.D.Disk.faults c.args.disk in
-    let folders = folders_of g.D.Disk.tells g.D.Disk.history g.D.Disk.faults c.args.disk c.args.old.now in
+    let disk = folder_state g.D.Disk.tells (g.D.Disk.state c.args.disk) in
+    let folders = folders_of g.D.Disk.tells (g.D.Disk.state c.args.disk) (g.D.Disk.state c.args.old.now) in
     let command_is = found_command _ _ command _ _ _ _ c.in-Ok.ensures.command c.in-Some.ensures.0 spells in
-    let complete = crew_answered_complete c.job_laws.ensures.job g.S.Scans.world g.S.Scans.faults g.S.Scans.loads g.S.Scans.same c.in-Some.crew.project c.in-Some.crew.extent c.in-Some.crew.workers c.in-Some.crew.share _ _ disk _ world is
+    let complete = crew_answered_complete c.job_laws.ensures.job g.S.Scans.state c.in-Some.crew.project c.in-Some.crew.extent c.in-Some.crew.workers c.in-Some.crew.share _ _ disk _ world is
     (subst (λ k. IsAccepted k world folders) command_is accepted) _ _ _ c.by_crew.ensures.crew in
     λ scans_steady disk_steady old_steady sink_steady. subst (λ k. IsComplete k c.by_crew.result.outcome) (sym command_is) (complete scans_steady disk_steady sink_steady)
 
 pub returns-in-Some-clause-unfailed : goal.returns-in-Some-clause-unfailed
 returns-in-Some-clause-unfailed g c command spells =
-    let unfailed = crew_unfailed g.S.Scans.world g.S.Scans.faults g.S.Scans.loads g.S.Scans.same c.in-Some.crew.project c.in-Some.crew.extent c.in-Some.crew.workers c.in-Some.crew.share _ _ _ _ _ _ _ c.by_crew.ensures.crew
+    let unfailed = crew_unfailed g.S.Scans.state c.in-Some.crew.project c.in-Some.crew.extent c.in-Some.crew.workers c.in-Some.crew.share _ _ _ _ _ _ _ c.by_crew.ensures.crew
     command (found_command _ _ command _ _ _ _ c.in-Ok.ensures.command c.in-Some.ensures.0 spells) in
     λ scans_steady disk_steady old_steady sink_steady. unfailed scans_steady disk_steady sink_steady
 
@@ -75,47 +75,47 @@ pub returns-in-None-clause-headline : goal.returns-in-None-clause-headline
 returns-in-None-clause-headline g c =
     let all : vec_len c.args.scans ≡ length c.args.scans.items = search rules in
     let all_after : vec_len c.by_one.result.scans ≡ length c.by_one.result.scans.items = search rules in
-    alone_promise _ g.S.Scans.world g.S.Scans.faults g.S.Scans.loads g.S.Scans.heads g.S.Scans.same _ _ _ _ _ _ _ _
-    (first_answered _ g.S.Scans.world g.S.Scans.faults g.S.Scans.loads g.S.Scans.heads g.S.Scans.same _ _ _ _ _ _ _ _
+    alone_promise _ g.S.Scans.state _ _ _ _ _ _ _ _
+    (first_answered _ g.S.Scans.state _ _ _ _ _ _ _ _
     (subst (λ n. 1 ≤ n) all c.requires.some) (sym all_after ∙ c.by_one.ensures.handed_back ∙ all) (c.by_one.ensures.answered _ c.in-Ok.ensures.command)) c.job_laws.ensures.job
 
 pub returns-in-None-clause-adopted : goal.returns-in-None-clause-adopted
 returns-in-None-clause-adopted g c =
     let all : vec_len c.args.scans ≡ length c.args.scans.items = search rules in
     let all_after : vec_len c.by_one.result.scans ≡ length c.by_one.result.scans.items = search rules in
-    alone_adoption _ g.S.Scans.world g.S.Scans.faults g.S.Scans.loads g.S.Scans.heads g.S.Scans.same _ _ _ _ _ _ _ _
-    (first_answered _ g.S.Scans.world g.S.Scans.faults g.S.Scans.loads g.S.Scans.heads g.S.Scans.same _ _ _ _ _ _ _ _
+    alone_adoption _ g.S.Scans.state _ _ _ _ _ _ _ _
+    (first_answered _ g.S.Scans.state _ _ _ _ _ _ _ _
     (subst (λ n. 1 ≤ n) all c.requires.some) (sym all_after ∙ c.by_one.ensures.handed_back ∙ all) (c.by_one.ensures.answered _ c.in-Ok.ensures.command)) c.job_laws.ensures.job
 
 pub returns-in-None-clause-complete : goal.returns-in-None-clause-complete
 returns-in-None-clause-complete g c =
     let all : vec_len c.args.scans ≡ length c.args.scans.items = search rules in
     let all_after : vec_len c.by_one.result.scans ≡ length c.by_one.result.scans.items = search rules in
-    alone_complete _ g.S.Scans.world g.S.Scans.faults g.S.Scans.loads g.S.Scans.heads g.S.Scans.same _ _ _ _ _ _ _ _
-    (first_answered _ g.S.Scans.world g.S.Scans.faults g.S.Scans.loads g.S.Scans.heads g.S.Scans.same _ _ _ _ _ _ _ _
+    alone_complete _ g.S.Scans.state _ _ _ _ _ _ _ _
+    (first_answered _ g.S.Scans.state _ _ _ _ _ _ _ _
     (subst (λ n. 1 ≤ n) all c.requires.some) (sym all_after ∙ c.by_one.ensures.handed_back ∙ all) (c.by_one.ensures.answered _ c.in-Ok.ensures.command)) c.job_laws.ensures.job
 
 pub returns-in-None-clause-unfailed : goal.returns-in-None-clause-unfailed
 returns-in-None-clause-unfailed g c =
     let all : vec_len c.args.scans ≡ length c.args.scans.items = search rules in
     let all_after : vec_len c.by_one.result.scans ≡ length c.by_one.result.scans.items = search rules in
-    alone_unfailed _ g.S.Scans.world g.S.Scans.faults g.S.Scans.loads g.S.Scans.heads g.S.Scans.same _ _ _ _ _ _ _ _
-    (first_answered _ g.S.Scans.world g.S.Scans.faults g.S.Scans.loads g.S.Scans.heads g.S.Scans.same _ _ _ _ _ _ _ _
+    alone_unfailed _ g.S.Scans.state _ _ _ _ _ _ _ _
+    (first_answered _ g.S.Scans.state _ _ _ _ _ _ _ _
     (subst (λ n. 1 ≤ n) all c.requires.some) (sym all_after ∙ c.by_one.ensures.handed_back ∙ all) (c.by_one.ensures.answered _ c.in-Ok.ensures.command))
 
 -- no memory was left to read the words
 pub returns-in_default-clause-headline : goal.returns-in_default-clause-headline
 returns-in_default-clause-headline g c world job extent runs =
-    let disk = disk_state g.D.Disk.tells g.D.Disk.history g.D.Disk.faults c.args.disk in
-    crew_answered_promise c.job_laws.ensures.job g.S.Scans.world g.S.Scans.faults g.S.Scans.loads g.S.Scans.same runs.path extent runs.workers runs.share c.args.scans.items c.args.scans.items disk disk _ _ _
-    (crew_unread g.S.Scans.world g.S.Scans.faults g.S.Scans.loads g.S.Scans.same runs.path extent runs.workers runs.share c.args.scans.items c.args.scans.items disk disk _ _ _ refl refl c.put_line-outcome.ensures.put)
+    let disk = folder_state g.D.Disk.tells (g.D.Disk.state c.args.disk) in
+    crew_answered_promise c.job_laws.ensures.job g.S.Scans.state runs.path extent runs.workers runs.share c.args.scans.items c.args.scans.items disk disk _ _ _
+    (crew_unread g.S.Scans.state runs.path extent runs.workers runs.share c.args.scans.items c.args.scans.items disk disk _ _ _ refl refl c.put_line-outcome.ensures.put)
     world job runs.scans_tell runs.disk_tells runs.comes
 
 pub returns-in_default-clause-adopted : goal.returns-in_default-clause-adopted
 returns-in_default-clause-adopted g c world job adopts =
-    let disk = disk_state g.D.Disk.tells g.D.Disk.history g.D.Disk.faults c.args.disk in
-    crew_answered_promise c.job_laws.ensures.job g.S.Scans.world g.S.Scans.faults g.S.Scans.loads g.S.Scans.same adopts.path Whole 2 2 c.args.scans.items c.args.scans.items disk disk _ _ _
-    (crew_unread g.S.Scans.world g.S.Scans.faults g.S.Scans.loads g.S.Scans.same adopts.path Whole 2 2 c.args.scans.items c.args.scans.items disk disk _ _ _ refl refl c.put_line-outcome.ensures.put)
+    let disk = folder_state g.D.Disk.tells (g.D.Disk.state c.args.disk) in
+    crew_answered_promise c.job_laws.ensures.job g.S.Scans.state adopts.path Whole 2 2 c.args.scans.items c.args.scans.items disk disk _ _ _
+    (crew_unread g.S.Scans.state adopts.path Whole 2 2 c.args.scans.items c.args.scans.items disk disk _ _ _ refl refl c.put_line-outcome.ensures.put)
     world job adopts.scans_tell adopts.disk_tells adopts.comes
 
 -- a run with several workers makes calls on the folder

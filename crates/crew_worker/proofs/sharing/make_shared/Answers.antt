@@ -18,10 +18,10 @@ render_forked-frame-requires-clause-sides g c _ _ = record { index = c.requires.
 
 -- at most one load a side
 pub returns-in-Err-clause-fetched : goal.returns-in-Err-clause-fetched
-returns-in-Err-clause-fetched g c = fetched_first g.S.Scans.world g.S.Scans.faults g.S.Scans.loads g.S.Scans.same _ _ _ _ _ _ _ c.in-Err.ensures.fetched
+returns-in-Err-clause-fetched g c = fetched_first _ _ _ _ _ _ _ c.in-Err.ensures.fetched
 
 pub returns-in-Err-side_of-clause-fetched : goal.returns-in-Err-side_of-clause-fetched
-returns-in-Err-side_of-clause-fetched g c = fetched_second g.S.Scans.world g.S.Scans.faults g.S.Scans.loads g.S.Scans.same g.met.S.Scans.same_trans _ _ _ _ _ _ _ _ _ _ c.in-Ok.ensures.fetched _ c.in-Err-side_of.ensures.fetched
+returns-in-Err-side_of-clause-fetched g c = fetched_second _ _ _ _ _ _ _ _ _ _ c.in-Ok.ensures.fetched _ c.in-Err-side_of.ensures.fetched
 
 pub returns-clause-fetched : goal.returns-clause-fetched
-returns-clause-fetched g c = fetched_both g.S.Scans.world g.S.Scans.faults g.S.Scans.loads g.S.Scans.same g.met.S.Scans.same_trans _ _ _ _ _ _ _ _ _ _ c.in-Ok.ensures.fetched _ _ c.in-Ok-side_of.ensures.fetched
+returns-clause-fetched g c = fetched_both _ _ _ _ _ _ _ _ _ _ c.in-Ok.ensures.fetched _ _ c.in-Ok-side_of.ensures.fetched

@@ -12,14 +12,14 @@ returns-in-Hit-clause-asked g c = asked_hit c.args.share.now c.ask.new.self c.ar
 
 pub returns-in-Hit-clause-fetched : goal.returns-in-Hit-clause-fetched
 returns-in-Hit-clause-fetched g c =
-    fetched_none g.S.Scans.world g.S.Scans.faults g.S.Scans.loads g.S.Scans.same _ _ _ _ _ c.in-Hit.ensures.units (g.met.S.Scans.same_refl _) (λ is. cc) tt (ap (λ (t : Tally). t.pending) c.in-Hit.ensures.units ∙ c.requires.ready.closed)
+    fetched_none _ _ _ _ _ c.in-Hit.ensures.units (λ is. cc) tt (ap (λ (t : Tally). t.pending) c.in-Hit.ensures.units ∙ c.requires.ready.closed)
 
 pub returns-in-NoMemory-clause-tried : goal.returns-in-NoMemory-clause-tried
 returns-in-NoMemory-clause-tried g c = tried_none c.args.share.now c.ask.new.self (c.args.key ∷ []) c.in-NoMemory.ensures.answer
 
 pub returns-in-NoMemory-clause-fetched : goal.returns-in-NoMemory-clause-fetched
 returns-in-NoMemory-clause-fetched g c =
-    fetched_none g.S.Scans.world g.S.Scans.faults g.S.Scans.loads g.S.Scans.same _ _ _ _ _ c.in-NoMemory.ensures.units (g.met.S.Scans.same_refl _) (λ is. let same = err_same _ _ is in cc) (search rules) tt
+    fetched_none _ _ _ _ _ c.in-NoMemory.ensures.units (λ is. let same = err_same _ _ is in cc) (search rules) tt
 
 -- it was loaded
 pub returns-in-Err-clause-tried : goal.returns-in-Err-clause-tried
@@ -28,7 +28,7 @@ returns-in-Err-clause-tried g c = tried_miss c.args.share.now c.ask.new.self c.a
 pub returns-in-Err-clause-fetched : goal.returns-in-Err-clause-fetched
 returns-in-Err-clause-fetched g c =
     let load = c.in-Err.ensures in
-    fetched_once g.S.Scans.world g.S.Scans.faults g.S.Scans.loads g.S.Scans.same _ _ _ _ _ _ _ _ _ (λ is. ap Err (err_same _ _ is)) (λ is. ap Err (err_same _ _ is)) load.counted c.in-Miss.ensures.units refl refl tt load.scan load.same
+    fetched_once _ _ _ _ _ _ _ _ _ (λ is. ap Err (err_same _ _ is)) (λ is. ap Err (err_same _ _ is)) load.counted c.in-Miss.ensures.units refl refl tt load.scan load.same
 
 pub returns-in-NoMemory-put-clause-tried : goal.returns-in-NoMemory-put-clause-tried
 returns-in-NoMemory-put-clause-tried g c = tried_miss c.args.share.now c.put.new.self c.args.key (c.in-NoMemory-put.ensures.answer ∙ c.in-Miss.ensures.answer.2)
@@ -37,7 +37,7 @@ pub returns-in-NoMemory-put-clause-fetched : goal.returns-in-NoMemory-put-clause
 returns-in-NoMemory-put-clause-fetched g c =
     let load = c.in-Ok.ensures in
     let same = c.in-NoMemory-put.ensures.units in
-    fetched_once g.S.Scans.world g.S.Scans.faults g.S.Scans.loads g.S.Scans.same _ _ _ _ _ _ _ _ _ (λ is. let no = err_same _ _ is in cc) (λ is. cc) load.counted c.in-Miss.ensures.units (ap (λ (t : Tally). t.parts) same) (ap (λ (t : Tally). t.amount) same) tt load.scan load.same
+    fetched_once _ _ _ _ _ _ _ _ _ (λ is. let no = err_same _ _ is in cc) (λ is. cc) load.counted c.in-Miss.ensures.units (ap (λ (t : Tally). t.parts) same) (ap (λ (t : Tally). t.amount) same) tt load.scan load.same
 
 pub returns-in-Kept : goal.returns-in-Kept
 returns-in-Kept g c =
@@ -52,5 +52,5 @@ returns-in-Kept g c =
       stop = tt;
       asked = asked_put c.args.share.now c.ask.new.self c.put.new.self c.args.key c.in-Miss.ticket put.0 c.in-Miss.ensures.answer.1 c.in-Miss.ensures.answer.2 put.1;
       tried = tt;
-      fetched = fetched_once g.S.Scans.world g.S.Scans.faults g.S.Scans.loads g.S.Scans.same _ _ _ _ _ _ _ _ _ (λ is. cc) (λ is. cc) load.counted c.in-Miss.ensures.units units.0 units.1 (omega (arith, open_before, open_after, none)) load.scan load.same;
+      fetched = fetched_once _ _ _ _ _ _ _ _ _ (λ is. cc) (λ is. cc) load.counted c.in-Miss.ensures.units units.0 units.1 (omega (arith, open_before, open_after, none)) load.scan load.same;
     }

@@ -11,7 +11,7 @@ use Rattle.project_adopt.proofs.plans.adopt.Goals as goal
 pub returns-clause-folders : goal.returns-clause-folders
 returns-clause-folders g c =
     let planned = c.in-Ok.ensures in
-    let by = job_in (g.S.Scans.world c.planned.new.scan) (g.S.Scans.world c.args.scan.now) c.in-Ok.job c.args.path.now c.args.old_path.now _ _ _ _ (g.S.Scans.loads c.args.scan.now) (g.S.Scans.loads c.planned.new.scan) _ in
+    let by = job_in (g.S.Scans.state c.planned.new.scan).world (g.S.Scans.state c.args.scan.now).world c.in-Ok.job c.args.path.now c.args.old_path.now _ _ _ _ (g.S.Scans.state c.args.scan.now).loads (g.S.Scans.state c.planned.new.scan).loads _ in
     match_each _ _ _ _ _ c.adopt_onto-reply.ensures.folders (λ text went. by _ _ planned.scan.told planned.told planned.loaded went) (λ outcome went. by _ _ planned.scan.told planned.told planned.loaded went)
 
 pub returns-in-Err-clause-folders : goal.returns-in-Err-clause-folders
@@ -27,9 +27,9 @@ returns-clause-scan g c =
     let planned = c.in-Ok.ensures in
     let reply = c.adopt_onto-reply.ensures in
     record {
-      lent = leaves_then g.S.Scans.world g.S.Scans.faults g.S.Scans.same g.met.S.Scans.same_trans _ _ _ (λ is. cc) planned.scan reply.scan;
-      refused_heads = asked_onward _ _ c.in-Ok.job (g.S.Scans.world c.args.scan.now) (g.S.Scans.world c.planned.new.scan) c.args.path.now c.args.old_path.now _ _ _ _ _ _ _ _ line_of reply.folders;
+      lent = leaves_then (λ is. cc) planned.scan reply.scan;
+      refused_heads = asked_onward _ _ c.in-Ok.job (g.S.Scans.state c.args.scan.now).world (g.S.Scans.state c.planned.new.scan).world c.args.path.now c.args.old_path.now _ _ _ _ _ _ _ _ line_of reply.folders;
     }
 
 pub returns-in-Err-clause-scan : goal.returns-in-Err-clause-scan
-returns-in-Err-clause-scan g c = scan_unplanned g.S.Scans.world g.S.Scans.faults g.S.Scans.heads g.S.Scans.same c.args.path.now _ _ _ c.in-Err.ensures.scan c.in-Err.ensures.refused_heads
+returns-in-Err-clause-scan g c = scan_unplanned c.args.path.now _ _ _ c.in-Err.ensures.scan c.in-Err.ensures.refused_heads

@@ -12,13 +12,13 @@ pub adopt_jobs-reply-requires-clause-over : goal.adopt_jobs-reply-requires-claus
 adopt_jobs-reply-requires-clause-over g c = subst (λ t. IsJobOver t c.args.job.now) (sym c.in-Ok.ensures.scan.told) c.requires.over
 
 pub adopt_jobs-reply-requires-clause-old_over : goal.adopt_jobs-reply-requires-clause-old_over
-adopt_jobs-reply-requires-clause-old_over g c = subst (λ t. IsJobOver t c.in-Ok.job) (sym c.in-Ok.ensures.scan.told) (is_over (g.S.Scans.world c.args.scan.now) c.args.old_path.now c.in-Ok.job c.in-Ok.ensures.told)
+adopt_jobs-reply-requires-clause-old_over g c = subst (λ t. IsJobOver t c.in-Ok.job) (sym c.in-Ok.ensures.scan.told) (is_over (g.S.Scans.state c.args.scan.now).world c.args.old_path.now c.in-Ok.job c.in-Ok.ensures.told)
 
 pub returns-clause-folders : goal.returns-clause-folders
 returns-clause-folders g c =
     let planned = c.in-Ok.ensures in
     let adopted = c.adopt_jobs-reply.ensures in
-    let by = adopted_in (g.S.Scans.world c.planned.new.scan) (g.S.Scans.world c.args.scan.now) c.args.job.now c.in-Ok.job c.args.old_path.now _ _ _ _ (g.S.Scans.loads c.args.scan.now) (g.S.Scans.loads c.planned.new.scan) _ in
+    let by = adopted_in (g.S.Scans.state c.planned.new.scan).world (g.S.Scans.state c.args.scan.now).world c.args.job.now c.in-Ok.job c.args.old_path.now _ _ _ _ (g.S.Scans.state c.args.scan.now).loads (g.S.Scans.state c.planned.new.scan).loads _ in
     match_each _ _ _ _ _ (all_three _ _ _ _ _ _ _ adopted.went adopted.promise adopted.sound)
     (λ text three. by _ _ planned.scan.told planned.told planned.loaded three.0 three.1 three.2) (λ outcome three. by _ _ planned.scan.told planned.told planned.loaded three.0 three.1 three.2)
 

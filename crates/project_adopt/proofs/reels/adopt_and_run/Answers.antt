@@ -7,7 +7,7 @@ use Rattle.conform_job.specs.Job.{JobData}
 use Rattle.reconform.specs.declared.adopting.AdoptFault.TheVariants as faults
 use Rattle.outcome_line.specs.declared.outcome.Outcome.TheVariants as outcomes
 use Rattle.scan_source.proofs.Leaving.{leaves_still}
-use Rattle.project_run.specs.Calls.{disk_state}
+use Rattle.project_run.specs.Calls.{folder_state}
 use Rattle.project_run.proofs.Runs.{match_each}
 use Rattle.project_adopt.specs.Adopt.{IsOfAdopt, outcome_of_fault}
 use Rattle.project_adopt.proofs.Composing.{by_disk, fault_adopts, never_source, promised_no_further, promised_on, rest_of, run_adopts, went_no_further, went_on}
@@ -15,30 +15,26 @@ use Rattle.project_adopt.proofs.reels.adopt_and_run.Goals as goal
 
 pub run_rest-requires : goal.run_rest-requires
 run_rest-requires g c =
-    record { infos = subst (λ (j : JobData). AreInfosOf j.parts (g.S.Scans.world c.args.scan.now) j.infos) (sym c.requires.job) c.requires.infos }
+    record { infos = subst (λ (j : JobData). AreInfosOf j.parts (g.S.Scans.state c.args.scan.now).world j.infos) (sym c.requires.job) c.requires.infos }
 
 pub returns-in-Ok-clause-went : goal.returns-in-Ok-clause-went
 returns-in-Ok-clause-went g c =
     let adopted = c.in-Ok.ensures in
-    let h = g.D.Disk.history in
-    let f = g.D.Disk.faults in
-    let by = went_on g.N.Work.job g.O.Work.job g.N.Work.files (g.S.Scans.world c.args.scan.now) c.requires.files g.D.Disk.tells
-    (h c.args.old.now) (h c.adopt.new.old) (h c.args.disk.now) (h c.adopt.new.disk) (h c.run_rest.new.disk)
-    (f c.args.old.now) (f c.adopt.new.old) (f c.args.disk.now) (f c.adopt.new.disk) (f c.run_rest.new.disk)
+    let by = went_on g.N.Work.job g.O.Work.job g.N.Work.files (g.S.Scans.state c.args.scan.now).world c.requires.files g.D.Disk.tells
+    (g.D.Disk.state c.args.old.now).history (g.D.Disk.state c.adopt.new.old).history (g.D.Disk.state c.args.disk.now).history (g.D.Disk.state c.adopt.new.disk).history (g.D.Disk.state c.run_rest.new.disk).history
+    (g.D.Disk.state c.args.old.now).faults (g.D.Disk.state c.adopt.new.old).faults (g.D.Disk.state c.args.disk.now).faults (g.D.Disk.state c.adopt.new.disk).faults (g.D.Disk.state c.run_rest.new.disk).faults
     adopted.sound_has adopted.still adopted.run adopted.spares adopted.writes c.in-Ok.done adopted.answer adopted.sealed
-    (g.S.Scans.loads c.args.scan.now) (g.S.Scans.loads c.run_rest.new.scan) in
+    (g.S.Scans.state c.args.scan.now).loads (g.S.Scans.state c.run_rest.new.scan).loads in
     match_each _ _ _ _ _ c.run_rest.ensures.ran (λ text rest. by _ _ (rest_of c.requires.job rest)) (λ outcome rest. by _ _ (rest_of c.requires.job rest))
 
 pub returns-in-Ok-clause-promise : goal.returns-in-Ok-clause-promise
 returns-in-Ok-clause-promise g c told =
     let adopted = c.in-Ok.ensures in
-    let h = g.D.Disk.history in
-    let f = g.D.Disk.faults in
-    let by = promised_on g.N.Work.job g.O.Work.job g.N.Work.files (g.S.Scans.world c.args.scan.now) c.requires.files g.D.Disk.tells
-    (h c.args.old.now) (h c.adopt.new.old) (h c.args.disk.now) (h c.adopt.new.disk) (h c.run_rest.new.disk)
-    (f c.args.old.now) (f c.adopt.new.old) (f c.args.disk.now) (f c.adopt.new.disk) (f c.run_rest.new.disk)
+    let by = promised_on g.N.Work.job g.O.Work.job g.N.Work.files (g.S.Scans.state c.args.scan.now).world c.requires.files g.D.Disk.tells
+    (g.D.Disk.state c.args.old.now).history (g.D.Disk.state c.adopt.new.old).history (g.D.Disk.state c.args.disk.now).history (g.D.Disk.state c.adopt.new.disk).history (g.D.Disk.state c.run_rest.new.disk).history
+    (g.D.Disk.state c.args.old.now).faults (g.D.Disk.state c.adopt.new.old).faults (g.D.Disk.state c.args.disk.now).faults (g.D.Disk.state c.adopt.new.disk).faults (g.D.Disk.state c.run_rest.new.disk).faults
     adopted.sound_has adopted.still adopted.run adopted.spares adopted.writes c.in-Ok.done adopted.answer adopted.sealed
-    (g.S.Scans.loads c.args.scan.now) (g.S.Scans.loads c.run_rest.new.scan) in
+    (g.S.Scans.state c.args.scan.now).loads (g.S.Scans.state c.run_rest.new.scan).loads in
     match_each _ _ _ _ _ c.run_rest.ensures.ran (λ text rest. by _ _ (rest_of c.requires.job rest) told) (λ outcome rest. by _ _ (rest_of c.requires.job rest) told)
 
 pub returns-in-Ok-clause-kind : goal.returns-in-Ok-clause-kind
@@ -51,7 +47,7 @@ returns-in-Ok-clause-disks g c =
       cause = record {
         old_later = adopted.disks.cause.old_later;
         later = omega (arith, adopted.disks.cause.later, rest.counts.cause.later);
-        failed = λ is. inr (subst (λ (n : ℕ). HasRisen n (g.D.Disk.faults c.run_rest.new.disk)) (adopted.disks.steady (λ same. cc)) (rest.counts.cause.failed is));
+        failed = λ is. inr (subst (λ (n : ℕ). HasRisen n (g.D.Disk.state c.run_rest.new.disk).faults) (adopted.disks.steady (λ same. cc)) (rest.counts.cause.failed is));
       };
       steady = λ none. rest.counts.steady none ∙ adopted.disks.steady (λ same. cc);
       old_steady = λ none. adopted.disks.old_steady (λ same. cc);
@@ -62,31 +58,27 @@ returns-in-Ok-clause-disks g c =
 pub returns-in-Err-clause-went : goal.returns-in-Err-clause-went
 returns-in-Err-clause-went g c =
     let adopted = c.in-Err.ensures in
-    let h = g.D.Disk.history in
-    let f = g.D.Disk.faults in
-    went_no_further g.N.Work.job g.O.Work.job g.N.Work.files (g.S.Scans.world c.args.scan.now) c.requires.files g.D.Disk.tells
-    (h c.args.old.now) (h c.adopt.new.old) (h c.args.disk.now) (h c.adopt.new.disk) (h c.adopt.new.disk)
-    (f c.args.old.now) (f c.adopt.new.old) (f c.args.disk.now) (f c.adopt.new.disk) (f c.adopt.new.disk)
+    went_no_further g.N.Work.job g.O.Work.job g.N.Work.files (g.S.Scans.state c.args.scan.now).world c.requires.files g.D.Disk.tells
+    (g.D.Disk.state c.args.old.now).history (g.D.Disk.state c.adopt.new.old).history (g.D.Disk.state c.args.disk.now).history (g.D.Disk.state c.adopt.new.disk).history (g.D.Disk.state c.adopt.new.disk).history
+    (g.D.Disk.state c.args.old.now).faults (g.D.Disk.state c.adopt.new.old).faults (g.D.Disk.state c.args.disk.now).faults (g.D.Disk.state c.adopt.new.disk).faults (g.D.Disk.state c.adopt.new.disk).faults
     adopted.sound_has adopted.still adopted.run adopted.spares adopted.writes c.in-Err.fault adopted.answer
-    (λ of_old. ap (disk_state g.D.Disk.tells h f) (adopted.untouched of_old)) _ _ _ c.outcome_of_fault.ensures
+    (λ of_old. ap (λ (d : _). folder_state g.D.Disk.tells (g.D.Disk.state d)) (adopted.untouched of_old)) _ _ _ c.outcome_of_fault.ensures
 
 pub returns-in-Err-clause-promise : goal.returns-in-Err-clause-promise
 returns-in-Err-clause-promise g c told =
     let adopted = c.in-Err.ensures in
-    let h = g.D.Disk.history in
-    let f = g.D.Disk.faults in
-    promised_no_further g.N.Work.job g.O.Work.job g.N.Work.files (g.S.Scans.world c.args.scan.now) c.requires.files g.D.Disk.tells
-    (h c.args.old.now) (h c.adopt.new.old) (h c.args.disk.now) (h c.adopt.new.disk) (h c.adopt.new.disk)
-    (f c.args.old.now) (f c.adopt.new.old) (f c.args.disk.now) (f c.adopt.new.disk) (f c.adopt.new.disk)
+    promised_no_further g.N.Work.job g.O.Work.job g.N.Work.files (g.S.Scans.state c.args.scan.now).world c.requires.files g.D.Disk.tells
+    (g.D.Disk.state c.args.old.now).history (g.D.Disk.state c.adopt.new.old).history (g.D.Disk.state c.args.disk.now).history (g.D.Disk.state c.adopt.new.disk).history (g.D.Disk.state c.adopt.new.disk).history
+    (g.D.Disk.state c.args.old.now).faults (g.D.Disk.state c.adopt.new.old).faults (g.D.Disk.state c.args.disk.now).faults (g.D.Disk.state c.adopt.new.disk).faults (g.D.Disk.state c.adopt.new.disk).faults
     adopted.sound_has adopted.still adopted.run adopted.spares adopted.writes c.in-Err.fault adopted.answer
-    (λ of_old. ap (disk_state g.D.Disk.tells h f) (adopted.untouched of_old)) (g.S.Scans.loads c.args.scan.now) _ g.N.Work.job.parts.digest c.outcome_of_fault.ensures told
+    (λ of_old. ap (λ (d : _). folder_state g.D.Disk.tells (g.D.Disk.state d)) (adopted.untouched of_old)) (g.S.Scans.state c.args.scan.now).loads _ g.N.Work.job.parts.digest c.outcome_of_fault.ensures told
 
 pub returns-in-Err-clause-kind : goal.returns-in-Err-clause-kind
 returns-in-Err-clause-kind g c = subst IsOfAdopt (sym c.outcome_of_fault.ensures) (fault_adopts c.in-Err.fault)
 
 pub returns-in-Err-clause-scan : goal.returns-in-Err-clause-scan
 returns-in-Err-clause-scan g c =
-    leaves_still g.S.Scans.world g.S.Scans.faults g.S.Scans.same _ (g.met.S.Scans.same_refl _)
+    leaves_still
     (λ is. let same : c.outcome_of_fault.result ≡ outcomes.SourceFault = cc in never_source c.in-Err.fault (sym c.outcome_of_fault.ensures ∙ same))
 
 pub returns-in-Err-clause-disks : goal.returns-in-Err-clause-disks

@@ -8,27 +8,27 @@ use Rattle.project_adopt.proofs.reels.adopt_jobs.Goals as goal
 
 pub adopt_and_run-requires-clause-files : goal.adopt_and_run-requires-clause-files
 adopt_and_run-requires-clause-files g c =
-    lent_tells c.args.old_job.now (view_of (g.D.Disk.history c.args.old.now)) g.D.Disk.tells (g.S.Scans.world c.args.scan.now)
+    lent_tells c.args.old_job.now (view_of (g.D.Disk.state c.args.old.now).history) g.D.Disk.tells (g.S.Scans.state c.args.scan.now).world
 
 pub adopt_and_run-requires-clause-one_world : goal.adopt_and_run-requires-clause-one_world
 adopt_and_run-requires-clause-one_world g c = refl
 
 pub adopt_and_run-requires-clause-can_serve : goal.adopt_and_run-requires-clause-can_serve
 adopt_and_run-requires-clause-can_serve g c =
-    lent_serves c.args.old_job.now (view_of (g.D.Disk.history c.args.old.now)) c.args.job.now g.D.Disk.tells (g.S.Scans.world c.args.scan.now)
-    (one_look (g.S.Scans.world c.args.scan.now) c.args.job.now c.args.old_job.now c.requires.over c.requires.old_over)
+    lent_serves c.args.old_job.now (view_of (g.D.Disk.state c.args.old.now).history) c.args.job.now g.D.Disk.tells (g.S.Scans.state c.args.scan.now).world
+    (one_look (g.S.Scans.state c.args.scan.now).world c.args.job.now c.args.old_job.now c.requires.over c.requires.old_over)
 
 pub returns-clause-went : goal.returns-clause-went
 returns-clause-went g c = c.adopt_and_run.ensures.went
 
 pub returns-clause-promise : goal.returns-clause-promise
 returns-clause-promise g c told =
-    let by = promised_untold c.args.old_job.now (view_of (g.D.Disk.history c.args.old.now)) c.args.job.now in
+    let by = promised_untold c.args.old_job.now (view_of (g.D.Disk.state c.args.old.now).history) c.args.job.now in
     match_each _ _ _ _ _ (c.adopt_and_run.ensures.promise told)
-    (λ text promised. by _ _ _ g.D.Disk.tells (g.S.Scans.world c.args.scan.now) promised) (λ outcome promised. by _ _ _ g.D.Disk.tells (g.S.Scans.world c.args.scan.now) promised)
+    (λ text promised. by _ _ _ g.D.Disk.tells (g.S.Scans.state c.args.scan.now).world promised) (λ outcome promised. by _ _ _ g.D.Disk.tells (g.S.Scans.state c.args.scan.now).world promised)
 
 pub returns-clause-sound : goal.returns-clause-sound
 returns-clause-sound g c told sound =
-    let by = promised_told c.args.old_job.now (view_of (g.D.Disk.history c.args.old.now)) c.args.job.now in
+    let by = promised_told c.args.old_job.now (view_of (g.D.Disk.state c.args.old.now).history) c.args.job.now in
     match_each _ _ _ _ _ (c.adopt_and_run.ensures.promise told)
-    (λ text promised. by _ _ _ g.D.Disk.tells (g.S.Scans.world c.args.scan.now) told sound promised) (λ outcome promised. by _ _ _ g.D.Disk.tells (g.S.Scans.world c.args.scan.now) told sound promised)
+    (λ text promised. by _ _ _ g.D.Disk.tells (g.S.Scans.state c.args.scan.now).world told sound promised) (λ outcome promised. by _ _ _ g.D.Disk.tells (g.S.Scans.state c.args.scan.now).world told sound promised)

@@ -1,7 +1,7 @@
 -- The rest is run as the command `run` does.
 use Rattle.std.proofs.Common.{ℕ, List, refl, subst}
 use Rattle.outcome_line.specs.declared.outcome.Outcome.{Outcome}
-use Rattle.project_run.specs.Calls.{disk_state}
+use Rattle.project_run.specs.Calls.{folder_state}
 use Rattle.frame_range.specs.Parts.{range_of}
 use Rattle.frame_range.specs.declared.range.Extent.TheVariants.{Whole}
 use Rattle.project_run.specs.Run.{IsSafeRun, run_text}
@@ -19,9 +19,9 @@ returns-clause-ran g c =
     let run = c.run_alone-end.ensures in
     let end = c.run_alone-end.result.0 in
     let report = c.run_alone-end.result.1 in
-    let at = disk_state g.D.Disk.tells g.D.Disk.history g.D.Disk.faults in
+    let at = λ (d : _). folder_state g.D.Disk.tells (g.D.Disk.state d) in
     let by : (reached : Outcome) (output : List ℕ) → ReportsAdoption c.args.job.now c.args.done end report reached output
-    → IsRest c.args.job.now c.args.done (g.S.Scans.world c.args.scan.now) (g.S.Scans.loads c.args.scan.now) (g.S.Scans.loads c.run_alone-end.new.scan) (at c.args.disk.now) (at c.run_alone-end.new.disk) reached output =
+    → IsRest c.args.job.now c.args.done (g.S.Scans.state c.args.scan.now).world (g.S.Scans.state c.args.scan.now).loads (g.S.Scans.state c.run_alone-end.new.scan).loads (at c.args.disk.now) (at c.run_alone-end.new.disk) reached output =
     λ reached output reply. record {
       run_output = run_text report;
       run = record {
@@ -30,8 +30,8 @@ returns-clause-ran g c =
         reply = record { reached_is = reply.reached_is; form = λ done. refl };
         frames = run.frames;
         log = c.run_alone-end.result.2;
-        ran = subst (λ (n : ℕ). WasRun c.args.job.now 0 n (g.S.Scans.world c.args.scan.now) share_count g.D.Disk.tells (g.D.Disk.history c.args.disk.now) (g.D.Disk.history c.run_alone-end.new.disk) end report c.run_alone-end.result.2) c.count.ensures.count run.ran;
-        keeps = subst (λ (n : ℕ). IsSafeRun c.args.job.now (range_of Whole n) (g.S.Scans.world c.args.scan.now) end (at c.args.disk.now) (at c.run_alone-end.new.disk)) c.count.ensures.count
+        ran = subst (λ (n : ℕ). WasRun c.args.job.now 0 n (g.S.Scans.state c.args.scan.now).world share_count g.D.Disk.tells (g.D.Disk.state c.args.disk.now).history (g.D.Disk.state c.run_alone-end.new.disk).history end report c.run_alone-end.result.2) c.count.ensures.count run.ran;
+        keeps = subst (λ (n : ℕ). IsSafeRun c.args.job.now (range_of Whole n) (g.S.Scans.state c.args.scan.now).world end (at c.args.disk.now) (at c.run_alone-end.new.disk)) c.count.ensures.count
             (record { run = run.run; acked = run.acked; whole = run.whole; sound_has = run.sound_has; spares = run.spares; writes = run.writes });
         loaded = run.scan.asked;
         changed = run.changed;

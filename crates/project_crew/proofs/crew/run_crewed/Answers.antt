@@ -11,37 +11,37 @@ returns-in-Err-clause-reply g c =
     let some : 0 < length c.args.scans.items = search rules in
     let first : get_or c.args.scans.items 0 c.index_mut.result.now ≡ c.index_mut.result.now = search rules in
     let job = c.in-Err.ensures in
-    uncrewed g.S.Scans.world g.S.Scans.faults g.S.Scans.loads g.S.Scans.same c.planned.new.scan c.args.path.now c.args.workers c.args.share c.args.scans.items c.index_mut.result.now _ _ _ some first
+    uncrewed g.S.Scans.state c.planned.new.scan c.args.path.now c.args.workers c.args.share c.args.scans.items c.index_mut.result.now _ _ _ some first
     job.told job.kind job.loads job.refused (λ other. job.scan.counts.steady (λ is. other cc)) job.scan.counts.cause.later job.scan.told job.scan.lent
 
 pub returns-in-Err-clause-failed : goal.returns-in-Err-clause-failed
 returns-in-Err-clause-failed g c is =
     let some : 0 < length c.args.scans.items = search rules in
     let first : get_or c.args.scans.items 0 c.index_mut.result.now ≡ c.index_mut.result.now = search rules in
-    failed_first g.S.Scans.world g.S.Scans.faults g.S.Scans.loads g.S.Scans.same c.planned.new.scan c.args.scans.items c.index_mut.result.now some first (c.in-Err.ensures.scan.counts.cause.failed (error_as _ _ is))
+    failed_first g.S.Scans.state c.planned.new.scan c.args.scans.items c.index_mut.result.now some first (c.in-Err.ensures.scan.counts.cause.failed (error_as _ _ is))
 
 pub run_job-ended-requires-clause-one_world : goal.run_job-ended-requires-clause-one_world
 run_job-ended-requires-clause-one_world g c κs within =
     let some : 0 < length c.args.scans.items = search rules in
     let first : get_or c.args.scans.items 0 c.index_mut.result.now ≡ c.index_mut.result.now = search rules in
-    still_tell g.S.Scans.world g.S.Scans.faults g.S.Scans.loads g.S.Scans.same c.planned.new.scan c.args.scans.items c.index_mut.result.now some first c.planned.ensures.scan.told
-    (all_tell g.S.Scans.world g.S.Scans.faults g.S.Scans.loads g.S.Scans.same c.args.scans.items c.requires.one_world)
+    still_tell g.S.Scans.state c.planned.new.scan c.args.scans.items c.index_mut.result.now some first c.planned.ensures.scan.told
+    (all_tell g.S.Scans.state c.args.scans.items c.requires.one_world)
 
 pub returns-clause-reply : goal.returns-clause-reply
 returns-clause-reply g c =
     let some : 0 < length c.args.scans.items = search rules in
     let first : get_or c.args.scans.items 0 c.index_mut.result.now ≡ c.index_mut.result.now = search rules in
     let job = c.in-Ok.ensures in
-    let texts = first_loaded g.S.Scans.world g.S.Scans.faults g.S.Scans.loads g.S.Scans.same c.planned.new.scan _ c.args.scans.items c.index_mut.result.now some first job.loaded (job.scan.counts.steady (λ is. cc)) job.scan.told job.scan.lent in
+    let texts = first_loaded g.S.Scans.state c.planned.new.scan _ c.args.scans.items c.index_mut.result.now some first job.loaded (job.scan.counts.steady (λ is. cc)) job.scan.told job.scan.lent in
     let all = c.range_of-range.ensures.range ∙ ap (range_of c.args.extent) c.count.ensures.count in
-    let reply = crewed g.S.Scans.world g.S.Scans.faults g.S.Scans.loads g.S.Scans.same c.planned.new.scan c.in-Ok.job c.args.extent c.range_of-range.result c.args.path.now c.args.workers c.args.share c.args.scans.items _ c.index_mut.result.now _ _ in
+    let reply = crewed g.S.Scans.state c.planned.new.scan c.in-Ok.job c.args.extent c.range_of-range.result c.args.path.now c.args.workers c.args.share c.args.scans.items _ c.index_mut.result.now _ _ in
     match_each _ _ _ _ _ c.run_job-ended.ensures.ran (λ text ran. reply _ _ all some first job.told job.scan.told texts ran) (λ outcome ran. reply _ _ all some first job.told job.scan.told texts ran)
 
 pub returns-clause-failed : goal.returns-clause-failed
 returns-clause-failed g c is =
     let some : 0 < length c.args.scans.items = search rules in
     let first : get_or c.args.scans.items 0 c.index_mut.result.now ≡ c.index_mut.result.now = search rules in
-    failed_before g.S.Scans.world g.S.Scans.faults g.S.Scans.loads g.S.Scans.same c.planned.new.scan c.args.scans.items _ c.index_mut.result.now some first (c.in-Ok.ensures.scan.counts.steady (λ is. cc)) (c.run_job-ended.ensures.failed is)
+    failed_before g.S.Scans.state c.planned.new.scan c.args.scans.items _ c.index_mut.result.now some first (c.in-Ok.ensures.scan.counts.steady (λ is. cc)) (c.run_job-ended.ensures.failed is)
 
 pub returns-clause-untouched : goal.returns-clause-untouched
 returns-clause-untouched g c = left_by _ _ _ _ _ c.run_job-ended.ensures.ran (λ reached ran. end_unrefused _ ran.how reached ran.reply.reached_is)

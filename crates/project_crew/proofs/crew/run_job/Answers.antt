@@ -18,8 +18,8 @@ pub returns-clause-ran : goal.returns-clause-ran
 returns-clause-ran g c =
     let crew = c.run_crew-end.ensures in
     let all : vec_len c.args.scans ≡ length c.args.scans.items = search rules in
-    let run = crew_job_run g.S.Scans.world g.S.Scans.faults g.S.Scans.loads g.S.Scans.same _ _ c.args.extent c.args.range _ _ _ _ _ _ _ _ _ _ _ _ all c.from.ensures crew.frames crew.ran crew.run crew.acked crew.whole crew.sound_has crew.spares crew.writes crew.scans crew.changed in
+    let run = crew_job_run g.S.Scans.state _ _ c.args.extent c.args.range _ _ _ _ _ _ _ _ _ _ _ _ all c.from.ensures crew.frames crew.ran crew.run crew.acked crew.whole crew.sound_has crew.spares crew.writes crew.scans crew.changed in
     match_each _ _ _ _ _ c.reply_of-result.ensures.reply (λ text reply. run _ _ reply) (λ outcome reply. run _ _ reply)
 
 pub returns-clause-failed : goal.returns-clause-failed
-returns-clause-failed g c is = has_failed g.S.Scans.world g.S.Scans.faults g.S.Scans.loads g.S.Scans.same _ _ _ _ _ c.run_crew-end.ensures.scans (c.reply_of-result.ensures.source.0 is)
+returns-clause-failed g c is = has_failed g.S.Scans.state _ _ _ _ _ c.run_crew-end.ensures.scans (c.reply_of-result.ensures.source.0 is)

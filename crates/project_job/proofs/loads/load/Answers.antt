@@ -21,8 +21,8 @@ absent_no_fault absent is = cc
 
 pub returns-in-Got-clause-scan : goal.returns-in-Got-clause-scan
 returns-in-Got-clause-scan g c =
-    leaves_by g.S.Scans.world g.S.Scans.faults g.S.Scans.same _ _ c.in-Got.ensures.fault.counts.cause.later (λ failed. absurd (no_err _ _ failed)) (λ _. c.in-Got.ensures.fault.counts.steady (got_unfailed _)) c.in-Got.ensures.world c.in-Got.ensures.same
+    leaves_by c.in-Got.ensures.fault.counts.cause.later (λ failed. absurd (no_err _ _ failed)) (λ _. c.in-Got.ensures.fault.counts.steady (got_unfailed _)) c.in-Got.ensures.world c.in-Got.ensures.same
 
 pub returns-in-Absent-clause-scan : goal.returns-in-Absent-clause-scan
 returns-in-Absent-clause-scan g c =
-    leaves_by g.S.Scans.world g.S.Scans.faults g.S.Scans.same _ _ c.in-Absent.ensures.fault.counts.cause.later (λ failed. absurd (absent_no_fault c.args.absent failed)) (λ _. c.in-Absent.ensures.fault.counts.steady absent_unfailed) c.in-Absent.ensures.world c.in-Absent.ensures.same
+    leaves_by c.in-Absent.ensures.fault.counts.cause.later (λ failed. absurd (absent_no_fault c.args.absent failed)) (λ _. c.in-Absent.ensures.fault.counts.steady absent_unfailed) c.in-Absent.ensures.world c.in-Absent.ensures.same

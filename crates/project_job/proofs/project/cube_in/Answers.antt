@@ -10,28 +10,28 @@ use Rattle.project_job.proofs.project.cube_in.Goals as goal
 
 pub returns-in-Ok-look_of-clause-told : goal.returns-in-Ok-look_of-clause-told
 returns-in-Ok-look_of-clause-told g c =
-    cube_had (g.S.Scans.world c.args.scan.now) c.args.path.now c.in-Ok.front c.in-Ok-look_of.look c.in-Ok.ensures.told
+    cube_had (g.S.Scans.state c.args.scan.now).world c.args.path.now c.in-Ok.front c.in-Ok-look_of.look c.in-Ok.ensures.told
     (subst (λ text. look_of_text text ≡ Ok c.in-Ok-look_of.look) c.deref.ensures.value c.in-Ok-look_of.ensures.look)
 
 pub returns-in-Err-look_of-clause-told : goal.returns-in-Err-look_of-clause-told
 returns-in-Err-look_of-clause-told g c =
-    cube_refused (g.S.Scans.world c.args.scan.now) c.args.path.now c.in-Ok.front c.in-Err-look_of.outcome c.in-Ok.ensures.told
+    cube_refused (g.S.Scans.state c.args.scan.now).world c.args.path.now c.in-Ok.front c.in-Err-look_of.outcome c.in-Ok.ensures.told
     (subst (λ text. Reaches itself (Err c.in-Err-look_of.outcome) (look_of_text text)) c.deref.ensures.value c.in-Err-look_of.ensures.look)
 
 pub returns-in-Err-clause-told : goal.returns-in-Err-clause-told
-returns-in-Err-clause-told g c = cube_missing (g.S.Scans.world c.args.scan.now) c.args.path.now c.in-Err.outcome c.in-Err.ensures.told
+returns-in-Err-clause-told g c = cube_missing (g.S.Scans.state c.args.scan.now).world c.args.path.now c.in-Err.outcome c.in-Err.ensures.told
 
 pub returns-in-Err-clause-stage : goal.returns-in-Err-clause-stage
 returns-in-Err-clause-stage g c = load_stage which.Cube 3 c.in-Err.outcome (λ cube. refl) c.in-Err.ensures.kind
 
 pub returns-in-Err-clause-scan : goal.returns-in-Err-clause-scan
 returns-in-Err-clause-scan g c =
-    leaves_as g.S.Scans.world g.S.Scans.faults g.S.Scans.same _ _ (err_as _ _) (err_as _ _) c.in-Err.ensures.scan
+    leaves_as (err_as _ _) (err_as _ _) c.in-Err.ensures.scan
 
 pub returns-in-Ok-look_of-clause-scan : goal.returns-in-Ok-look_of-clause-scan
 returns-in-Ok-look_of-clause-scan g c =
-    leaves_done g.S.Scans.world g.S.Scans.faults g.S.Scans.same _ _ (no_err _ _) (no_err _ _) c.in-Ok.ensures.scan
+    leaves_done (no_err _ _) (no_err _ _) c.in-Ok.ensures.scan
 
 pub returns-in-Err-look_of-clause-scan : goal.returns-in-Err-look_of-clause-scan
 returns-in-Err-look_of-clause-scan g c =
-    leaves_done g.S.Scans.world g.S.Scans.faults g.S.Scans.same _ _ (no_err _ _) (λ e. c.in-Err-look_of.ensures.not_the_scan (err_as _ _ e)) c.in-Ok.ensures.scan
+    leaves_done (no_err _ _) (λ e. c.in-Err-look_of.ensures.not_the_scan (err_as _ _ e)) c.in-Ok.ensures.scan

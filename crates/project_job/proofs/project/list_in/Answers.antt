@@ -9,16 +9,16 @@ use Rattle.project_job.proofs.project.list_in.Goals as goal
 
 pub returns-in-Ok-read_list-clause-told : goal.returns-in-Ok-read_list-clause-told
 returns-in-Ok-read_list-clause-told g c =
-    list_had (g.S.Scans.world c.args.scan.now) c.args.rate c.args.path.now c.in-Ok.front c.in-Ok-read_list.list c.in-Ok.ensures.told
+    list_had (g.S.Scans.state c.args.scan.now).world c.args.rate c.args.path.now c.in-Ok.front c.in-Ok-read_list.list c.in-Ok.ensures.told
     (rw c.deref.ensures.value at c.in-Ok-read_list.ensures.answer)
 
 pub returns-in-Err-Fault-clause-told : goal.returns-in-Err-Fault-clause-told
 returns-in-Err-Fault-clause-told g c =
-    list_refused (g.S.Scans.world c.args.scan.now) c.args.rate c.args.path.now c.in-Ok.front c.in-Err-Fault.refusal c.in-Ok.ensures.told
+    list_refused (g.S.Scans.state c.args.scan.now).world c.args.rate c.args.path.now c.in-Ok.front c.in-Err-Fault.refusal c.in-Ok.ensures.told
     (rw (c.in-Err-Fault.field-0-is, c.deref.ensures.value) at c.in-Err-Fault.ensures.answer)
 
 pub returns-in-Err-clause-told : goal.returns-in-Err-clause-told
-returns-in-Err-clause-told g c = list_missing (g.S.Scans.world c.args.scan.now) c.args.rate c.args.path.now c.in-Err.outcome c.in-Err.ensures.told
+returns-in-Err-clause-told g c = list_missing (g.S.Scans.state c.args.scan.now).world c.args.rate c.args.path.now c.in-Err.outcome c.in-Err.ensures.told
 
 pub returns-in-Err-clause-stage : goal.returns-in-Err-clause-stage
 returns-in-Err-clause-stage g c = load_stage which.List 2 c.in-Err.outcome (λ cube. refl) c.in-Err.ensures.kind
@@ -30,13 +30,13 @@ pub returns-clause-stage : goal.returns-clause-stage
 returns-clause-stage g c = memory_stage 2
 
 pub returns-in-Err-clause-scan : goal.returns-in-Err-clause-scan
-returns-in-Err-clause-scan g c = leaves_as g.S.Scans.world g.S.Scans.faults g.S.Scans.same _ _ (err_as _ _) (err_as _ _) c.in-Err.ensures.scan
+returns-in-Err-clause-scan g c = leaves_as (err_as _ _) (err_as _ _) c.in-Err.ensures.scan
 
 pub returns-in-Ok-read_list-clause-scan : goal.returns-in-Ok-read_list-clause-scan
-returns-in-Ok-read_list-clause-scan g c = leaves_done g.S.Scans.world g.S.Scans.faults g.S.Scans.same _ _ (no_err _ _) (no_err _ _) c.in-Ok.ensures.scan
+returns-in-Ok-read_list-clause-scan g c = leaves_done (no_err _ _) (no_err _ _) c.in-Ok.ensures.scan
 
 pub returns-in-Err-Fault-clause-scan : goal.returns-in-Err-Fault-clause-scan
-returns-in-Err-Fault-clause-scan g c = leaves_done g.S.Scans.world g.S.Scans.faults g.S.Scans.same _ _ (no_err _ _) (refused_apart _) c.in-Ok.ensures.scan
+returns-in-Err-Fault-clause-scan g c = leaves_done (no_err _ _) (refused_apart _) c.in-Ok.ensures.scan
 
 pub returns-clause-scan : goal.returns-clause-scan
-returns-clause-scan g c = leaves_done g.S.Scans.world g.S.Scans.faults g.S.Scans.same _ _ (no_err _ _) memory_apart c.in-Ok.ensures.scan
+returns-clause-scan g c = leaves_done (no_err _ _) memory_apart c.in-Ok.ensures.scan

@@ -6,49 +6,49 @@ use Rattle.project_job.proofs.Loading.{loaded_behind, look_behind, stage_texts}
 use Rattle.project_job.proofs.project.parts_of.Goals as goal
 
 pub returns-in-Err-clause-told : goal.returns-in-Err-clause-told
-returns-in-Err-clause-told g c = no_reels (g.S.Scans.world c.args.scan.now) c.args.text.now c.args.project c.in-Err.outcome c.in-Err.ensures.table
+returns-in-Err-clause-told g c = no_reels (g.S.Scans.state c.args.scan.now).world c.args.text.now c.args.project c.in-Err.outcome c.in-Err.ensures.table
 
 pub returns-in-Err-list_in-clause-told : goal.returns-in-Err-list_in-clause-told
 returns-in-Err-list_in-clause-told g c =
-    no_list (g.S.Scans.world c.args.scan.now) c.args.text.now c.args.project c.in-Ok.reels c.in-Ok.ensures.table c.in-Err-list_in.outcome c.in-Err-list_in.ensures.told
+    no_list (g.S.Scans.state c.args.scan.now).world c.args.text.now c.args.project c.in-Ok.reels c.in-Ok.ensures.table c.in-Err-list_in.outcome c.in-Err-list_in.ensures.told
 
 pub returns-in-Err-timeline_of-clause-told : goal.returns-in-Err-timeline_of-clause-told
 returns-in-Err-timeline_of-clause-told g c =
-    no_timeline (g.S.Scans.world c.args.scan.now) c.args.text.now c.args.project c.in-Ok.reels c.in-Ok.ensures.table c.in-Ok-list_in.read c.in-Ok-list_in.ensures.told c.in-Err-timeline_of.outcome c.in-Err-timeline_of.ensures.timeline
+    no_timeline (g.S.Scans.state c.args.scan.now).world c.args.text.now c.args.project c.in-Ok.reels c.in-Ok.ensures.table c.in-Ok-list_in.read c.in-Ok-list_in.ensures.told c.in-Err-timeline_of.outcome c.in-Err-timeline_of.ensures.timeline
 
 pub returns-in-Err-look_in-clause-told : goal.returns-in-Err-look_in-clause-told
 returns-in-Err-look_in-clause-told g c =
-    no_look (g.S.Scans.world c.args.scan.now) c.args.text.now c.args.project c.in-Ok.reels c.in-Ok.ensures.table c.in-Ok-list_in.read c.in-Ok-list_in.ensures.told c.in-Ok-timeline_of.timeline c.in-Ok-timeline_of.ensures.timeline
+    no_look (g.S.Scans.state c.args.scan.now).world c.args.text.now c.args.project c.in-Ok.reels c.in-Ok.ensures.table c.in-Ok-list_in.read c.in-Ok-list_in.ensures.told c.in-Ok-timeline_of.timeline c.in-Ok-timeline_of.ensures.timeline
     c.in-Err-look_in.outcome (rw c.in-Ok-list_in.ensures.scan.told at c.in-Err-look_in.ensures.told)
 
 pub returns-in-Err-look_in-clause-loads : goal.returns-in-Err-look_in-clause-loads
 returns-in-Err-look_in-clause-loads g c =
-    loaded_both c.args.project.cube (g.S.Scans.loads c.args.scan.now) _ _ c.in-Ok-list_in.ensures.loads c.in-Err-look_in.ensures.loads
+    loaded_both c.args.project.cube (g.S.Scans.state c.args.scan.now).loads _ _ c.in-Ok-list_in.ensures.loads c.in-Err-look_in.ensures.loads
 
 pub returns-clause-told : goal.returns-clause-told
 returns-clause-told g c =
-    all_parts (g.S.Scans.world c.args.scan.now) c.args.text.now c.args.project c.in-Ok.reels c.in-Ok.ensures.table c.in-Ok-list_in.read c.in-Ok-list_in.ensures.told c.in-Ok-timeline_of.timeline c.in-Ok-timeline_of.ensures.timeline
+    all_parts (g.S.Scans.state c.args.scan.now).world c.args.text.now c.args.project c.in-Ok.reels c.in-Ok.ensures.table c.in-Ok-list_in.read c.in-Ok-list_in.ensures.told c.in-Ok-timeline_of.timeline c.in-Ok-timeline_of.ensures.timeline
     c.in-Ok-look_in.read c.job_digest.result (rw (c.as_deref.ensures.value, c.deref.ensures.value) at c.job_digest.ensures) (rw c.in-Ok-list_in.ensures.scan.told at c.in-Ok-look_in.ensures.told)
 
 pub returns-clause-loads : goal.returns-clause-loads
 returns-clause-loads g c =
-    loaded_both c.args.project.cube (g.S.Scans.loads c.args.scan.now) _ _ c.in-Ok-list_in.ensures.loads c.in-Ok-look_in.ensures.loads
+    loaded_both c.args.project.cube (g.S.Scans.state c.args.scan.now).loads _ _ c.in-Ok-list_in.ensures.loads c.in-Ok-look_in.ensures.loads
 
 pub returns-in-Err-clause-refused : goal.returns-in-Err-clause-refused
 returns-in-Err-clause-refused g c =
-    loaded_behind c.args.project.cube c.in-Err.outcome 0 (g.S.Scans.loads c.args.scan.now) _ c.in-Err.ensures.stage refl
+    loaded_behind c.args.project.cube c.in-Err.outcome 0 (g.S.Scans.state c.args.scan.now).loads _ c.in-Err.ensures.stage refl
 
 pub returns-in-Err-list_in-clause-refused : goal.returns-in-Err-list_in-clause-refused
 returns-in-Err-list_in-clause-refused g c =
-    loaded_behind c.args.project.cube c.in-Err-list_in.outcome 1 (g.S.Scans.loads c.args.scan.now) _ c.in-Err-list_in.ensures.stage c.in-Err-list_in.ensures.loads
+    loaded_behind c.args.project.cube c.in-Err-list_in.outcome 1 (g.S.Scans.state c.args.scan.now).loads _ c.in-Err-list_in.ensures.stage c.in-Err-list_in.ensures.loads
 
 pub returns-in-Err-timeline_of-clause-refused : goal.returns-in-Err-timeline_of-clause-refused
 returns-in-Err-timeline_of-clause-refused g c =
-    loaded_behind c.args.project.cube c.in-Err-timeline_of.outcome 1 (g.S.Scans.loads c.args.scan.now) _ c.in-Err-timeline_of.ensures.stage c.in-Ok-list_in.ensures.loads
+    loaded_behind c.args.project.cube c.in-Err-timeline_of.outcome 1 (g.S.Scans.state c.args.scan.now).loads _ c.in-Err-timeline_of.ensures.stage c.in-Ok-list_in.ensures.loads
 
 pub returns-in-Err-look_in-clause-refused : goal.returns-in-Err-look_in-clause-refused
 returns-in-Err-look_in-clause-refused g c =
-    look_behind c.args.project.cube c.in-Err-look_in.outcome (g.S.Scans.loads c.args.scan.now) _ _ c.in-Err-look_in.ensures.stage c.in-Err-look_in.ensures.named c.in-Ok-list_in.ensures.loads c.in-Err-look_in.ensures.loads
+    look_behind c.args.project.cube c.in-Err-look_in.outcome (g.S.Scans.state c.args.scan.now).loads _ _ c.in-Err-look_in.ensures.stage c.in-Err-look_in.ensures.named c.in-Ok-list_in.ensures.loads c.in-Err-look_in.ensures.loads
 
 pub returns-in-Err-clause-texts : goal.returns-in-Err-clause-texts
 returns-in-Err-clause-texts g c = stage_texts _ c.in-Err.outcome c.in-Err.ensures.stage
@@ -73,7 +73,7 @@ pub returns-in-Err-timeline_of-clause-loads : goal.returns-in-Err-timeline_of-cl
 returns-in-Err-timeline_of-clause-loads g c = (1, omega arith, omega arith, c.in-Ok-list_in.ensures.loads)
 
 pub returns-clause-loaded : goal.returns-clause-loaded
-returns-clause-loaded g c = loaded_list c.args.project.cube (g.S.Scans.loads c.args.scan.now) _ _ c.in-Ok-list_in.ensures.loads c.in-Ok-look_in.ensures.loads
+returns-clause-loaded g c = loaded_list c.args.project.cube (g.S.Scans.state c.args.scan.now).loads _ _ c.in-Ok-list_in.ensures.loads c.in-Ok-look_in.ensures.loads
 
 -- The rest holds from call to call.
 pub returns-clause-planned : goal.returns-clause-planned
@@ -97,20 +97,20 @@ returns-clause-heads g c = c.in-Ok-look_in.ensures.heads ∙ c.in-Ok-list_in.ens
 
 pub returns-in-Err-clause-scan : goal.returns-in-Err-clause-scan
 returns-in-Err-clause-scan g c =
-    leaves_still g.S.Scans.world g.S.Scans.faults g.S.Scans.same _ (g.met.S.Scans.same_refl _) (λ e. c.in-Err.ensures.not_the_scan (err_as _ _ e))
+    leaves_still (λ e. c.in-Err.ensures.not_the_scan (err_as _ _ e))
 
 pub returns-in-Err-list_in-clause-scan : goal.returns-in-Err-list_in-clause-scan
 returns-in-Err-list_in-clause-scan g c =
-    leaves_as g.S.Scans.world g.S.Scans.faults g.S.Scans.same _ _ (err_as _ _) (err_as _ _) c.in-Err-list_in.ensures.scan
+    leaves_as (err_as _ _) (err_as _ _) c.in-Err-list_in.ensures.scan
 
 pub returns-in-Err-timeline_of-clause-scan : goal.returns-in-Err-timeline_of-clause-scan
 returns-in-Err-timeline_of-clause-scan g c =
-    leaves_done g.S.Scans.world g.S.Scans.faults g.S.Scans.same _ _ (no_err _ _) (λ e. c.in-Err-timeline_of.ensures.not_the_scan (err_as _ _ e)) c.in-Ok-list_in.ensures.scan
+    leaves_done (no_err _ _) (λ e. c.in-Err-timeline_of.ensures.not_the_scan (err_as _ _ e)) c.in-Ok-list_in.ensures.scan
 
 pub returns-in-Err-look_in-clause-scan : goal.returns-in-Err-look_in-clause-scan
 returns-in-Err-look_in-clause-scan g c =
-    leaves_then g.S.Scans.world g.S.Scans.faults g.S.Scans.same g.met.S.Scans.same_trans _ _ _ (no_err _ _) c.in-Ok-list_in.ensures.scan (leaves_as g.S.Scans.world g.S.Scans.faults g.S.Scans.same _ _ (err_as _ _) (err_as _ _) c.in-Err-look_in.ensures.scan)
+    leaves_then (no_err _ _) c.in-Ok-list_in.ensures.scan (leaves_as (err_as _ _) (err_as _ _) c.in-Err-look_in.ensures.scan)
 
 pub returns-clause-scan : goal.returns-clause-scan
 returns-clause-scan g c =
-    leaves_then g.S.Scans.world g.S.Scans.faults g.S.Scans.same g.met.S.Scans.same_trans _ _ _ (no_err _ _) c.in-Ok-list_in.ensures.scan (leaves_done g.S.Scans.world g.S.Scans.faults g.S.Scans.same _ _ (no_err _ _) (no_err _ _) c.in-Ok-look_in.ensures.scan)
+    leaves_then (no_err _ _) c.in-Ok-list_in.ensures.scan (leaves_done (no_err _ _) (no_err _ _) c.in-Ok-look_in.ensures.scan)

@@ -10,7 +10,7 @@ use Rattle.project_job.proofs.project.project_in.Goals as goal
 
 pub returns-in-Ok-read_project-clause-told : goal.returns-in-Ok-read_project-clause-told
 returns-in-Ok-read_project-clause-told g c =
-    project_had (g.S.Scans.world c.args.scan.now) c.args.path.now c.in-Ok.front c.in-Ok-read_project.project c.in-Ok.ensures.told
+    project_had (g.S.Scans.state c.args.scan.now).world c.args.path.now c.in-Ok.front c.in-Ok-read_project.project c.in-Ok.ensures.told
     (rw c.deref.ensures.value at c.in-Ok-read_project.ensures.project)
 
 pub returns-in-Ok-read_project-clause-counted : goal.returns-in-Ok-read_project-clause-counted
@@ -18,7 +18,7 @@ returns-in-Ok-read_project-clause-counted g c = counted_project _ c.in-Ok-read_p
 
 pub returns-in-Err-Fault-clause-told : goal.returns-in-Err-Fault-clause-told
 returns-in-Err-Fault-clause-told g c =
-    project_refused (g.S.Scans.world c.args.scan.now) c.args.path.now c.in-Ok.front c.in-Err-Fault.fault c.in-Ok.ensures.told
+    project_refused (g.S.Scans.state c.args.scan.now).world c.args.path.now c.in-Ok.front c.in-Err-Fault.fault c.in-Ok.ensures.told
     (rw (c.in-Err-Fault.field-0-is, c.deref.ensures.value) at c.in-Err-Fault.ensures.project)
 
 pub returns-in-Err-clause-stage : goal.returns-in-Err-clause-stage
@@ -31,16 +31,16 @@ pub returns-clause-stage : goal.returns-clause-stage
 returns-clause-stage g c = memory_stage 1
 
 pub returns-in-Err-clause-scan : goal.returns-in-Err-clause-scan
-returns-in-Err-clause-scan g c = leaves_as g.S.Scans.world g.S.Scans.faults g.S.Scans.same _ _ (err_as _ _) (err_as _ _) c.in-Err.ensures.scan
+returns-in-Err-clause-scan g c = leaves_as (err_as _ _) (err_as _ _) c.in-Err.ensures.scan
 
 pub returns-in-Ok-read_project-clause-scan : goal.returns-in-Ok-read_project-clause-scan
-returns-in-Ok-read_project-clause-scan g c = leaves_done g.S.Scans.world g.S.Scans.faults g.S.Scans.same _ _ (no_err _ _) (no_err _ _) c.in-Ok.ensures.scan
+returns-in-Ok-read_project-clause-scan g c = leaves_done (no_err _ _) (no_err _ _) c.in-Ok.ensures.scan
 
 pub returns-in-Err-Fault-clause-scan : goal.returns-in-Err-Fault-clause-scan
-returns-in-Err-Fault-clause-scan g c = leaves_done g.S.Scans.world g.S.Scans.faults g.S.Scans.same _ _ (no_err _ _) (refused_apart _) c.in-Ok.ensures.scan
+returns-in-Err-Fault-clause-scan g c = leaves_done (no_err _ _) (refused_apart _) c.in-Ok.ensures.scan
 
 pub returns-clause-scan : goal.returns-clause-scan
-returns-clause-scan g c = leaves_done g.S.Scans.world g.S.Scans.faults g.S.Scans.same _ _ (no_err _ _) memory_apart c.in-Ok.ensures.scan
+returns-clause-scan g c = leaves_done (no_err _ _) memory_apart c.in-Ok.ensures.scan
 
 -- no file but the project's was loaded
 pub returns-in-Err-Fault-clause-loads : goal.returns-in-Err-Fault-clause-loads

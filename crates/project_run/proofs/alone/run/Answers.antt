@@ -10,25 +10,25 @@ pub returns-clause-folder : goal.returns-clause-folder
 returns-clause-folder g c =
     let job = c.in-Ok.ensures in
     let all = c.range_of-range.ensures.range ∙ ap (range_of c.args.extent) c.count.ensures.count in
-    let reply = run_in c.in-Ok.job c.args.extent c.range_of-range.result (g.S.Scans.world c.planned.new.scan) (g.S.Scans.world c.args.scan.now) c.args.path.now _ _ (g.S.Scans.loads c.args.scan.now) (g.S.Scans.loads c.planned.new.scan) _ in
+    let reply = run_in c.in-Ok.job c.args.extent c.range_of-range.result (g.S.Scans.state c.planned.new.scan).world (g.S.Scans.state c.args.scan.now).world c.args.path.now _ _ (g.S.Scans.state c.args.scan.now).loads (g.S.Scans.state c.planned.new.scan).loads _ in
     match_each _ _ _ _ _ c.run_job-reply.ensures.ran (λ text ran. reply _ _ all job.scan.told job.told job.loaded ran) (λ outcome ran. reply _ _ all job.scan.told job.told job.loaded ran)
 
 pub returns-clause-scan : goal.returns-clause-scan
 returns-clause-scan g c =
     let reply = c.run_job-reply.ensures in
-    scan_left g.S.Scans.world g.S.Scans.faults g.S.Scans.heads g.S.Scans.same c.args.path.now _ _ _ _ _
-    (leaves_then g.S.Scans.world g.S.Scans.faults g.S.Scans.same g.met.S.Scans.same_trans _ _ _ (λ is. cc) c.in-Ok.ensures.scan reply.scan) reply.ran (λ reached was. run_unrefused _ _ _ _ _ _ _ _ was)
+    scan_left c.args.path.now _ _ _ _ _
+    (leaves_then (λ is. cc) c.in-Ok.ensures.scan reply.scan) reply.ran (λ reached was. run_unrefused _ _ _ _ _ _ _ _ was)
 
 pub returns-clause-disk : goal.returns-clause-disk
 returns-clause-disk g c =
     let reply = c.run_job-reply.ensures in
-    disk_left g.D.Disk.faults g.D.Disk.loans _ _ _ _ _ reply.disk reply.ran (λ reached was. run_unrefused _ _ _ _ _ _ _ _ was)
+    disk_left g.D.Disk.state _ _ _ _ _ reply.disk reply.ran (λ reached was. run_unrefused _ _ _ _ _ _ _ _ was)
 
 -- no job was planned
 pub returns-in-Err : goal.returns-in-Err
 returns-in-Err g c = let job = c.in-Err.ensures in record {
   folder = inr (unplanned _ _ _ _ _ _ job.told job.kind job.loads job.refused);
   kind = of_job _ job.kind;
-  scan = scan_unplanned g.S.Scans.world g.S.Scans.faults g.S.Scans.heads g.S.Scans.same c.args.path.now _ _ _ job.scan job.refused_heads;
-  disk = disk_unplanned g.D.Disk.faults g.D.Disk.loans c.in-Err.outcome c.args.disk.now job.kind;
+  scan = scan_unplanned c.args.path.now _ _ _ job.scan job.refused_heads;
+  disk = disk_unplanned g.D.Disk.state c.in-Err.outcome c.args.disk.now job.kind;
 }

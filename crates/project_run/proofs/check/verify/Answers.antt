@@ -12,18 +12,18 @@ returns-clause-folder g c =
 pub returns-clause-scan : goal.returns-clause-scan
 returns-clause-scan g c =
     let reply = c.verified-reply.ensures in
-    scan_looked g.S.Scans.world g.S.Scans.faults g.S.Scans.heads g.S.Scans.same c.args.path.now _ _ c.in-Ok.job _ _ _ c.in-Ok.ensures.scan reply.never reply.verified (λ reached was. check_unrefused _ _ _ _ _ was)
+    scan_looked c.args.path.now _ _ c.in-Ok.job _ _ _ c.in-Ok.ensures.scan reply.never reply.verified (λ reached was. check_unrefused _ _ _ _ _ was)
 
 pub returns-clause-disk : goal.returns-clause-disk
 returns-clause-disk g c =
     let reply = c.verified-reply.ensures in
-    disk_left g.D.Disk.faults g.D.Disk.loans _ _ _ _ _ reply.disk reply.verified (λ reached was. check_unrefused _ _ _ _ _ was)
+    disk_left g.D.Disk.state _ _ _ _ _ reply.disk reply.verified (λ reached was. check_unrefused _ _ _ _ _ was)
 
 -- no job was planned
 pub returns-in-Err : goal.returns-in-Err
 returns-in-Err g c = let job = c.in-Err.ensures in record {
   folder = inr (unplanned _ _ _ _ _ _ job.told job.kind job.loads job.refused);
   kind = job_verifies _ job.kind;
-  scan = scan_unplanned g.S.Scans.world g.S.Scans.faults g.S.Scans.heads g.S.Scans.same c.args.path.now _ _ _ job.scan job.refused_heads;
-  disk = disk_unplanned g.D.Disk.faults g.D.Disk.loans c.in-Err.outcome c.args.disk.now job.kind;
+  scan = scan_unplanned c.args.path.now _ _ _ job.scan job.refused_heads;
+  disk = disk_unplanned g.D.Disk.state c.in-Err.outcome c.args.disk.now job.kind;
 }

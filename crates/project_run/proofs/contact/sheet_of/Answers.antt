@@ -2,7 +2,7 @@
 use Rattle.std.proofs.Common.{refl, subst, sym}
 use Rattle.outcome_line.specs.Output.{line_of}
 use Rattle.outcome_line.specs.declared.outcome.Outcome.{Outcome}
-use Rattle.project_run.specs.Calls.{disk_state}
+use Rattle.project_run.specs.Calls.{folder_state}
 use Rattle.project_run.specs.Sheet.{HasSheet}
 use Rattle.project_run.proofs.Runs.{match_each}
 use Rattle.project_run.proofs.Looking.{sheet_by, unsheeted}
@@ -10,14 +10,14 @@ use Rattle.project_run.proofs.contact.sheet_of.Goals as goal
 
 pub returns-in-Ok-clause-made : goal.returns-in-Ok-clause-made
 returns-in-Ok-clause-made g c =
-    let state = disk_state g.D.Disk.tells g.D.Disk.history g.D.Disk.faults in
+    let state = λ (d : _). folder_state g.D.Disk.tells (g.D.Disk.state d) in
     let by = sheet_by c.args.job.now (state c.args.disk.now) (state c.look.new.disk) (state c.sheeted-reply.new.disk) c.in-Ok.view c.digest.result c.count.result c.args.tone.now.table
     c.digest.ensures (rw c.timeline.ensures at c.count.ensures.count) refl c.look.ensures.still c.sheeted-reply.ensures.past c.sheeted-reply.ensures.spares c.in-Ok.ensures.answer c.in-Ok.ensures.known in
     match_each _ _ _ _ _ c.sheeted-reply.ensures.sheeted (λ text sheeted. by _ _ sheeted) (λ outcome sheeted. by _ _ sheeted)
 
 pub returns-in-Err-clause-made : goal.returns-in-Err-clause-made
 returns-in-Err-clause-made g c =
-    let state = disk_state g.D.Disk.tells g.D.Disk.history g.D.Disk.faults in
+    let state = λ (d : _). folder_state g.D.Disk.tells (g.D.Disk.state d) in
     subst (λ (o : Outcome). HasSheet c.args.tone.now.table c.args.job.now (state c.args.disk.now) (state c.look.new.disk) o (line_of o)) (sym c.outcome_of_fault.ensures)
     (unsheeted c.args.tone.now.table c.args.job.now (state c.args.disk.now) (state c.look.new.disk) c.in-Err.fault c.digest.result c.count.result
     c.digest.ensures (rw c.timeline.ensures at c.count.ensures.count) c.in-Err.ensures.answer c.in-Err.ensures.known c.look.ensures.still _)

@@ -3,6 +3,7 @@ use Rattle.std.specs.Prelude.{Err}
 use Rattle.conform_job.specs.Job.{JobData}
 use Rattle.record_timeline.specs.Accepted.{RecordReel, frame_count}
 use Rattle.reel_disk.specs.Disk.{view_of}
+use Rattle.reel_disk.proofs.Leaving.{disk_as}
 use Rattle.reel_disk.proofs.Sparing.{spares_itself}
 use Rattle.resume_ledger.specs.Attach.{IsRefused, IsRefusalFor}
 use Rattle.resume_ledger.specs.declared.attach.OpenFault.TheVariants as cause
@@ -22,9 +23,9 @@ use Rattle.reconform.proofs.adopting.adopt_into.Goals as goal
 -- the old folder was refused
 pub returns-in-Err-clause-answer : goal.returns-in-Err-clause-answer
 returns-in-Err-clause-answer g c =
-    let h = g.D.Disk.history c.args.old.now in
-    let after = g.D.Disk.history c.look.new.disk in
-    let disk = g.E.Disk.history c.args.disk in
+    let h = (g.D.Disk.state c.args.old.now).history in
+    let after = (g.D.Disk.state c.look.new.disk).history in
+    let disk = (g.E.Disk.state c.args.disk).history in
     let digest = c.digest.ensures ∙ ap (λ (job : JobData). job.parts.digest) c.requires.old_job in
     let count = c.count.ensures.count ∙ ap (λ (t : RecordReel). frame_count t.events) c.timeline.ensures ∙ ap frames_of c.requires.old_job in
     subst (λ (e : AdoptFault). IsWhyUnadopted g.N.Work.job g.O.Work.job g.E.Disk.tells h after disk disk e) (sym c.of_old.ensures)
@@ -33,17 +34,16 @@ returns-in-Err-clause-answer g c =
 
 pub returns-in-Err-clause-disks : goal.returns-in-Err-clause-disks
 returns-in-Err-clause-disks g c =
-    old_asked g.D.Disk.faults g.D.Disk.loans g.E.Disk.faults g.E.Disk.loans _ c.args.old.now c.look.new.disk c.args.disk
-    (record { later = c.in-Err.ensures.cause.later; failed = λ is. c.in-Err.ensures.cause.failed (ap Err (old_disk c.in-Err.fault (sym c.of_old.ensures ∙ err_is _ _ is))) })
-    (λ other. c.in-Err.ensures.steady (λ same. let is : c.in-Err.fault ≡ cause.DiskFault = cc in other (ap Err (c.of_old.ensures ∙ ap by_old is)))) c.in-Err.ensures.same
+    old_asked (disk_as (λ is. ap Err (old_disk c.in-Err.fault (sym c.of_old.ensures ∙ err_is _ _ is)))
+    (λ same. let is : c.in-Err.fault ≡ cause.DiskFault = cc in ap Err (c.of_old.ensures ∙ ap by_old is)) c.in-Err.ensures.disk)
 
 -- it was looked at
 pub adopt_owned-requires-clause-looked : goal.adopt_owned-requires-clause-looked
 adopt_owned-requires-clause-looked g c =
-    let h = g.D.Disk.history c.args.old.now in
+    let h = (g.D.Disk.state c.args.old.now).history in
     let digest = c.digest.ensures ∙ ap (λ (job : JobData). job.parts.digest) c.requires.old_job in
     let count = c.count.ensures.count ∙ ap (λ (t : RecordReel). frame_count t.events) c.timeline.ensures ∙ ap frames_of c.requires.old_job in
-    looked_along g.N.Work.job g.O.Work.job g.D.Disk.tells h (g.D.Disk.history c.look.new.disk) c.in-Ok.ensures.still g.N.Work.files c.in-Ok.view
+    looked_along g.N.Work.job g.O.Work.job g.D.Disk.tells h (g.D.Disk.state c.look.new.disk).history c.in-Ok.ensures.still g.N.Work.files c.in-Ok.view
     (record {
       can_serve = c.requires.can_serve;
       viewed = λ told. subst (λ n. IsViewOf g.O.Work.job.parts.digest n (view_of h) c.in-Ok.view) count (subst (λ (d : List ℕ). IsViewOf d c.count.result (view_of h) c.in-Ok.view) digest (c.in-Ok.ensures.answer told));
@@ -52,8 +52,8 @@ adopt_owned-requires-clause-looked g c =
 
 pub returns-in-Ok-clause-answer : goal.returns-in-Ok-clause-answer
 returns-in-Ok-clause-answer g c =
-    answered_along g.N.Work.job g.O.Work.job g.E.Disk.tells (g.D.Disk.history c.args.old.now) (g.D.Disk.history c.look.new.disk) (g.D.Disk.history c.adopt_owned.new.old) (λ told. c.in-Ok.ensures.still (c.requires.tells ∙ told))
-    (g.E.Disk.history c.args.disk) (g.E.Disk.history c.adopt_owned.result.1) c.adopt_owned.result.0 c.adopt_owned.ensures.not_old c.adopt_owned.ensures.answer
+    answered_along g.N.Work.job g.O.Work.job g.E.Disk.tells (g.D.Disk.state c.args.old.now).history (g.D.Disk.state c.look.new.disk).history (g.D.Disk.state c.adopt_owned.new.old).history (λ told. c.in-Ok.ensures.still (c.requires.tells ∙ told))
+    (g.E.Disk.state c.args.disk).history (g.E.Disk.state c.adopt_owned.result.1).history c.adopt_owned.result.0 c.adopt_owned.ensures.not_old c.adopt_owned.ensures.answer
 
 pub returns-in-Ok-clause-untouched : goal.returns-in-Ok-clause-untouched
 returns-in-Ok-clause-untouched g c = never_touched c.adopt_owned.result.0 _ c.adopt_owned.ensures.not_old
@@ -63,13 +63,13 @@ returns-in-Ok-clause-still g c told = still_along _ _ _ (c.in-Ok.ensures.still t
 
 pub returns-in-Ok-clause-disks : goal.returns-in-Ok-clause-disks
 returns-in-Ok-clause-disks g c =
-    both_behind g.D.Disk.faults g.D.Disk.loans g.E.Disk.faults g.E.Disk.loans _ _ (λ is. is) (λ is. is) c.args.old.now c.look.new.disk c.adopt_owned.new.old c.args.disk c.args.disk c.adopt_owned.result.1 (c.in-Ok.ensures.steady (λ same. cc)) refl c.in-Ok.ensures.same refl
+    both_behind (λ is. is) (λ is. is) (c.in-Ok.ensures.disk.counts.steady (λ same. cc)) refl c.in-Ok.ensures.disk.lent refl
     c.adopt_owned.ensures.disks
 
 pub returns-in-Err-clause-safe : goal.returns-in-Err-clause-safe
 returns-in-Err-clause-safe g c =
     let here : length c.args.new_job.now.parts.project.title ≤ 199 = search rules in
-    let held = g.E.Disk.history c.args.disk in
+    let held = (g.E.Disk.state c.args.disk).history in
     let may = MayWrite g.N.Work.job (view_of held) in
     record {
       run = λ told. reel_run_itself g.N.Work.job g.N.Work.files held;

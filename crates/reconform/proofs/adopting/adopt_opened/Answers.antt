@@ -16,27 +16,27 @@ returns-in-Ok-clause-answer g c =
     let acks = ap length c.acks.ensures.acks in
     record {
       acked = new.ledger.gates;
-      exit = λ told. subst (λ d. AreFlagsOf g.N.Work.job.parts.digest (frames_of g.N.Work.job) (view_of (g.E.Disk.history d)) new.ledger.gates) (sym c.close.ensures)
-          (flags_are g.N.Work.job g.E.Disk.tells g.E.Disk.history new of c.in-Ok.ensures.adopted.stays_open told);
-      fit = λ told. subst (λ d. IsFit g.N.Work.job.parts.digest (frames_of g.N.Work.job) (view_of (g.E.Disk.history d))) (sym c.close.ensures)
-          (is_fit g.N.Work.job g.E.Disk.tells g.E.Disk.history new of c.in-Ok.ensures.adopted.stays_open told);
+      exit = λ told. subst (λ d. AreFlagsOf g.N.Work.job.parts.digest (frames_of g.N.Work.job) (view_of (g.E.Disk.state d).history) new.ledger.gates) (sym c.close.ensures)
+          (flags_are g.N.Work.job g.E.Disk.tells g.E.Disk.state new of c.in-Ok.ensures.adopted.stays_open told);
+      fit = λ told. subst (λ d. IsFit g.N.Work.job.parts.digest (frames_of g.N.Work.job) (view_of (g.E.Disk.state d).history)) (sym c.close.ensures)
+          (is_fit g.N.Work.job g.E.Disk.tells g.E.Disk.state new of c.in-Ok.ensures.adopted.stays_open told);
       exactly = c.in-Ok.ensures.adopted.served;
       kept_is = kept ∙ c.adopt_alike.ensures.adopted.stays.kept;
       adopted_is = omega (arith, sum, kept, acks);
     }
 
 pub returns-in-Ok-clause-part : goal.returns-in-Ok-clause-part
-returns-in-Ok-clause-part g c = subst (λ d. IsPart g.N.Work.job g.N.Work.files g.E.Disk.tells g.E.Disk.history c.args.reel.ledger.gates c.args.reel.disk d) (sym c.close.ensures) c.adopt_alike.ensures.adopted.part
+returns-in-Ok-clause-part g c = subst (λ d. IsPart g.N.Work.job g.N.Work.files g.E.Disk.tells c.args.reel.ledger.gates (g.E.Disk.state c.args.reel.disk) (g.E.Disk.state d)) (sym c.close.ensures) c.adopt_alike.ensures.adopted.part
 
 pub returns-in-Ok-clause-disks : goal.returns-in-Ok-clause-disks
-returns-in-Ok-clause-disks g c = rw c.close.ensures (both_counted g.D.Disk.faults g.D.Disk.loans g.E.Disk.faults g.E.Disk.loans _ _ c.args.old.now c.adopt_alike.new.old c.args.reel.disk c.adopt_alike.new.reel.disk c.in-Ok.ensures.disks)
+returns-in-Ok-clause-disks g c = rw c.close.ensures (both_counted _ _ c.in-Ok.ensures.disks)
 
 pub returns-in-Err-clause-part : goal.returns-in-Err-clause-part
-returns-in-Err-clause-part g c = subst (λ d. IsPart g.N.Work.job g.N.Work.files g.E.Disk.tells g.E.Disk.history c.args.reel.ledger.gates c.args.reel.disk d) (sym c.close-in-Err.ensures) c.adopt_alike.ensures.adopted.part
+returns-in-Err-clause-part g c = subst (λ d. IsPart g.N.Work.job g.N.Work.files g.E.Disk.tells c.args.reel.ledger.gates (g.E.Disk.state c.args.reel.disk) (g.E.Disk.state d)) (sym c.close-in-Err.ensures) c.adopt_alike.ensures.adopted.part
 
 pub returns-in-Err-clause-disks : goal.returns-in-Err-clause-disks
-returns-in-Err-clause-disks g c = rw c.close-in-Err.ensures (both_passed g.D.Disk.faults g.D.Disk.loans g.E.Disk.faults g.E.Disk.loans c.in-Err.fault c.args.old.now c.adopt_alike.new.old c.args.reel.disk c.adopt_alike.new.reel.disk c.in-Err.ensures.disks)
+returns-in-Err-clause-disks g c = rw c.close-in-Err.ensures (both_passed c.in-Err.fault c.in-Err.ensures.disks)
 
 pub returns-in-Ok-clause-sealed : goal.returns-in-Ok-clause-sealed
 returns-in-Ok-clause-sealed g c told =
-    subst (λ d. IsInForce Two (view_of (g.E.Disk.history d))) (sym c.close.ensures) (c.acks.ensures.reel.agrees c.in-Ok.ensures.adopted.stays_open told).sealed
+    subst (λ d. IsInForce Two (view_of (g.E.Disk.state d).history)) (sym c.close.ensures) (c.acks.ensures.reel.agrees c.in-Ok.ensures.adopted.stays_open told).sealed

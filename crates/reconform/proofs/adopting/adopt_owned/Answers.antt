@@ -1,6 +1,7 @@
 use Rattle.std.proofs.Common.{◌≡◌, inl, refl, sym, ap, ◌∙◌, subst}
 use Rattle.std.specs.Prelude.{Err}
 use Rattle.reel_disk.specs.Disk.{view_of}
+use Rattle.reel_disk.proofs.Leaving.{disk_as}
 use Rattle.reel_disk.proofs.Sparing.{spares_along, spares_wider}
 use Rattle.resume_ledger.specs.Ledger.{IsLedgerFile, IsWrittenLedgerFile}
 use Rattle.resume_ledger.specs.declared.attach.OpenFault.TheVariants as cause
@@ -18,8 +19,8 @@ use Rattle.reconform.proofs.adopting.adopt_owned.Goals as goal
 
 pub returns-in-Ok-clause-answer : goal.returns-in-Ok-clause-answer
 returns-in-Ok-clause-answer g c =
-    opened_answer g.N.Work.job g.O.Work.job g.D.Disk.tells g.E.Disk.tells c.requires.tells c.args.view.now (g.D.Disk.history c.args.old.now) (g.D.Disk.history c.adopt_opened.new.old)
-    (g.E.Disk.history c.args.disk) (g.E.Disk.history c.adopt_opened.result.1) c.in-Ok.reel c.requires.looked.viewed
+    opened_answer g.N.Work.job g.O.Work.job g.D.Disk.tells g.E.Disk.tells c.requires.tells c.args.view.now (g.D.Disk.state c.args.old.now).history (g.D.Disk.state c.adopt_opened.new.old).history
+    (g.E.Disk.state c.args.disk).history (g.E.Disk.state c.adopt_opened.result.1).history c.in-Ok.reel c.requires.looked.viewed
     (λ told. record { fit = (c.in-Ok.ensures.answer told).fit; kept_are = (c.in-Ok.ensures.answer told).gates }) c.in-Ok.ensures.opening.1 c.adopt_opened.result.0 c.adopt_opened.ensures.answer
 
 pub returns-in-Ok-clause-not_old : goal.returns-in-Ok-clause-not_old
@@ -31,7 +32,7 @@ returns-in-Ok-clause-safe g c =
     let begun = c.in-Ok.ensures in
     let part = c.adopt_opened.ensures.part in
     let gates = c.in-Ok.reel.ledger.gates in
-    let held = view_of (g.E.Disk.history c.args.disk) in
+    let held = view_of (g.E.Disk.state c.args.disk).history in
     let own = IsOwnFile g.N.Work.job held in
     let may = MayWrite g.N.Work.job held in
     record {
@@ -45,31 +46,30 @@ returns-in-Ok-clause-safe g c =
 
 pub returns-in-Err-clause-answer : goal.returns-in-Err-clause-answer
 returns-in-Err-clause-answer g c =
-    let h = g.D.Disk.history c.args.old.now in
-    subst (λ (e : AdoptFault). IsWhyUnadopted g.N.Work.job g.O.Work.job g.E.Disk.tells h h (g.E.Disk.history c.args.disk) (g.E.Disk.history c.in-Err.disk) e) (sym c.of_new.ensures)
-    (new_refused g.N.Work.job g.O.Work.job g.E.Disk.tells h h (g.E.Disk.history c.args.disk) (g.E.Disk.history c.in-Err.disk) (λ told. (c.requires.looked.viewed (c.requires.tells ∙ told)).fit) c.in-Err.fault c.in-Err.ensures.known c.in-Err.ensures.answer)
+    let h = (g.D.Disk.state c.args.old.now).history in
+    subst (λ (e : AdoptFault). IsWhyUnadopted g.N.Work.job g.O.Work.job g.E.Disk.tells h h (g.E.Disk.state c.args.disk).history (g.E.Disk.state c.in-Err.disk).history e) (sym c.of_new.ensures)
+    (new_refused g.N.Work.job g.O.Work.job g.E.Disk.tells h h (g.E.Disk.state c.args.disk).history (g.E.Disk.state c.in-Err.disk).history (λ told. (c.requires.looked.viewed (c.requires.tells ∙ told)).fit) c.in-Err.fault c.in-Err.ensures.known c.in-Err.ensures.answer)
 
 pub returns-in-Err-clause-not_old : goal.returns-in-Err-clause-not_old
 returns-in-Err-clause-not_old g c = subst (λ (e : AdoptFault). IsOfOld e → ⊥) (sym c.of_new.ensures) (never_old c.in-Err.fault)
 
 pub returns-in-Ok-clause-disks : goal.returns-in-Ok-clause-disks
 returns-in-Ok-clause-disks g c =
-    both_behind g.D.Disk.faults g.D.Disk.loans g.E.Disk.faults g.E.Disk.loans _ _ (λ is. is) (λ is. is) c.args.old.now c.args.old.now c.adopt_opened.new.old c.args.disk c.in-Ok.reel.disk c.adopt_opened.result.1 refl (c.in-Ok.ensures.steady (λ same. cc)) refl c.in-Ok.ensures.same
+    both_behind (λ is. is) (λ is. is) refl (c.in-Ok.ensures.disk.counts.steady (λ same. cc)) refl c.in-Ok.ensures.disk.lent
     c.adopt_opened.ensures.disks
 
 pub returns-in-Err-clause-still : goal.returns-in-Err-clause-still
-returns-in-Err-clause-still g c told = still_itself (g.D.Disk.history c.args.old.now)
+returns-in-Err-clause-still g c told = still_itself (g.D.Disk.state c.args.old.now).history
 
 pub returns-in-Err-clause-disks : goal.returns-in-Err-clause-disks
 returns-in-Err-clause-disks g c =
-    new_asked g.D.Disk.faults g.D.Disk.loans g.E.Disk.faults g.E.Disk.loans _ c.args.old.now c.args.disk c.in-Err.disk
-    (record { later = c.in-Err.ensures.cause.later; failed = λ is. c.in-Err.ensures.cause.failed (ap Err (new_disk c.in-Err.fault (sym c.of_new.ensures ∙ err_is _ _ is))) })
-    (λ other. c.in-Err.ensures.steady (λ same. let is : c.in-Err.fault ≡ cause.DiskFault = cc in other (ap Err (c.of_new.ensures ∙ ap by_new is)))) c.in-Err.ensures.same
+    new_asked (disk_as (λ is. ap Err (new_disk c.in-Err.fault (sym c.of_new.ensures ∙ err_is _ _ is)))
+    (λ same. let is : c.in-Err.fault ≡ cause.DiskFault = cc in ap Err (c.of_new.ensures ∙ ap by_new is)) c.in-Err.ensures.disk)
 
 pub returns-in-Err-clause-safe : goal.returns-in-Err-clause-safe
 returns-in-Err-clause-safe g c =
     let begun = c.in-Err.ensures in
-    let held = view_of (g.E.Disk.history c.args.disk) in
+    let held = view_of (g.E.Disk.state c.args.disk).history in
     record {
       run = begun.run;
       sound_has = begun.sound_has;

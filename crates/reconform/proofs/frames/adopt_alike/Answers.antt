@@ -18,15 +18,15 @@ returns-clause-adopted g c = record {
   stays = same_itself c.args.reel.now;
   stays_open = c.requires.is_open;
   end = tt;
-  part = part_itself g.N.Work.job g.N.Work.files g.E.Disk.tells g.E.Disk.history c.args.reel.now.ledger.gates c.args.reel.now.disk;
-  still = λ told. still_itself (g.D.Disk.history c.args.old.now);
+  part = part_itself;
+  still = λ told. still_itself (g.D.Disk.state c.args.old.now).history;
 }
 
 pub returns-in-Err-clause-adopted : goal.returns-in-Err-clause-adopted
-returns-in-Err-clause-adopted g c = adopted_none g.N.Work.job g.O.Work.job g.N.Work.files g.D.Disk.tells g.D.Disk.history g.E.Disk.tells g.E.Disk.history c.args.view.now c.args.old.now c.args.reel.now
+returns-in-Err-clause-adopted g c = adopted_none g.N.Work.job g.O.Work.job g.N.Work.files g.D.Disk.tells g.D.Disk.state g.E.Disk.tells g.E.Disk.state c.args.view.now c.args.old.now c.args.reel.now
 
 pub returns-clause-disks : goal.returns-clause-disks
-returns-clause-disks g c = both_itself g.D.Disk.faults g.D.Disk.loans g.E.Disk.faults g.E.Disk.loans _ (λ is. cc) c.args.old.now c.args.reel.now.disk
+returns-clause-disks g c = both_itself (λ is. cc)
 
 pub returns-in-Err-clause-disks : goal.returns-in-Err-clause-disks
-returns-in-Err-clause-disks g c = both_itself g.D.Disk.faults g.D.Disk.loans g.E.Disk.faults g.E.Disk.loans _ (λ is. cc) c.args.old.now c.args.reel.now.disk
+returns-in-Err-clause-disks g c = both_itself (λ is. cc)

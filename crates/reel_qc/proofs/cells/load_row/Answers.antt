@@ -19,7 +19,7 @@ loop-c-preserved g c =
     let before = c.loop-c.invariant in
     let job = c.args.job.now in
     let view = c.args.view.now in
-    let files : Files = view_of (g.D.Disk.history c.args.disk.now) in
+    let files : Files = view_of (g.D.Disk.state c.args.disk.now).history in
     let exact : ℕ → Option (List ℕ) = λ k. picture_at job view files (c.args.row * 8 + k) in
     let frame = c.frame_at-frame.ensures ∙ ap (λ (l : List ℕ). slice_get l (c.args.row * 8 + c.loop-c.c)) c.requires.frames in
     let here = cell_as job (g.D.Disk.tells ≡ true) _ (exact c.loop-c.c) _
@@ -31,6 +31,6 @@ loop-c-preserved g c =
           (subst (λ n. IsCell job (g.D.Disk.tells ≡ true) (exact n) c.in-Ok.cell) (sym before.size) here);
       size = omega (arith, long, before.size);
       piece = search rules;
-      same = c.in-Ok.ensures.same ∙ before.same;
+      same = c.in-Ok.ensures.disk.lent ∙ before.same;
       faults = search rules;
     }

@@ -7,10 +7,10 @@ use Rattle.reel_qc.proofs.cells.load_row.Given as goal
 -- the cells before c
 abbrev pub invariant-loop-c : goal.invariant-loop-c
 invariant-loop-c g l = record {
-  still : g.D.Disk.tells ≡ true → IsStill (g.D.Disk.history l.fn.disk) (g.D.Disk.history l.disk);
-  pictures : HasPictures l.job (g.D.Disk.tells ≡ true) (λ c. picture_at l.job l.view (view_of (g.D.Disk.history l.fn.disk)) (l.row * 8 + c)) l.cells.items;
+  still : g.D.Disk.tells ≡ true → IsStill (g.D.Disk.state l.fn.disk).history (g.D.Disk.state l.disk).history;
+  pictures : HasPictures l.job (g.D.Disk.tells ≡ true) (λ c. picture_at l.job l.view (view_of (g.D.Disk.state l.fn.disk).history) (l.row * 8 + c)) l.cells.items;
   size : length l.cells.items ≡ l.c;
   piece : length l.buffers.piece.items ≡ 65536;
-  same : g.D.Disk.loans l.disk ≡ g.D.Disk.loans l.fn.disk;
-  faults : g.D.Disk.faults l.disk ≡ g.D.Disk.faults l.fn.disk;
+  same : (g.D.Disk.state l.disk).loans ≡ (g.D.Disk.state l.fn.disk).loans;
+  faults : (g.D.Disk.state l.disk).faults ≡ (g.D.Disk.state l.fn.disk).faults;
 }

@@ -12,7 +12,7 @@ use Rattle.reel_qc.proofs.counting.count_file.Goals as goal
 pub loop-done-init : goal.loop-done-init
 loop-done-init g c = record {
   still = search rules;
-  counted = none_counted _ _ _ c.args.counts.now (λ told. none_read 0 (view_of (g.D.Disk.history c.args.disk.now) c.args.id)) c.type_inv.counts;
+  counted = none_counted _ _ _ c.args.counts.now (λ told. none_read 0 (view_of (g.D.Disk.state c.args.disk.now).history c.args.id)) c.type_inv.counts;
   within = omega arith;
   same = search rules;
   faults = search rules;
@@ -22,8 +22,8 @@ pub loop-done-preserved : goal.loop-done-preserved
 loop-done-preserved g c =
     let inv = c.loop-done.invariant in
     let kinds = map (λ p. p.kind) c.args.probes.now in
-    let file = view_of (g.D.Disk.history c.args.disk.now) c.args.id in
-    let later = view_of (g.D.Disk.history c.loop-done.disk) c.args.id in
+    let file = view_of (g.D.Disk.state c.args.disk.now).history c.args.id in
+    let later = view_of (g.D.Disk.state c.loop-done.disk).history c.args.id in
     let size : length (take c.min-room.result c.loop-done.words) ≡ c.min-room.result =
     length-take-le c.min-room.result c.loop-done.words (omega (arith, c.min-room.ensures, c.loop-done.auto.words)) in
     record {
@@ -33,6 +33,6 @@ loop-done-preserved g c =
           (λ told. parts_read c.loop-done.done c.min-room.result file later (ap (λ view. view c.args.id) (still_view _ _ (inv.still told))))
           (subst (λ n. AddsCounts kinds (g.D.Disk.tells ≡ true) (words_in c.loop-done.done n later) n c.loop-done.counts c.count_part.new.counts) size c.in-Ok.ensures.added);
       within = omega (arith, c.min-room.ensures, inv.within, c.loop-done-test.true);
-      same = c.in-Ok.ensures.same ∙ inv.same;
+      same = c.in-Ok.ensures.disk.lent ∙ inv.same;
       faults = search rules;
     }

@@ -7,11 +7,11 @@ use Rattle.reel_qc.proofs.counting.count_file.Given as goal
 -- the words up to there are counted
 abbrev pub invariant-loop-done : goal.invariant-loop-done
 invariant-loop-done g l = record {
-  still : g.D.Disk.tells ≡ true → IsStill (g.D.Disk.history l.fn.disk) (g.D.Disk.history l.disk);
-  counted : AddsCounts (map (λ p. p.kind) l.probes) (g.D.Disk.tells ≡ true) (words_in 0 l.done (view_of (g.D.Disk.history l.fn.disk) l.id)) l.done l.fn.counts l.counts;
+  still : g.D.Disk.tells ≡ true → IsStill (g.D.Disk.state l.fn.disk).history (g.D.Disk.state l.disk).history;
+  counted : AddsCounts (map (λ p. p.kind) l.probes) (g.D.Disk.tells ≡ true) (words_in 0 l.done (view_of (g.D.Disk.state l.fn.disk).history l.id)) l.done l.fn.counts l.counts;
   within : l.done ≤ l.most;
-  same : g.D.Disk.loans l.disk ≡ g.D.Disk.loans l.fn.disk;
-  faults : g.D.Disk.faults l.disk ≡ g.D.Disk.faults l.fn.disk;
+  same : (g.D.Disk.state l.disk).loans ≡ (g.D.Disk.state l.fn.disk).loans;
+  faults : (g.D.Disk.state l.disk).faults ≡ (g.D.Disk.state l.fn.disk).faults;
 }
 
 abbrev pub decreases-loop-done : goal.decreases-loop-done

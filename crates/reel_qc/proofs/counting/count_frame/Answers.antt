@@ -11,7 +11,7 @@ pub returns-in-Ok-count_file-clause-counted : goal.returns-in-Ok-count_file-clau
 returns-in-Ok-count_file-clause-counted g c =
     let probes = c.args.probes.now in
     let kinds = map (λ p. p.kind) probes in
-    let files = view_of (g.D.Disk.history c.args.disk.now) in
+    let files = view_of (g.D.Disk.state c.args.disk.now).history in
     let new : List ℕ = c.count_file.new.counts in
     let has = c.in-Ok-count_file.ensures.added in
     let zeros = c.deref_mut-3.ensures.value ∙ c.in-Ok.ensures.items_if_clones_equal (λ y same. same) ∙ ap (λ n. replicate n 0) (sym (length-map probes (λ p. p.kind))) in

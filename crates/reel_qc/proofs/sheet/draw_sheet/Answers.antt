@@ -10,7 +10,7 @@ use Rattle.reel_qc.proofs.sheet.draw_sheet.Goals as goal
 pub loop-row-init : goal.loop-row-init
 loop-row-init g c = record {
   still = search rules;
-  drawn = rows_begin c.args.tone.now.table c.args.job.now (g.D.Disk.tells ≡ true) c.args.view.now (view_of (g.D.Disk.history c.args.disk.now)) (header_of (sheet_head c.args.job.now)) _ _ c.in-Ok.ensures.header c.in-Ok.ensures.greatest;
+  drawn = rows_begin c.args.tone.now.table c.args.job.now (g.D.Disk.tells ≡ true) c.args.view.now (view_of (g.D.Disk.state c.args.disk.now).history) (header_of (sheet_head c.args.job.now)) _ _ c.in-Ok.ensures.header c.in-Ok.ensures.greatest;
   piece = search rules;
   same = search rules;
   faults = search rules;
@@ -21,16 +21,16 @@ loop-row-preserved g c =
     let before = c.loop-row.invariant in
     record {
       still = λ told. still_along _ _ _ (before.still told) (c.draw_row.ensures.still told);
-      drawn = rows_more c.args.tone.now.table c.args.job.now (g.D.Disk.tells ≡ true) c.args.view.now (view_of (g.D.Disk.history c.args.disk.now)) c.loop-row.row _ _ _ _ _ _ _
+      drawn = rows_more c.args.tone.now.table c.args.job.now (g.D.Disk.tells ≡ true) c.args.view.now (view_of (g.D.Disk.state c.args.disk.now).history) c.loop-row.row _ _ _ _ _ _ _
           (λ told. still_view _ _ (before.still told)) before.drawn c.in-Ok-draw_row.ensures.drawn;
       piece = search rules;
-      same = c.draw_row.ensures.same ∙ before.same;
+      same = c.draw_row.ensures.disk.lent ∙ before.same;
       faults = search rules;
     }
 
 pub returns-clause-drawn : goal.returns-clause-drawn
 returns-clause-drawn g c =
-    rows_whole c.args.tone.now.table c.args.job.now (g.D.Disk.tells ≡ true) c.args.view.now (view_of (g.D.Disk.history c.args.disk.now)) c.loop-row.row _ _ _ _
+    rows_whole c.args.tone.now.table c.args.job.now (g.D.Disk.tells ≡ true) c.args.view.now (view_of (g.D.Disk.state c.args.disk.now).history) c.loop-row.row _ _ _ _
     (omega (arith, c.loop-row-test.false, c.loop-row.auto.row-end) ∙ c.rows_of-rows.ensures.rows) c.loop-row.invariant.drawn
 
 pub returns-in-Err-clause-still : goal.returns-in-Err-clause-still

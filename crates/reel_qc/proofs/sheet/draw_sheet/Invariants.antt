@@ -9,10 +9,10 @@ use Rattle.reel_qc.proofs.sheet.draw_sheet.Given as goal
 -- the rows above are drawn
 abbrev pub invariant-loop-row : goal.invariant-loop-row
 invariant-loop-row g l = record {
-  still : g.D.Disk.tells ≡ true → IsStill (g.D.Disk.history l.fn.disk) (g.D.Disk.history l.disk);
-  drawn : HasDrawn l.tone.table (g.D.Disk.tells ≡ true) (flat_map (line_colours l.job l.view (view_of (g.D.Disk.history l.fn.disk))) (range_with_len 0 (l.row * cell_height l.job)))
+  still : g.D.Disk.tells ≡ true → IsStill (g.D.Disk.state l.fn.disk).history (g.D.Disk.state l.disk).history;
+  drawn : HasDrawn l.tone.table (g.D.Disk.tells ≡ true) (flat_map (line_colours l.job l.view (view_of (g.D.Disk.state l.fn.disk).history)) (range_with_len 0 (l.row * cell_height l.job)))
       (header_of (sheet_head l.job)) l.drawing.bytes.items 0 l.drawing.greatest;
   piece : length l.buffers.piece.items ≡ 65536;
-  same : g.D.Disk.loans l.disk ≡ g.D.Disk.loans l.fn.disk;
-  faults : g.D.Disk.faults l.disk ≡ g.D.Disk.faults l.fn.disk;
+  same : (g.D.Disk.state l.disk).loans ≡ (g.D.Disk.state l.fn.disk).loans;
+  faults : (g.D.Disk.state l.disk).faults ≡ (g.D.Disk.state l.fn.disk).faults;
 }

@@ -24,19 +24,19 @@ pub returns-in-Err-clause-past : goal.returns-in-Err-clause-past
 returns-in-Err-clause-past g c told = passes_extends _ _ _ (c.in-Err.ensures.still told).passes
 
 pub returns-in-Ok-write_firmly-clause-sound : goal.returns-in-Ok-write_firmly-clause-sound
-returns-in-Ok-write_firmly-clause-sound g c told world = stays_sound (g.D.Disk.history c.args.disk.now) _ (sheet_spares _ _ _ (c.in-Ok.ensures.still told) (c.write_firmly.ensures.put told) (c.write_firmly.ensures.spares told)) c.args.job.now world
+returns-in-Ok-write_firmly-clause-sound g c told world = stays_sound (g.D.Disk.state c.args.disk.now).history _ (sheet_spares _ _ _ (c.in-Ok.ensures.still told) (c.write_firmly.ensures.put told) (c.write_firmly.ensures.spares told)) c.args.job.now world
 
 pub returns-in-Ok-write_firmly-clause-kept : goal.returns-in-Ok-write_firmly-clause-kept
-returns-in-Ok-write_firmly-clause-kept g c told i = stays_acked (g.D.Disk.history c.args.disk.now) _ (sheet_spares _ _ _ (c.in-Ok.ensures.still told) (c.write_firmly.ensures.put told) (c.write_firmly.ensures.spares told)) c.args.job.now i
+returns-in-Ok-write_firmly-clause-kept g c told i = stays_acked (g.D.Disk.state c.args.disk.now).history _ (sheet_spares _ _ _ (c.in-Ok.ensures.still told) (c.write_firmly.ensures.put told) (c.write_firmly.ensures.spares told)) c.args.job.now i
 
 pub returns-clause-sound : goal.returns-clause-sound
-returns-clause-sound g c told world = stays_sound (g.D.Disk.history c.args.disk.now) _ (sheet_spares _ _ _ (c.in-Ok.ensures.still told) (c.write_firmly.ensures.put told) (c.write_firmly.ensures.spares told)) c.args.job.now world
+returns-clause-sound g c told world = stays_sound (g.D.Disk.state c.args.disk.now).history _ (sheet_spares _ _ _ (c.in-Ok.ensures.still told) (c.write_firmly.ensures.put told) (c.write_firmly.ensures.spares told)) c.args.job.now world
 
 pub returns-clause-kept : goal.returns-clause-kept
-returns-clause-kept g c told i = stays_acked (g.D.Disk.history c.args.disk.now) _ (sheet_spares _ _ _ (c.in-Ok.ensures.still told) (c.write_firmly.ensures.put told) (c.write_firmly.ensures.spares told)) c.args.job.now i
+returns-clause-kept g c told i = stays_acked (g.D.Disk.state c.args.disk.now).history _ (sheet_spares _ _ _ (c.in-Ok.ensures.still told) (c.write_firmly.ensures.put told) (c.write_firmly.ensures.spares told)) c.args.job.now i
 
 pub returns-in-Err-clause-sound : goal.returns-in-Err-clause-sound
-returns-in-Err-clause-sound g c told world = stays_sound (g.D.Disk.history c.args.disk.now) _ (still_spares _ _ _ (c.in-Err.ensures.still told)) c.args.job.now world
+returns-in-Err-clause-sound g c told world = stays_sound (g.D.Disk.state c.args.disk.now).history _ (still_spares _ _ _ (c.in-Err.ensures.still told)) c.args.job.now world
 
 pub returns-in-Err-clause-kept : goal.returns-in-Err-clause-kept
-returns-in-Err-clause-kept g c told i = stays_acked (g.D.Disk.history c.args.disk.now) _ (still_spares _ _ _ (c.in-Err.ensures.still told)) c.args.job.now i
+returns-in-Err-clause-kept g c told i = stays_acked (g.D.Disk.state c.args.disk.now).history _ (still_spares _ _ _ (c.in-Err.ensures.still told)) c.args.job.now i

@@ -13,7 +13,7 @@ returns-clause-bytes g c told = bytes_drawn _ _ _ _ _ _ _ c.in-Ok-draw_sheet.ens
 pub returns-clause-peak : goal.returns-clause-peak
 returns-clause-peak g c told =
     let planned = c.recall.ensures.job.planned in
-    let files = view_of (g.D.Disk.history c.args.disk.now) in
+    let files = view_of (g.D.Disk.state c.args.disk.now).history in
     let high = some_lines c.args.job.now c.in-Ok.frames.items c.in-Ok.ensures.frames c.in-Ok.ensures.some planned.some_height in
     peak_drawn _ _ _ _ _ _ _ c.at.ensures.table (some_codes c.args.job.now c.args.view.now files (omega (arith, planned.some_width)) high) c.in-Ok-draw_sheet.ensures.drawn c.at.ensures.value told
 

@@ -9,7 +9,7 @@ use Rattle.reel_qc.proofs.table.put_rows.Goals as goal
 pub loop-i-preserved : goal.loop-i-preserved
 loop-i-preserved g c =
     let before = c.loop-i.invariant in
-    let files = view_of (g.D.Disk.history c.args.disk.now) in
+    let files = view_of (g.D.Disk.state c.args.disk.now).history in
     let here = rows_as _ c.args.job.now (g.D.Disk.tells ≡ true) files _ _ _ _ _ (λ told. still_view _ _ (before.still told)) c.in-Ok.ensures.rows in
     record {
       still = λ told. still_along _ _ _ (before.still told) (c.in-Ok.ensures.still told);
@@ -18,6 +18,6 @@ loop-i-preserved g c =
       few = omega (arith, before.few, c.in-Ok.ensures.few);
       piece = search rules;
       room = c.in-Ok.ensures.room ∙ before.room;
-      same = c.in-Ok.ensures.same ∙ before.same;
+      same = c.in-Ok.ensures.disk.lent ∙ before.same;
       faults = search rules;
     }

@@ -8,11 +8,11 @@ use Rattle.reel_qc.proofs.table.put_rows.Given as goal
 -- the lines of the frames below i
 abbrev pub invariant-loop-i : goal.invariant-loop-i
 invariant-loop-i g l = record {
-  still : g.D.Disk.tells ≡ true → IsStill (g.D.Disk.history l.fn.disk) (g.D.Disk.history l.disk);
-  rows : HasRows (map (λ p. p.kind) l.probes) l.job (g.D.Disk.tells ≡ true) (view_of (g.D.Disk.history l.fn.disk)) (acked_of l.view (range_with_len 0 l.i)) l.fn.text.items l.text.items l.frames;
+  still : g.D.Disk.tells ≡ true → IsStill (g.D.Disk.state l.fn.disk).history (g.D.Disk.state l.disk).history;
+  rows : HasRows (map (λ p. p.kind) l.probes) l.job (g.D.Disk.tells ≡ true) (view_of (g.D.Disk.state l.fn.disk).history) (acked_of l.view (range_with_len 0 l.i)) l.fn.text.items l.text.items l.frames;
   few : l.frames ≤ l.i;
   piece : length l.buffers.piece.items ≡ 65536;
   room : length l.buffers.words.items ≡ length l.fn.buffers.words.items;
-  same : g.D.Disk.loans l.disk ≡ g.D.Disk.loans l.fn.disk;
-  faults : g.D.Disk.faults l.disk ≡ g.D.Disk.faults l.fn.disk;
+  same : (g.D.Disk.state l.disk).loans ≡ (g.D.Disk.state l.fn.disk).loans;
+  faults : (g.D.Disk.state l.disk).faults ≡ (g.D.Disk.state l.fn.disk).faults;
 }

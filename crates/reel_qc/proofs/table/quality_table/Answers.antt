@@ -12,7 +12,7 @@ returns-in-Ok-put_frames-clause-table g c told =
 pub returns-in-Ok-put_frames-clause-sound : goal.returns-in-Ok-put_frames-clause-sound
 returns-in-Ok-put_frames-clause-sound g c told world of sound =
     returns-in-Ok-put_frames-clause-table g c told
-    ∙ sound_table c.args.job.now c.args.view.now (view_of (g.D.Disk.history c.args.disk.now)) world of sound (map (λ p. p.kind) c.args.probes.now)
+    ∙ sound_table c.args.job.now c.args.view.now (view_of (g.D.Disk.state c.args.disk.now).history) world of sound (map (λ p. p.kind) c.args.probes.now)
 
 pub returns-in-Ok-put_frames-clause-known : goal.returns-in-Ok-put_frames-clause-known
 returns-in-Ok-put_frames-clause-known g c =

@@ -13,4 +13,4 @@ returns-in-Ok-read_words-clause-words g c told =
     c.truncate.ensures.items
     ∙ kept read.count c.resize.new.self.len c.read_words.new.words _ (omega (arith, read.ensures.few, c.deref_mut-2.ensures.len)) (omega (arith, read.ensures.few, read.ensures.size))
     ∙ read.ensures.words told
-    ∙ (λ t. words_in 0 (room t) (view_of (g.D.Disk.history c.args.disk.now) (c.file_of.ensures t)))
+    ∙ (λ t. words_in 0 (room t) (view_of (g.D.Disk.state c.args.disk.now).history (c.file_of.ensures t)))

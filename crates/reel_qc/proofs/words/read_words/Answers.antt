@@ -10,7 +10,7 @@ use Rattle.reel_qc.proofs.words.read_words.Goals as goal
 pub loop-done-init : goal.loop-done-init
 loop-done-init g c = record {
   still = search rules;
-  words = λ told. none_read c.args.first (view_of (g.D.Disk.history c.args.disk.now) c.args.id);
+  words = λ told. none_read c.args.first (view_of (g.D.Disk.state c.args.disk.now).history c.args.id);
   few = omega arith;
   small = λ k. Fits-lt-pow {w = w32} (c.type_inv.words k);
   within = omega arith;
@@ -28,15 +28,15 @@ loop-done-preserved g c =
     record {
       still = λ told. still_along _ _ _ (inv.still told) (c.in-Ok.ensures.still told);
       words = λ told.
-          found_more c.args.first c.loop-done.done c.min-count.result c.loop-done.found c.in-Ok.more (view_of (g.D.Disk.history c.args.disk.now) c.args.id)
-          (view_of (g.D.Disk.history c.loop-done.disk) c.args.id) c.loop-done.words c.read_piece.new.words
+          found_more c.args.first c.loop-done.done c.min-count.result c.loop-done.found c.in-Ok.more (view_of (g.D.Disk.state c.args.disk.now).history c.args.id)
+          (view_of (g.D.Disk.state c.loop-done.disk).history c.args.id) c.loop-done.words c.read_piece.new.words
           inside (c.in-Ok.ensures.size ∙ size) (omega (arith, c.in-Ok.ensures.few, size))
           (ap (λ view. view c.args.id) (still_view _ _ (inv.still told))) (inv.words told)
-          (c.in-Ok.ensures.words told ∙ ap (λ n. words_in (c.args.first + c.loop-done.done) n (view_of (g.D.Disk.history c.loop-done.disk) c.args.id)) size);
+          (c.in-Ok.ensures.words told ∙ ap (λ n. words_in (c.args.first + c.loop-done.done) n (view_of (g.D.Disk.state c.loop-done.disk).history c.args.id)) size);
       few = omega (arith, inv.few, c.in-Ok.ensures.few, size);
       small = λ k. Fits-lt-pow {w = w32} (c.type_inv.words k);
       within = omega (arith, room, inv.within, c.loop-done-test.true);
-      same = c.in-Ok.ensures.same ∙ inv.same;
+      same = c.in-Ok.ensures.disk.lent ∙ inv.same;
       faults = search rules;
     }
 

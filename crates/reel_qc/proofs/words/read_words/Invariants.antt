@@ -6,13 +6,13 @@ use Rattle.reel_qc.proofs.words.read_words.Given as goal
 -- the words up to there are found
 abbrev pub invariant-loop-done : goal.invariant-loop-done
 invariant-loop-done g l = record {
-  still : g.D.Disk.tells ≡ true → IsStill (g.D.Disk.history l.fn.disk) (g.D.Disk.history l.disk);
-  words : g.D.Disk.tells ≡ true → take l.found l.words ≡ words_in l.first l.done (view_of (g.D.Disk.history l.fn.disk) l.id);
+  still : g.D.Disk.tells ≡ true → IsStill (g.D.Disk.state l.fn.disk).history (g.D.Disk.state l.disk).history;
+  words : g.D.Disk.tells ≡ true → take l.found l.words ≡ words_in l.first l.done (view_of (g.D.Disk.state l.fn.disk).history l.id);
   few : l.found ≤ l.done;
   small : (k : ℕ) → get_or l.words k 0 < 2 ^ 32;
   within : l.done ≤ l.most;
-  same : g.D.Disk.loans l.disk ≡ g.D.Disk.loans l.fn.disk;
-  faults : g.D.Disk.faults l.disk ≡ g.D.Disk.faults l.fn.disk;
+  same : (g.D.Disk.state l.disk).loans ≡ (g.D.Disk.state l.fn.disk).loans;
+  faults : (g.D.Disk.state l.disk).faults ≡ (g.D.Disk.state l.fn.disk).faults;
 }
 
 abbrev pub decreases-loop-done : goal.decreases-loop-done

@@ -7,11 +7,11 @@ use Rattle.reel_writer.proofs.ahead.read_ahead.Given as goal
 -- the rooms so far have the folder's files
 abbrev pub invariant-loop-n : goal.invariant-loop-n
 invariant-loop-n g l = record {
-  still : g.D.Disk.tells ≡ true → IsStill (g.D.Disk.history l.fn.disk) (g.D.Disk.history l.disk);
-  files : g.D.Disk.tells ≡ true → (k : ℕ) (d : Room) → k < l.n → HasFile l.job (view_of (g.D.Disk.history l.fn.disk)) (get_or l.rooms k d);
+  still : g.D.Disk.tells ≡ true → IsStill (g.D.Disk.state l.fn.disk).history (g.D.Disk.state l.disk).history;
+  files : g.D.Disk.tells ≡ true → (k : ℕ) (d : Room) → k < l.n → HasFile l.job (view_of (g.D.Disk.state l.fn.disk).history) (get_or l.rooms k d);
   count : length l.rooms ≡ length l.fn.rooms;
   within : l.n ≤ length l.rooms;
   ending : l.n-end ≡ length l.rooms;
-  same : g.D.Disk.loans l.disk ≡ g.D.Disk.loans l.fn.disk;
-  faults : g.D.Disk.faults l.disk ≡ g.D.Disk.faults l.fn.disk;
+  same : (g.D.Disk.state l.disk).loans ≡ (g.D.Disk.state l.fn.disk).loans;
+  faults : (g.D.Disk.state l.disk).faults ≡ (g.D.Disk.state l.fn.disk).faults;
 }

@@ -1,4 +1,4 @@
-use Rattle.std.proofs.Common.{List, subst, sym, true}
+use Rattle.std.proofs.Common.{List, subst, sym}
 use Rattle.std.specs.Prelude.{All}
 use Rattle.frame_hash.specs.declared.Room.{Room}
 use Rattle.reel_disk.specs.Disk.{view_of}
@@ -9,11 +9,11 @@ use Rattle.reel_writer.proofs.damage.check.Goals as goal
 
 pub check_all-requires-clause-rooms : goal.check_all-requires-clause-rooms
 check_all-requires-clause-rooms g c told =
-    subst (λ (rooms : List Room). All (HasDigest c.args.job.now (view_of (g.D.Disk.history c.args.disk.now))) rooms) (sym c.deref_mut.ensures.value)
-    (free_digests c.args.job.now (view_of (g.D.Disk.history c.args.disk.now)) _ c.rooms_of-rooms.result.items c.rooms_of-rooms.ensures)
+    subst (λ (rooms : List Room). All (HasDigest c.args.job.now (view_of (g.D.Disk.state c.args.disk.now).history)) rooms) (sym c.deref_mut.ensures.value)
+    (free_digests c.args.job.now (view_of (g.D.Disk.state c.args.disk.now).history) _ c.rooms_of-rooms.result.items c.rooms_of-rooms.ensures)
 
 pub returns-in_default-clause-intact : goal.returns-in_default-clause-intact
-returns-in_default-clause-intact g c told world = sound_intact c.args.job.now c.args.view.now (view_of (g.D.Disk.history c.args.disk.now)) world
+returns-in_default-clause-intact g c told world = sound_intact c.args.job.now c.args.view.now (view_of (g.D.Disk.state c.args.disk.now).history) world
 
 pub returns-clause-intact : goal.returns-clause-intact
-returns-clause-intact g c told world = sound_intact c.args.job.now c.args.view.now (view_of (g.D.Disk.history c.args.disk.now)) world
+returns-clause-intact g c told world = sound_intact c.args.job.now c.args.view.now (view_of (g.D.Disk.state c.args.disk.now).history) world

@@ -10,7 +10,7 @@ use Rattle.reel_writer.proofs.damage.check_all.Goals as goal
 
 pub returns-in-Err-clause-answer : goal.returns-in-Err-clause-answer
 returns-in-Err-clause-answer g c told =
-    first_fault c.args.job.now c.args.view.now (view_of (g.D.Disk.history c.args.disk.now)) c.loop-i.i (c.loop-i.invariant.intact told) c.in-Err.fault
+    first_fault c.args.job.now c.args.view.now (view_of (g.D.Disk.state c.args.disk.now).history) c.loop-i.i (c.loop-i.invariant.intact told) c.in-Err.fault
     (subst (λ (m : Moment). HasCheckedOne c.args.job.now c.args.view.now m.view c.loop-i.i (Err c.in-Err.fault)) (c.loop-i.invariant.still told).same (c.in-Err.ensures.answer told))
 
 pub check_one-requires-clause-rooms : goal.check_one-requires-clause-rooms
@@ -22,7 +22,7 @@ loop-i-preserved g c =
     let more : c.in-Ok.more ≡ cond (is_some (hash_at c.args.view.now c.loop-i.i)) 1 0 = c.in-Ok.ensures.known in
     record {
       still = λ told. still_along _ _ _ (c.loop-i.invariant.still told) (c.in-Ok.ensures.still told);
-      intact = λ told. intact_more c.args.job.now c.args.view.now (view_of (g.D.Disk.history c.args.disk.now)) c.loop-i.i (c.loop-i.invariant.intact told)
+      intact = λ told. intact_more c.args.job.now c.args.view.now (view_of (g.D.Disk.state c.args.disk.now).history) c.loop-i.i (c.loop-i.invariant.intact told)
           (subst (λ (m : Moment). HasCheckedOne c.args.job.now c.args.view.now m.view c.loop-i.i (Ok c.in-Ok.more)) (c.loop-i.invariant.still told).same (c.in-Ok.ensures.answer told));
       counted = omega (arith, c.loop-i.invariant.counted, more, counted_more c.args.view.now c.loop-i.i);
       few = omega (arith, c.loop-i.invariant.few, more, one_at_most (is_some (hash_at c.args.view.now c.loop-i.i)));

@@ -10,12 +10,12 @@ use Rattle.reel_writer.proofs.damage.check_all.Given as goal
 -- the frames below i are intact, and their records are counted
 abbrev pub invariant-loop-i : goal.invariant-loop-i
 invariant-loop-i g l = record {
-  still : g.D.Disk.tells ≡ true → IsStill (g.D.Disk.history l.fn.disk) (g.D.Disk.history l.disk);
-  intact : g.D.Disk.tells ≡ true → AreIntact l.job l.view (view_of (g.D.Disk.history l.fn.disk)) l.i;
+  still : g.D.Disk.tells ≡ true → IsStill (g.D.Disk.state l.fn.disk).history (g.D.Disk.state l.disk).history;
+  intact : g.D.Disk.tells ≡ true → AreIntact l.job l.view (view_of (g.D.Disk.state l.fn.disk).history) l.i;
   counted : l.records ≡ count_by is_some (map (hash_at l.view) (range_with_len 0 l.i));
   few : l.records ≤ l.i;
-  rooms : g.D.Disk.tells ≡ true → All (HasDigest l.job (view_of (g.D.Disk.history l.fn.disk))) l.rooms;
+  rooms : g.D.Disk.tells ≡ true → All (HasDigest l.job (view_of (g.D.Disk.state l.fn.disk).history)) l.rooms;
   piece : length l.piece ≡ 65536;
-  same : g.D.Disk.loans l.disk ≡ g.D.Disk.loans l.fn.disk;
-  faults : g.D.Disk.faults l.disk ≡ g.D.Disk.faults l.fn.disk;
+  same : (g.D.Disk.state l.disk).loans ≡ (g.D.Disk.state l.fn.disk).loans;
+  faults : (g.D.Disk.state l.disk).faults ≡ (g.D.Disk.state l.fn.disk).faults;
 }

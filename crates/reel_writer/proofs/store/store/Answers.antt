@@ -24,9 +24,9 @@ pub returns-clause-ledger : goal.returns-clause-ledger
 returns-clause-ledger g c = c.acknowledge.ensures.ledger
 
 pub returns-clause-shown : goal.returns-clause-shown
-returns-clause-shown g c = given_ok c.acknowledge.result (g.D.Disk.tells ≡ true → view_of (g.D.Disk.history c.acknowledge.new.disk) c.args.file ≡ Some c.args.bytes.now)
+returns-clause-shown g c = given_ok c.acknowledge.result (g.D.Disk.tells ≡ true → view_of (g.D.Disk.state c.acknowledge.new.disk).history c.args.file ≡ Some c.args.bytes.now)
     (λ told. shown_still c.args.file c.requires.frame _ _ (c.acknowledge.ensures.past told) (c.acknowledge.ensures.spares told) ∙ (c.in-Ok.ensures.firmly told).there)
 
 pub returns-clause-stored : goal.returns-clause-stored
-returns-clause-stored g c = given_ok c.acknowledge.result (g.D.Disk.tells ≡ true → Surely (moment_of (g.D.Disk.history c.acknowledge.new.disk)) (HasStored c.args.file c.args.bytes.now))
+returns-clause-stored g c = given_ok c.acknowledge.result (g.D.Disk.tells ≡ true → Surely (moment_of (g.D.Disk.state c.acknowledge.new.disk).history) (HasStored c.args.file c.args.bytes.now))
     (λ told. let firmly = c.in-Ok.ensures.firmly told in stored_still c.args.file c.requires.frame _ _ (c.acknowledge.ensures.past told) (c.acknowledge.ensures.spares told) c.args.bytes.now firmly.there firmly.firm)

@@ -1,6 +1,8 @@
-use Rattle.std.proofs.Common.{rules, refl, ◌≡◌, ◌∙◌, ap, sym, subst, length, Bool, List, take, drop, ◌++◌, arith}
+use Rattle.std.proofs.Common.{rules, refl, ◌≡◌, ◌∙◌, ap, sym, subst, length, Bool, List, take, drop, ◌++◌, inl, inr, ℕ}
 use Rattle.std.proofs.lemmas.List.{take_at}
-use Rattle.cf_base.specs.Count.{HasRisen}
+use Rattle.resume_ledger.specs.Body.{closed_body}
+use Rattle.resume_ledger.specs.OpeningCalls.{TakesFrames, FailsFrames}
+use Rattle.reel_disk.proofs.Leaving.{disk_as, disk_done, disk_then}
 use Rattle.resume_ledger.specs.inside.Steps.{IsReadyFor, IsAckedFirmly}
 use Rattle.resume_ledger.specs.Sound.{file_at}
 use Rattle.resume_ledger.proofs.Bodies.{closed_shut}
@@ -24,31 +26,48 @@ returns-in-Ok-record_all-clause-body g c told =
     let full : length c.record_all.new.body ≡ c.args.body.len = size ∙ search rules in
     let same : take c.args.body.len (c.record_all.new.body ++ drop (length c.record_all.new.body) c.args.body.items) ≡ c.record_all.new.body =
     take_at c.record_all.new.body (drop (length c.record_all.new.body) c.args.body.items) c.args.body.len full in
-    subst (IsReadyFor c.args.digest (length c.args.files.now) (file_at c.args.files.now) c.args.size (g.D.Disk.history c.args.disk.now) (g.D.Disk.history c.record_all.new.disk)) (sym same)
-    (taken_ready c.args.digest (length c.args.files.now) (file_at c.args.files.now) c.args.size (g.D.Disk.history c.args.disk.now) long c.requires.most (g.D.Disk.history c.acked_before.new.disk) (g.D.Disk.history c.record_all.new.disk)
-    (c.requires.sealed told) (c.requires.firm told) (c.requires.firm_first told) c.deref.result.now (subst (λ (l : List Bool). IsAckedFirmly c.args.digest (length c.args.files.now) (g.D.Disk.history c.args.disk.now) (g.D.Disk.history c.acked_before.new.disk) l) (sym c.deref.ensures.value) (c.in-Ok.ensures.acked told)) (c.record_all.ensures.still told)
+    subst (IsReadyFor c.args.digest (length c.args.files.now) (file_at c.args.files.now) c.args.size (g.D.Disk.state c.args.disk.now).history (g.D.Disk.state c.record_all.new.disk).history) (sym same)
+    (taken_ready c.args.digest (length c.args.files.now) (file_at c.args.files.now) c.args.size (g.D.Disk.state c.args.disk.now).history long c.requires.most (g.D.Disk.state c.acked_before.new.disk).history (g.D.Disk.state c.record_all.new.disk).history
+    (c.requires.sealed told) (c.requires.firm told) (c.requires.firm_first told) c.deref.result.now (subst (λ (l : List Bool). IsAckedFirmly c.args.digest (length c.args.files.now) (g.D.Disk.state c.args.disk.now).history (g.D.Disk.state c.acked_before.new.disk).history l) (sym c.deref.ensures.value) (c.in-Ok.ensures.acked told)) (c.record_all.ensures.still told)
     c.record_all.new.body c.deref_mut-2.result.now (c.deref_mut-2.ensures.value ∙ c.requires.closed) c.record_all.ensures.size (c.in-Ok-record_all.ensures.recorded told))
 
-pub returns-in-Ok-record_all-clause-cause : goal.returns-in-Ok-record_all-clause-cause
-returns-in-Ok-record_all-clause-cause g c = record { later = omega (arith, c.acked_before.ensures.cause.later, c.record_all.ensures.cause.later); failed = λ bad. cc }
+pub returns-in-Ok-record_all-clause-disk : goal.returns-in-Ok-record_all-clause-disk
+returns-in-Ok-record_all-clause-disk g c = disk_then (λ is. cc) c.in-Ok.ensures.disk (disk_done (λ is. cc) (λ is. cc) c.in-Ok-record_all.ensures.disk)
 
 -- the disk failed
 pub returns-clause-reading : goal.returns-clause-reading
 returns-clause-reading g c told = reading_along _ _ _ (c.acked_before.ensures.reading told) (still_reading _ _ (c.record_all.ensures.still told))
 
-pub returns-clause-same : goal.returns-clause-same
-returns-clause-same g c = c.record_all.ensures.same ∙ c.acked_before.ensures.same
-
-pub returns-clause-cause : goal.returns-clause-cause
-returns-clause-cause g c =
-    let before = c.in-Ok.ensures.steady (λ same. cc) in
-    record {
-      later = omega (arith, c.acked_before.ensures.cause.later, c.record_all.ensures.cause.later);
-      failed = λ bad. subst (λ n. HasRisen n (g.D.Disk.faults c.record_all.new.disk)) before (c.in-Err-record_all.ensures.cause.failed refl);
-    }
+pub returns-clause-disk : goal.returns-clause-disk
+returns-clause-disk g c = disk_then (λ is. cc) c.in-Ok.ensures.disk (disk_as (λ _. refl) (λ _. refl) c.in-Err-record_all.ensures.disk)
 
 pub returns-in-Ok-record_all-clause-known : goal.returns-in-Ok-record_all-clause-known
 returns-in-Ok-record_all-clause-known g c =
     let size : length c.record_all.new.body ≡ length c.args.body.items = c.record_all.ensures.size ∙ ap length c.deref_mut-2.ensures.value in
     let full : length c.record_all.new.body ≡ c.args.body.len = size ∙ search rules in
     ap length (take_at c.record_all.new.body (drop (length c.record_all.new.body) c.args.body.items) c.args.body.len full) ∙ size ∙ c.requires.size
+
+-- the bodies that were judged, begun with and made are those that were read, closed and recorded
+pub returns-in-Ok-record_all-clause-calls : goal.returns-in-Ok-record_all-clause-calls
+returns-in-Ok-record_all-clause-calls g c =
+    let size : length c.record_all.new.body ≡ length c.args.body.items = c.record_all.ensures.size ∙ ap length c.deref_mut-2.ensures.value in
+    let full : length c.record_all.new.body ≡ c.args.body.len = size ∙ search rules in
+    let same : take c.args.body.len (c.record_all.new.body ++ drop (length c.record_all.new.body) c.args.body.items) ≡ c.record_all.new.body =
+    take_at c.record_all.new.body (drop (length c.record_all.new.body) c.args.body.items) c.args.body.len full in
+    let Taken : List Bool → List ℕ → List ℕ → Type 0 = λ gates before after.
+    TakesFrames gates (file_at c.args.files.now) c.args.size (length c.args.files.now) before after (g.D.Disk.state c.acked_before.new.disk).calls (g.D.Disk.state c.record_all.new.disk).calls in
+    let gates = subst (λ l. Taken l c.deref_mut-2.result.now c.record_all.new.body) c.deref.ensures.value c.in-Ok-record_all.ensures.calls in
+    let closed = subst (λ l. Taken c.in-Ok.gates.items l c.record_all.new.body) (c.deref_mut-2.ensures.value ∙ c.requires.closed) gates in
+    (c.in-Ok.gates, (g.D.Disk.state c.acked_before.new.disk).calls, c.in-Ok.ensures.calls, subst (Taken c.in-Ok.gates.items (closed_body c.args.digest (length c.args.files.now))) (sym same) closed)
+
+pub returns-clause-calls : goal.returns-clause-calls
+returns-clause-calls g c =
+    let Failed : List Bool → List ℕ → Type 0 = λ gates before.
+    FailsFrames gates (file_at c.args.files.now) c.args.size (length c.args.files.now) before (g.D.Disk.state c.acked_before.new.disk).calls (g.D.Disk.state c.record_all.new.disk).calls in
+    let gates = subst (λ l. Failed l c.deref_mut-2.result.now) c.deref.ensures.value c.in-Err-record_all.ensures.failed in
+    let closed = subst (Failed c.in-Ok.gates.items) (c.deref_mut-2.ensures.value ∙ c.requires.closed) gates in
+    inr (c.in-Ok.gates, (g.D.Disk.state c.acked_before.new.disk).calls, c.in-Ok.ensures.calls, inr (refl, closed))
+
+-- no memory was left
+pub returns-in_default-clause-calls : goal.returns-in_default-clause-calls
+returns-in_default-clause-calls g c = inr (c.in-Ok.gates, (g.D.Disk.state c.acked_before.new.disk).calls, c.in-Ok.ensures.calls, inl (refl, refl))

@@ -11,7 +11,7 @@ use Rattle.resume_ledger.proofs.sealed.has_seal.Goals as goal
 -- the whole file was read
 pub returns-in-Bytes-eq15-clause-sealed : goal.returns-in-Bytes-eq15-clause-sealed
 returns-in-Bytes-eq15-clause-sealed g c told =
-    let view = view_of (g.D.Disk.history c.args.disk.now) in
+    let view = view_of (g.D.Disk.state c.args.disk.now).history in
     let content = view (layout_of c.args.version).seal in
     let there : HasLength content (There c.in-There-eq15.field-0) = subst (λ id. HasLength (view id) (There c.in-There-eq15.field-0)) c.seal.ensures (c.in-There-eq15.ensures.answer told) in
     let seen = ap (λ m. m.view c.seal-in-There-eq15.result) (c.length.ensures.time told).same ∙ ap view c.seal-in-There-eq15.ensures in
@@ -22,9 +22,9 @@ returns-in-Bytes-eq15-clause-sealed g c told =
 -- it has another length
 pub returns-in_default-read-clause-sealed : goal.returns-in_default-read-clause-sealed
 returns-in_default-read-clause-sealed g c told =
-    let seen = ap (λ m. m.view c.seal-in-There-eq15.result) (c.length.ensures.time told).same ∙ ap (view_of (g.D.Disk.history c.args.disk.now)) c.seal-in-There-eq15.ensures in
+    let seen = ap (λ m. m.view c.seal-in-There-eq15.result) (c.length.ensures.time told).same ∙ ap (view_of (g.D.Disk.state c.args.disk.now).history) c.seal-in-There-eq15.ensures in
     (λ never. cc, λ seal. absurd (other_read c.args.version _ _ _ (c.in_default-read.ensures.answer told) c.read.auto.into c.in_default-read.field-0-test.1 (seen ∙ seal)))
 
 pub returns-in_default-clause-sealed : goal.returns-in_default-clause-sealed
 returns-in_default-clause-sealed g c told =
-    (λ never. cc, λ seal. absurd (other_length c.args.version _ _ (c.in_default.ensures.answer told) c.in_default.field-0-test.1 (ap (view_of (g.D.Disk.history c.args.disk.now)) c.seal.ensures ∙ seal)))
+    (λ never. cc, λ seal. absurd (other_length c.args.version _ _ (c.in_default.ensures.answer told) c.in_default.field-0-test.1 (ap (view_of (g.D.Disk.state c.args.disk.now).history) c.seal.ensures ∙ seal)))

@@ -7,4 +7,4 @@ abbrev pub ghosts-run_crew-N-Work : goal.ghosts-run_crew-N-Work
 ghosts-run_crew-N-Work g a = record { job = a.job.now; files = None; share = a.share_cap }
 
 abbrev pub ghosts-run_crew-N-Start : goal.ghosts-run_crew-N-Start
-ghosts-run_crew-N-Start g a = record { start = start_of g.D.Disk.tells (g.D.Disk.history a.disk); loans = g.D.Disk.loans a.disk }
+ghosts-run_crew-N-Start g a = record { start = start_of g.D.Disk.tells (g.D.Disk.state a.disk).history; loans = (g.D.Disk.state a.disk).loans }

@@ -32,12 +32,12 @@ loop-i-init g c = record {
   counted = c.requires.zero.1 ∙ sym c.requires.zero.0;
   few = let zero = c.requires.zero.0 in omega (arith, zero);
   room = c.in-Ok.ensures.room ∙ ap frame_size c.requires.job;
-  run = λ told. reel_run_itself g.N.Work.job g.N.Work.files (g.D.Disk.history c.args.reel.now.disk);
-  spares = λ told. spares_itself (g.D.Disk.history c.args.reel.now.disk) (IsRangeFile g.N.Work.job c.args.low c.args.high c.args.reel.now.ledger.gates);
+  run = λ told. reel_run_itself g.N.Work.job g.N.Work.files (g.D.Disk.state c.args.reel.now.disk).history;
+  spares = λ told. spares_itself (g.D.Disk.state c.args.reel.now.disk).history (IsRangeFile g.N.Work.job c.args.low c.args.high c.args.reel.now.ledger.gates);
   faults = refl;
   same_disk = refl;
-  scan = scanned_as g.S.Scans.world g.S.Scans.faults g.S.Scans.loads c.args.scan.now c.args.scan.now 0 c.args.loads.now ⊥ ⊥ (sym c.requires.zero.0) (λ never. never) (λ never. never) (scanned_itself g.S.Scans.world g.S.Scans.faults g.S.Scans.loads ⊥ (λ never. never) c.args.scan.now);
-  same_scan = g.met.S.Scans.same_refl c.args.scan.now;
+  scan = scanned_as _ _ 0 c.args.loads.now ⊥ ⊥ (sym c.requires.zero.0) (λ never. never) (λ never. never) (scanned_itself ⊥ (λ never. never) (g.S.Scans.state c.args.scan.now));
+  same_scan = refl;
 }
 
 -- a frame that is acknowledged is passed over
@@ -102,9 +102,9 @@ loop-i-preserved g c =
           (spares_wider _ _ (IsWrittenFile (file_of g.N.Work.job c.loop-i.i)) (IsRangeFile g.N.Work.job c.args.low c.args.high c.args.reel.now.ledger.gates) (range_file g.N.Work.job c.args.low c.args.high c.args.reel.now.ledger.gates c.loop-i.i inv.late c.loop-i-test.true (sym (gate_still c.args.low c.args.reel.now c.loop-i.reel c.loop-i.i inv.late inv.past) ∙ reel.fresh)) (reel.spares told));
       faults = steady ∙ inv.faults;
       same_disk = reel.same ∙ inv.same_disk;
-      scan = scanned_along g.S.Scans.world g.S.Scans.faults g.S.Scans.loads _ _ _ c.loop-i.loads (c.run_frame.new.loads - c.loop-i.loads) c.run_frame.new.loads ⊥ ⊥ (let later = step.fetched.loaded.later in omega (arith, later)) (λ never. never) inv.scan
-          (scanned_as g.S.Scans.world g.S.Scans.faults g.S.Scans.loads _ _ _ _ _ ⊥ refl (λ never. absurd never) (λ same. cc) step.fetched.scan);
-      same_scan = g.met.S.Scans.same_trans _ _ _ inv.same_scan step.fetched.lent;
+      scan = scanned_along _ _ _ c.loop-i.loads (c.run_frame.new.loads - c.loop-i.loads) c.run_frame.new.loads ⊥ ⊥ (let later = step.fetched.loaded.later in omega (arith, later)) (λ never. never) inv.scan
+          (scanned_as _ _ _ _ _ ⊥ refl (λ never. absurd never) (λ same. cc) step.fetched.scan);
+      same_scan = step.fetched.lent ∙ inv.same_scan;
     }
 
 -- no room for a frame
@@ -112,7 +112,7 @@ pub returns-in-Err-clause-finished : goal.returns-in-Err-clause-finished
 returns-in-Err-clause-finished g c = unbegun g.N.Work.job c.args.low c.args.high c.args.reel.now.ledger.gates end.NoMemory _ _ (λ same. cc) (ap length c.requires.none) c.requires.unasked
 
 pub returns-in-Err-clause-reel : goal.returns-in-Err-clause-reel
-returns-in-Err-clause-reel g c = not_begun g.N.Work.job c.args.low c.args.high g.N.Work.files g.D.Disk.tells g.D.Disk.history g.D.Disk.loans g.D.Disk.faults end.NoMemory c.args.reel.now (λ same. cc) c.requires.none c.requires.is_open
+returns-in-Err-clause-reel g c = not_begun g.N.Work.job c.args.low c.args.high g.N.Work.files g.D.Disk.tells g.D.Disk.state end.NoMemory c.args.reel.now (λ same. cc) c.requires.none c.requires.is_open
 
 -- a frame could not be made or finished
 pub returns-in-Err-run_frame-clause-finished : goal.returns-in-Err-run_frame-clause-finished
@@ -153,8 +153,8 @@ returns-in-Err-run_frame-clause-reel g c = record {
 
 pub returns-in-Err-run_frame-clause-scan : goal.returns-in-Err-run_frame-clause-scan
 returns-in-Err-run_frame-clause-scan g c =
-    scanned_along g.S.Scans.world g.S.Scans.faults g.S.Scans.loads _ _ _ c.loop-i.loads (c.run_frame.new.loads - c.loop-i.loads) c.run_frame.new.loads ⊥ _ (let later = c.run_frame.ensures.fetched.loaded.later in omega (arith, later)) (λ never. never) c.loop-i.invariant.scan
-    (scanned_as g.S.Scans.world g.S.Scans.faults g.S.Scans.loads _ _ _ _ _ _ refl (λ is. ap Err is) (λ is. err_same _ _ is) c.in-Err-run_frame.ensures.fetched.scan)
+    scanned_along _ _ _ c.loop-i.loads (c.run_frame.new.loads - c.loop-i.loads) c.run_frame.new.loads ⊥ _ (let later = c.run_frame.ensures.fetched.loaded.later in omega (arith, later)) (λ never. never) c.loop-i.invariant.scan
+    (scanned_as _ _ _ _ _ _ refl (λ is. ap Err is) (λ is. err_same _ _ is) c.in-Err-run_frame.ensures.fetched.scan)
 
 -- every frame is finished
 pub returns-clause-reel : goal.returns-clause-reel

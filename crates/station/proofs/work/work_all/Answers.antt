@@ -25,8 +25,7 @@ finish_rest-requires-clause-put g c is =
 
 pub returns-clause-worked : goal.returns-clause-worked
 returns-clause-worked g c =
-    let met = g.met.S.Scans g.world.𝓛 g.world.𝓜 g.world.𝓡 ((λ s x. x), (λ x. x), (λ x. x), (λ x. x)) in
-    worked_all g.N.Work.files g.S.Scans.world g.S.Scans.faults g.S.Scans.loads g.S.Scans.same met.same_refl met.same_trans
+    worked_all g.N.Work.files g.S.Scans.state
     c.args.seats.now c.work_on_first.new.items c.finish_rest.new.seat c.args.threads 524288 524322 2097152 c.requires.some (omega arith) c.work_on_first.ensures.size c.requires.ready c.work_on_first.ensures.has c.work_on_first.ensures.others
     c.index-seats-0.result c.finish_rest.ensures.stepped
 

@@ -4,11 +4,11 @@ use Rattle.crew_worker.proofs.Made.{none_failed, of_ok}
 use Rattle.crew_worker.proofs.rounds.Shared.round.Goals as goal
 
 pub returns-in-Err-clause-stepped : goal.returns-in-Err-clause-stepped
-returns-in-Err-clause-stepped g c = stepped_itself g.N.Work.files g.S.Scans.world g.S.Scans.faults g.S.Scans.loads g.S.Scans.same g.met.S.Scans.same_refl 2 c.args.seat.now
+returns-in-Err-clause-stepped g c = stepped_itself g.N.Work.files g.S.Scans.state 2 c.args.seat.now
 
 pub returns-clause-stepped : goal.returns-clause-stepped
 returns-clause-stepped g c =
-    stepped_made g.N.Work.files g.S.Scans.world g.S.Scans.faults g.S.Scans.loads g.S.Scans.same 2 c.args.seat.now _ c.make_shared-made.result c.is_source_fault-seat.result c.is_source_fault-seat.ensures (failed_alone _ _ c.requires.unfailed)
+    stepped_made g.N.Work.files g.S.Scans.state 2 c.args.seat.now _ c.make_shared-made.result c.is_source_fault-seat.result c.is_source_fault-seat.ensures (failed_alone _ _ c.requires.unfailed)
     c.make_shared-made.ensures.fetched c.deliver.ensures.marks
 
 pub returns-clause-closed : goal.returns-clause-closed

@@ -12,7 +12,7 @@ loop-init g c = record {
   room = search rules;
   unfailed = c.requires.unfailed;
   marks = refl;
-  stepped = stepped_itself g.N.Work.files g.S.Scans.world g.S.Scans.faults g.S.Scans.loads g.S.Scans.same g.met.S.Scans.same_refl _ c.args.seat.now;
+  stepped = stepped_itself g.N.Work.files g.S.Scans.state _ c.args.seat.now;
 }
 
 pub loop-preserved : goal.loop-preserved
@@ -27,7 +27,7 @@ loop-preserved g c =
       room = c.in-Ok.ensures.room;
       unfailed = goes_on.1;
       marks = goes_on.0 ∙ c.loop.invariant.marks;
-      stepped = stepped_along g.N.Work.files g.S.Scans.world g.S.Scans.faults g.S.Scans.loads g.S.Scans.same g.met.S.Scans.same_trans (2 * c.loop.counter) 2 (2 * (c.loop.counter + 1)) c.args.seat.now c.loop.seat c.round.new.seat
+      stepped = stepped_along g.N.Work.files g.S.Scans.state (2 * c.loop.counter) 2 (2 * (c.loop.counter + 1)) c.args.seat.now c.loop.seat c.round.new.seat
           (omega arith) c.loop.invariant.stepped c.round.ensures.stepped;
     }
 
@@ -36,8 +36,8 @@ pub returns-in-Err-clause-worked : goal.returns-in-Err-clause-worked
 returns-in-Err-clause-worked g c =
     let inv = c.loop.invariant in
     let le : 2 * (c.loop.counter + 1) ≤ 524288 = let lt = c.loop-test.true in let ending = inv.ending in let short = inv.short in omega (arith, lt, ending, short) in
-    worked_first g.N.Work.files g.S.Scans.world g.S.Scans.faults g.S.Scans.loads g.S.Scans.same (2 * (c.loop.counter + 1)) 524288 c.args.seat.now c.round.new.seat le c.requires.none c.requires.unfailed
-    (stepped_along g.N.Work.files g.S.Scans.world g.S.Scans.faults g.S.Scans.loads g.S.Scans.same g.met.S.Scans.same_trans (2 * c.loop.counter) 2 (2 * (c.loop.counter + 1)) c.args.seat.now c.loop.seat c.round.new.seat
+    worked_first g.N.Work.files g.S.Scans.state (2 * (c.loop.counter + 1)) 524288 c.args.seat.now c.round.new.seat le c.requires.none c.requires.unfailed
+    (stepped_along g.N.Work.files g.S.Scans.state (2 * c.loop.counter) 2 (2 * (c.loop.counter + 1)) c.args.seat.now c.loop.seat c.round.new.seat
     (omega arith) inv.stepped c.round.ensures.stepped)
 
 -- no frame was left, or one that it could not make
@@ -45,12 +45,12 @@ pub returns-in-Err-take_frame-clause-worked : goal.returns-in-Err-take_frame-cla
 returns-in-Err-take_frame-clause-worked g c =
     let inv = c.loop.invariant in
     let le : 2 * c.loop.counter ≤ 524288 = let within = inv.within in let ending = inv.ending in let short = inv.short in omega (arith, within, ending, short) in
-    worked_first g.N.Work.files g.S.Scans.world g.S.Scans.faults g.S.Scans.loads g.S.Scans.same (2 * c.loop.counter) 524288 c.args.seat.now c.loop.seat le c.requires.none c.requires.unfailed inv.stepped
+    worked_first g.N.Work.files g.S.Scans.state (2 * c.loop.counter) 524288 c.args.seat.now c.loop.seat le c.requires.none c.requires.unfailed inv.stepped
 
 pub returns-clause-worked : goal.returns-clause-worked
 returns-clause-worked g c =
     let inv = c.loop.invariant in
     let le : 2 * c.loop.counter ≤ 524288 = let within = inv.within in let ending = inv.ending in let short = inv.short in omega (arith, within, ending, short) in
-    worked_first g.N.Work.files g.S.Scans.world g.S.Scans.faults g.S.Scans.loads g.S.Scans.same (2 * c.loop.counter) 524288 c.args.seat.now _ le c.requires.none c.requires.unfailed
-    (stepped_along g.N.Work.files g.S.Scans.world g.S.Scans.faults g.S.Scans.loads g.S.Scans.same g.met.S.Scans.same_trans (2 * c.loop.counter) 0 (2 * c.loop.counter) c.args.seat.now c.loop.seat _ (omega arith) inv.stepped
-    (stepped_left g.N.Work.files g.S.Scans.world g.S.Scans.faults g.S.Scans.loads g.S.Scans.same g.met.S.Scans.same_refl 0 c.loop.seat _ c.give_up.result refl refl refl refl c.give_up.ensures.left))
+    worked_first g.N.Work.files g.S.Scans.state (2 * c.loop.counter) 524288 c.args.seat.now _ le c.requires.none c.requires.unfailed
+    (stepped_along g.N.Work.files g.S.Scans.state (2 * c.loop.counter) 0 (2 * c.loop.counter) c.args.seat.now c.loop.seat _ (omega arith) inv.stepped
+    (stepped_left g.N.Work.files g.S.Scans.state 0 c.loop.seat _ c.give_up.result refl refl refl refl c.give_up.ensures.left))

@@ -15,5 +15,5 @@ invariant-loop g l = record {
   room : length l.room ≡ frame_size g.N.Work.job;
   unfailed : l.seat.has_failed ≡ false;
   marks : l.seat.marks ≡ l.fn.seat.marks;
-  stepped : HasStepped g.N.Work.files g.S.Scans.world g.S.Scans.faults g.S.Scans.loads g.S.Scans.same (2 * l.counter) l.fn.seat l.seat;
+  stepped : HasStepped g.N.Work.files g.S.Scans.state (2 * l.counter) l.fn.seat l.seat;
 }

@@ -6,8 +6,8 @@ use Rattle.crew_worker.proofs.rounds.Shared.worker.Goals as goal
 -- no room for a frame
 pub returns-in-Err-clause-worked : goal.returns-in-Err-clause-worked
 returns-in-Err-clause-worked g c =
-    worked_first g.N.Work.files g.S.Scans.world g.S.Scans.faults g.S.Scans.loads g.S.Scans.same 0 524288 c.args.seat.now _ (omega arith) c.requires.none c.requires.unfailed
-    (stepped_left g.N.Work.files g.S.Scans.world g.S.Scans.faults g.S.Scans.loads g.S.Scans.same g.met.S.Scans.same_refl 0 c.args.seat.now _ c.give_up.result refl refl refl refl c.give_up.ensures.left)
+    worked_first g.N.Work.files g.S.Scans.state 0 524288 c.args.seat.now _ (omega arith) c.requires.none c.requires.unfailed
+    (stepped_left g.N.Work.files g.S.Scans.state 0 c.args.seat.now _ c.give_up.result refl refl refl refl c.give_up.ensures.left)
 
 pub returns-in-Err-clause-left : goal.returns-in-Err-clause-left
 returns-in-Err-clause-left g c = left_unfailed _ _ _ _ _ c.requires.unfailed c.give_up.ensures.left

@@ -4,7 +4,7 @@ use Rattle.reel_disk.specs.Disk.{view_of}
 use Rattle.reconform.specs.inside.Adopt.{IsServed}
 use Rattle.reconform.specs.Donor.{HasIntactDonor}
 use Rattle.reconform.proofs.Going.{both_behind, new_asked, old_asked, part_itself}
-use Rattle.reconform.proofs.Serving.{on_ok, same_itself, served_by, served_set, where_ok}
+use Rattle.reconform.proofs.Serving.{on_ok, same_itself, served_by, served_set}
 use Rattle.reconform.proofs.takeover.Takeover.adopt_alone.Goals as goal
 
 -- the old folder failed
@@ -13,29 +13,29 @@ returns-in-Err-clause-done g c = record {
   served = tt;
   stays = same_itself c.args.reel.now;
   stays_open = tt;
-  part = part_itself g.N.Work.job g.N.Work.files g.E.Disk.tells g.E.Disk.history c.args.reel.now.ledger.gates c.args.reel.now.disk;
+  part = part_itself;
   still = c.in-Err.ensures.still;
-  disks = old_asked g.D.Disk.faults g.D.Disk.loans g.E.Disk.faults g.E.Disk.loans _ c.args.old.now c.read_donor.new.old c.args.reel.now.disk c.in-Err.ensures.cause (λ none. absurd (none refl)) c.in-Err.ensures.same;
+  disks = old_asked c.in-Err.ensures.disk;
 }
 
 -- its donor isn't intact
 pub returns-clause-done : goal.returns-clause-done
 returns-clause-done g c =
-    let files = view_of (g.D.Disk.history c.args.old.now) in
+    let files = view_of (g.D.Disk.state c.args.old.now).history in
     record {
       served = λ told. served_by g.N.Work.job g.O.Work.job c.args.self.now.view.now files c.args.i c.args.reel.now.ledger.gates
           (subst (λ is. (is ≡ true) ↔ HasIntactDonor g.N.Work.job g.O.Work.job c.args.self.now.view.now files c.args.i) c.if-served.false (c.in-Ok.ensures.intact told));
       stays = same_itself c.args.reel.now;
       stays_open = c.requires.is_open;
-      part = part_itself g.N.Work.job g.N.Work.files g.E.Disk.tells g.E.Disk.history c.args.reel.now.ledger.gates c.args.reel.now.disk;
+      part = part_itself;
       still = c.in-Ok.ensures.still;
-      disks = old_asked g.D.Disk.faults g.D.Disk.loans g.E.Disk.faults g.E.Disk.loans _ c.args.old.now c.read_donor.new.old c.args.reel.now.disk c.in-Ok.ensures.cause (λ none. c.in-Ok.ensures.steady) c.in-Ok.ensures.same;
+      disks = old_asked c.in-Ok.ensures.disk;
     }
 
 -- it is finished
 pub returns-then-served-clause-done : goal.returns-then-served-clause-done
 returns-then-served-clause-done g c =
-    let files = view_of (g.D.Disk.history c.args.old.now) in
+    let files = view_of (g.D.Disk.state c.args.old.now).history in
     let gates = c.args.reel.now.ledger.gates in
     let index = c.requires.index in
     let size = c.requires.flags in
@@ -48,6 +48,6 @@ returns-then-served-clause-done g c =
       stays_open = done.stays_open;
       part = done.part;
       still = c.in-Ok.ensures.still;
-      disks = both_behind g.D.Disk.faults g.D.Disk.loans g.E.Disk.faults g.E.Disk.loans _ _ (λ is. is) (λ is. is) c.args.old.now old old c.args.reel.now.disk c.args.reel.now.disk c.finish_frame.new.reel.disk c.in-Ok.ensures.steady refl c.in-Ok.ensures.same refl
-          (new_asked g.D.Disk.faults g.D.Disk.loans g.E.Disk.faults g.E.Disk.loans _ old c.args.reel.now.disk c.finish_frame.new.reel.disk done.cause (where_ok c.finish_frame.result _ done.steady) done.same);
+      disks = both_behind (λ is. is) (λ is. is) (c.in-Ok.ensures.disk.counts.steady (λ is. cc)) refl c.in-Ok.ensures.disk.lent refl
+          (new_asked done.disk);
     }

@@ -12,13 +12,13 @@ pub loop-i-init : goal.loop-i-init
 loop-i-init g c = record {
   within = omega arith;
   ending = c.count-i-end.ensures.count ∙ ap frames_of c.requires.can.new_is;
-  served = λ told. served_first g.N.Work.job g.O.Work.job c.args.self.now.view.now (view_of (g.D.Disk.history c.args.old.now)) c.args.reel.now.ledger.gates;
+  served = λ told. served_first g.N.Work.job g.O.Work.job c.args.self.now.view.now (view_of (g.D.Disk.state c.args.old.now).history) c.args.reel.now.ledger.gates;
   stays = same_itself c.args.reel.now;
   is_open = c.requires.is_open;
   rooms = c.requires.rooms;
   some = c.requires.some;
-  part = part_itself g.N.Work.job g.N.Work.files g.E.Disk.tells g.E.Disk.history c.args.reel.now.ledger.gates c.args.reel.now.disk;
-  still = λ told. still_itself (g.D.Disk.history c.args.old.now);
+  part = part_itself;
+  still = λ told. still_itself (g.D.Disk.state c.args.old.now).history;
   faults_old = refl;
   faults = refl;
   same_old = refl;
@@ -29,13 +29,13 @@ pub adopt_frame-requires-clause-can : goal.adopt_frame-requires-clause-can
 adopt_frame-requires-clause-can g c = record {
   new_is = c.requires.can.new_is;
   old_is = c.requires.can.old_is;
-  looked = looked_along g.N.Work.job g.O.Work.job g.D.Disk.tells (g.D.Disk.history c.args.old.now) (g.D.Disk.history c.loop-i.old) c.loop-i.invariant.still g.N.Work.files c.args.self.now.view.now c.requires.can.looked;
+  looked = looked_along g.N.Work.job g.O.Work.job g.D.Disk.tells (g.D.Disk.state c.args.old.now).history (g.D.Disk.state c.loop-i.old).history c.loop-i.invariant.still g.N.Work.files c.args.self.now.view.now c.requires.can.looked;
   donors = c.requires.can.donors;
 }
 
 pub adopt_frame-requires-clause-rooms : goal.adopt_frame-requires-clause-rooms
 adopt_frame-requires-clause-rooms g c =
-    finish_along g.N.Work.job g.O.Work.job g.N.Work.files g.D.Disk.tells c.args.self.now.view.now (view_of (g.D.Disk.history c.args.old.now)) (view_of (g.D.Disk.history c.loop-i.old))
+    finish_along g.N.Work.job g.O.Work.job g.N.Work.files g.D.Disk.tells c.args.self.now.view.now (view_of (g.D.Disk.state c.args.old.now).history) (view_of (g.D.Disk.state c.loop-i.old).history)
     (λ told. ap (λ (m : Moment). m.view) (sym (c.loop-i.invariant.still told).same)) c.loop-i.rooms c.loop-i.invariant.rooms
 
 pub adopt_frame-requires-clause-size : goal.adopt_frame-requires-clause-size
@@ -48,14 +48,14 @@ loop-i-preserved g c =
     record {
       within = let lt = c.loop-i-test.true in let all = inv.ending in omega (arith, lt, all);
       ending = inv.ending;
-      served = λ told. served_more g.N.Work.job g.O.Work.job c.args.self.now.view.now (view_of (g.D.Disk.history c.args.old.now)) c.loop-i.i c.args.reel.now.ledger.gates c.loop-i.reel.ledger.gates c.adopt_frame.new.reel.ledger.gates (inv.served told)
+      served = λ told. served_more g.N.Work.job g.O.Work.job c.args.self.now.view.now (view_of (g.D.Disk.state c.args.old.now).history) c.loop-i.i c.args.reel.now.ledger.gates c.loop-i.reel.ledger.gates c.adopt_frame.new.reel.ledger.gates (inv.served told)
           (subst (λ (m : Moment). IsServed g.N.Work.job g.O.Work.job c.args.self.now.view.now m.view c.loop-i.i c.loop-i.reel.ledger.gates c.adopt_frame.new.reel.ledger.gates) (inv.still told).same (step.served told));
       stays = same_along _ _ _ inv.stays step.stays;
       is_open = step.stays_open;
-      rooms = finish_along g.N.Work.job g.O.Work.job g.N.Work.files g.D.Disk.tells c.args.self.now.view.now (view_of (g.D.Disk.history c.loop-i.old)) (view_of (g.D.Disk.history c.args.old.now))
+      rooms = finish_along g.N.Work.job g.O.Work.job g.N.Work.files g.D.Disk.tells c.args.self.now.view.now (view_of (g.D.Disk.state c.loop-i.old).history) (view_of (g.D.Disk.state c.args.old.now).history)
           (λ told. ap (λ (m : Moment). m.view) (inv.still told).same) c.adopt_frame.new.rooms c.in-Ok.ensures.rooms;
       some = search rules;
-      part = part_along g.N.Work.job g.N.Work.files g.E.Disk.tells g.E.Disk.history c.args.reel.now.ledger.gates c.loop-i.reel.ledger.gates inv.stays.grows c.args.reel.now.disk c.loop-i.reel.disk c.adopt_frame.new.reel.disk inv.part step.part;
+      part = part_along inv.stays.grows inv.part step.part;
       still = λ told. still_along _ _ _ (inv.still told) (step.still told);
       faults_old = step.disks.old_steady (λ is. cc) ∙ inv.faults_old;
       faults = step.disks.steady (λ is. cc) ∙ inv.faults;
@@ -73,13 +73,13 @@ returns-in-Err-clause-adopted g c =
       stays = same_along _ _ _ inv.stays step.stays;
       stays_open = tt;
       end = search rules;
-      part = part_along g.N.Work.job g.N.Work.files g.E.Disk.tells g.E.Disk.history c.args.reel.now.ledger.gates c.loop-i.reel.ledger.gates inv.stays.grows c.args.reel.now.disk c.loop-i.reel.disk c.adopt_frame.new.reel.disk inv.part step.part;
+      part = part_along inv.stays.grows inv.part step.part;
       still = λ told. still_along _ _ _ (inv.still told) (step.still told);
     }
 
 pub returns-in-Err-clause-disks : goal.returns-in-Err-clause-disks
 returns-in-Err-clause-disks g c =
-    both_behind g.D.Disk.faults g.D.Disk.loans g.E.Disk.faults g.E.Disk.loans _ _ (λ is. refl) (λ is. refl) c.args.old.now c.loop-i.old c.adopt_frame.new.old c.args.reel.now.disk c.loop-i.reel.disk c.adopt_frame.new.reel.disk c.loop-i.invariant.faults_old c.loop-i.invariant.faults c.loop-i.invariant.same_old c.loop-i.invariant.same_disk
+    both_behind (λ is. refl) (λ is. refl) c.loop-i.invariant.faults_old c.loop-i.invariant.faults c.loop-i.invariant.same_old c.loop-i.invariant.same_disk
     c.in-Err.ensures.done.disks
 
 -- every frame was served
@@ -91,7 +91,7 @@ returns-clause-adopted g c =
     let ending = inv.ending in
     let all : c.loop-i.i ≡ frames_of g.N.Work.job = omega (arith, late, within, ending) in
     record {
-      served = λ told. subst (λ n. AreServed g.N.Work.job g.O.Work.job c.args.self.now.view.now (view_of (g.D.Disk.history c.args.old.now)) n c.args.reel.now.ledger.gates c.loop-i.reel.ledger.gates) all (inv.served told);
+      served = λ told. subst (λ n. AreServed g.N.Work.job g.O.Work.job c.args.self.now.view.now (view_of (g.D.Disk.state c.args.old.now).history) n c.args.reel.now.ledger.gates c.loop-i.reel.ledger.gates) all (inv.served told);
       stays = inv.stays;
       stays_open = inv.is_open;
       end = tt;
@@ -101,5 +101,5 @@ returns-clause-adopted g c =
 
 pub returns-clause-disks : goal.returns-clause-disks
 returns-clause-disks g c =
-    both_behind g.D.Disk.faults g.D.Disk.loans g.E.Disk.faults g.E.Disk.loans _ _ (λ is. is) (λ is. is) c.args.old.now c.loop-i.old c.loop-i.old c.args.reel.now.disk c.loop-i.reel.disk c.loop-i.reel.disk c.loop-i.invariant.faults_old c.loop-i.invariant.faults c.loop-i.invariant.same_old c.loop-i.invariant.same_disk
-    (both_itself g.D.Disk.faults g.D.Disk.loans g.E.Disk.faults g.E.Disk.loans _ (λ is. cc) c.loop-i.old c.loop-i.reel.disk)
+    both_behind (λ is. is) (λ is. is) c.loop-i.invariant.faults_old c.loop-i.invariant.faults c.loop-i.invariant.same_old c.loop-i.invariant.same_disk
+    (both_itself (λ is. cc))

@@ -12,15 +12,15 @@ abbrev pub invariant-loop-i : goal.invariant-loop-i
 invariant-loop-i g l = record {
   within : l.i ≤ frames_of g.N.Work.job;
   ending : l.i-end ≡ frames_of g.N.Work.job;
-  served : g.D.Disk.tells ≡ true → AreServed g.N.Work.job g.O.Work.job l.fn.self.view.now (view_of (g.D.Disk.history l.fn.old)) l.i l.fn.reel.ledger.gates l.reel.ledger.gates;
+  served : g.D.Disk.tells ≡ true → AreServed g.N.Work.job g.O.Work.job l.fn.self.view.now (view_of (g.D.Disk.state l.fn.old).history) l.i l.fn.reel.ledger.gates l.reel.ledger.gates;
   stays : IsSameReel l.fn.reel l.reel;
   is_open : l.reel.ledger.closed ≡ false;
-  rooms : All (CanFinish g.N.Work.job g.O.Work.job g.N.Work.files g.D.Disk.tells l.fn.self.view.now (view_of (g.D.Disk.history l.fn.old))) l.rooms;
+  rooms : All (CanFinish g.N.Work.job g.O.Work.job g.N.Work.files g.D.Disk.tells l.fn.self.view.now (view_of (g.D.Disk.state l.fn.old).history)) l.rooms;
   some : 0 < length l.rooms;
-  part : IsPart g.N.Work.job g.N.Work.files g.E.Disk.tells g.E.Disk.history l.fn.reel.ledger.gates l.fn.reel.disk l.reel.disk;
-  still : g.D.Disk.tells ≡ true → IsStill (g.D.Disk.history l.fn.old) (g.D.Disk.history l.old);
-  faults_old : g.D.Disk.faults l.old ≡ g.D.Disk.faults l.fn.old;
-  faults : g.E.Disk.faults l.reel.disk ≡ g.E.Disk.faults l.fn.reel.disk;
-  same_old : g.D.Disk.loans l.old ≡ g.D.Disk.loans l.fn.old;
-  same_disk : g.E.Disk.loans l.reel.disk ≡ g.E.Disk.loans l.fn.reel.disk;
+  part : IsPart g.N.Work.job g.N.Work.files g.E.Disk.tells l.fn.reel.ledger.gates (g.E.Disk.state l.fn.reel.disk) (g.E.Disk.state l.reel.disk);
+  still : g.D.Disk.tells ≡ true → IsStill (g.D.Disk.state l.fn.old).history (g.D.Disk.state l.old).history;
+  faults_old : (g.D.Disk.state l.old).faults ≡ (g.D.Disk.state l.fn.old).faults;
+  faults : (g.E.Disk.state l.reel.disk).faults ≡ (g.E.Disk.state l.fn.reel.disk).faults;
+  same_old : (g.D.Disk.state l.old).loans ≡ (g.D.Disk.state l.fn.old).loans;
+  same_disk : (g.E.Disk.state l.reel.disk).loans ≡ (g.E.Disk.state l.fn.reel.disk).loans;
 }

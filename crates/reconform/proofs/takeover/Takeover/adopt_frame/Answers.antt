@@ -10,16 +10,16 @@ use Rattle.reconform.proofs.takeover.Takeover.adopt_frame.Goals as goal
 -- it is acknowledged
 pub returns-then-is_acked-clause-done : goal.returns-then-is_acked-clause-done
 returns-then-is_acked-clause-done g c =
-    nothing_done g.N.Work.job g.O.Work.job g.N.Work.files g.D.Disk.tells g.D.Disk.history g.D.Disk.faults g.D.Disk.loans g.E.Disk.tells g.E.Disk.history g.E.Disk.faults g.E.Disk.loans
+    nothing_done g.N.Work.job g.O.Work.job g.N.Work.files g.D.Disk.tells g.D.Disk.state g.E.Disk.tells g.E.Disk.state
     c.args.self.now.view.now c.args.i c.args.old.now c.args.reel.now c.requires.is_open
-    (λ told. served_already g.N.Work.job g.O.Work.job c.args.self.now.view.now (view_of (g.D.Disk.history c.args.old.now)) c.args.i c.args.reel.now.ledger.gates (sym c.is_acked.ensures.acked ∙ c.if-is_acked.true))
+    (λ told. served_already g.N.Work.job g.O.Work.job c.args.self.now.view.now (view_of (g.D.Disk.state c.args.old.now).history) c.args.i c.args.reel.now.ledger.gates (sym c.is_acked.ensures.acked ∙ c.if-is_acked.true))
 
 -- it has no donor
 pub returns-in-None-clause-done : goal.returns-in-None-clause-done
 returns-in-None-clause-done g c =
-    nothing_done g.N.Work.job g.O.Work.job g.N.Work.files g.D.Disk.tells g.D.Disk.history g.D.Disk.faults g.D.Disk.loans g.E.Disk.tells g.E.Disk.history g.E.Disk.faults g.E.Disk.loans
+    nothing_done g.N.Work.job g.O.Work.job g.N.Work.files g.D.Disk.tells g.D.Disk.state g.E.Disk.tells g.E.Disk.state
     c.args.self.now.view.now c.args.i c.args.old.now c.args.reel.now c.requires.is_open
-    (λ told. served_by g.N.Work.job g.O.Work.job c.args.self.now.view.now (view_of (g.D.Disk.history c.args.old.now)) c.args.i c.args.reel.now.ledger.gates
-    (intact_none g.N.Work.job g.O.Work.job c.args.self.now.view.now (view_of (g.D.Disk.history c.args.old.now)) c.args.i
+    (λ told. served_by g.N.Work.job g.O.Work.job c.args.self.now.view.now (view_of (g.D.Disk.state c.args.old.now).history) c.args.i c.args.reel.now.ledger.gates
+    (intact_none g.N.Work.job g.O.Work.job c.args.self.now.view.now (view_of (g.D.Disk.state c.args.old.now).history) c.args.i
     (least_here g.O.Work.job c.args.self.now.view.now.gates (frames_of g.O.Work.job) c.args.self.now.donors.now.by_plan c.plan_at.result (plan_at g.N.Work.job c.args.i) None
     c.requires.can.donors.least (c.plan_at.ensures ∙ ap (λ (job : JobData). plan_at job c.args.i) c.requires.can.new_is) (sym c.in-None.is ∙ c.get.ensures))))

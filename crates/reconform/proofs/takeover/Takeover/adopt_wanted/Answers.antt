@@ -10,7 +10,7 @@ pub serve-requires-clause-can : goal.serve-requires-clause-can
 serve-requires-clause-can g c = record {
   new_is = c.requires.can.new_is;
   old_is = c.requires.can.old_is;
-  looked = looked_along g.N.Work.job g.O.Work.job g.D.Disk.tells (g.D.Disk.history c.args.old.now) (g.D.Disk.history c.make_ready.new.old) c.make_ready.ensures.still g.N.Work.files c.args.self.now.view.now c.requires.can.looked;
+  looked = looked_along g.N.Work.job g.O.Work.job g.D.Disk.tells (g.D.Disk.state c.args.old.now).history (g.D.Disk.state c.make_ready.new.old).history c.make_ready.ensures.still g.N.Work.files c.args.self.now.view.now c.requires.can.looked;
   donors = c.requires.can.donors;
 }
 
@@ -20,9 +20,9 @@ returns-in-Err-clause-done g c = record {
   served = tt;
   stays = same_itself c.args.reel.now;
   stays_open = tt;
-  part = part_itself g.N.Work.job g.N.Work.files g.E.Disk.tells g.E.Disk.history c.args.reel.now.ledger.gates c.args.reel.now.disk;
+  part = part_itself;
   still = c.make_ready.ensures.still;
-  disks = old_asked g.D.Disk.faults g.D.Disk.loans g.E.Disk.faults g.E.Disk.loans _ c.args.old.now c.make_ready.new.old c.args.reel.now.disk c.in-Err.ensures.disk.counts.cause c.in-Err.ensures.disk.counts.steady c.in-Err.ensures.disk.lent;
+  disks = old_asked c.in-Err.ensures.disk;
 }
 
 pub returns-clause-done : goal.returns-clause-done
@@ -35,6 +35,6 @@ returns-clause-done g c =
       stays_open = done.stays_open;
       part = done.part;
       still = λ told. still_along _ _ _ (c.make_ready.ensures.still told) (done.still told);
-      disks = both_behind g.D.Disk.faults g.D.Disk.loans g.E.Disk.faults g.E.Disk.loans _ _ (λ is. is) (λ is. is) c.args.old.now c.make_ready.new.old c.serve.new.old c.args.reel.now.disk c.args.reel.now.disk c.serve.new.reel.disk
+      disks = both_behind (λ is. is) (λ is. is)
           (ready.disk.counts.steady (λ is. cc)) refl ready.disk.lent refl done.disks;
     }

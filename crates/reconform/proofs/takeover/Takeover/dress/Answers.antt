@@ -14,7 +14,7 @@ use Rattle.reconform.proofs.takeover.Takeover.dress.Goals as goal
 
 pub rehead-requires-clause-pixels : goal.rehead-requires-clause-pixels
 rehead-requires-clause-pixels g c =
-    let files = view_of (g.D.Disk.history c.args._old.now) in
+    let files = view_of (g.D.Disk.state c.args._old.now).history in
     let room = c.args.room.now in
     subst (λ (bytes : List ℕ). IfSome g.N.Work.files (λ world. drop 2048 bytes ≡ drop 2048 (frame_file g.N.Work.job (file_at world) c.in-Some.i))) (sym c.deref_mut.ensures.value)
     (dressed_pixels g.N.Work.job g.O.Work.job g.N.Work.files g.D.Disk.tells files c.args.self.now.view.now c.args.self.now.donors.now.by_plan c.in-Some.i room.bytes.items room.digest
@@ -24,7 +24,7 @@ rehead-requires-clause-pixels g c =
 
 pub returns-then-is_kept : goal.returns-then-is_kept
 returns-then-is_kept g c =
-    let files = view_of (g.D.Disk.history c.args._old.now) in
+    let files = view_of (g.D.Disk.state c.args._old.now).history in
     let room = c.args.room.now in
     let read = subst (λ (frame : Option ℕ). IfSome frame (λ i. g.D.Disk.tells ≡ true → IfSome (donor_in c.args.self.now.donors.now.by_plan (plan_at g.N.Work.job i)) (λ j. files (file_of g.O.Work.job j) ≡ Some room.bytes.items))) c.in-Some.is c.requires.read.file in
     let made = subst (λ (frame : Option ℕ). IfSome frame (λ i. room.digest ≡ sha256 room.bytes.items)) c.in-Some.is c.requires.digest in

@@ -5,5 +5,5 @@ use Rattle.reconform.proofs.takeover.Takeover.finish_frame.Goals as goal
 
 pub returns-in-Ok-clause-part : goal.returns-in-Ok-clause-part
 returns-in-Ok-clause-part g c =
-    part_finished g.N.Work.job g.N.Work.files g.E.Disk.tells g.E.Disk.history c.args.reel.now.ledger.gates c.args.i c.with-hashed.result.index (ap (λ (f : FrameBytes). f.index) c.with-hashed.ensures ∙ c.of_file.ensures.index) c.requires.index c.requires.fresh
-    _ _ c.in-Ok.ensures.run c.in-Ok.ensures.none_lost c.in-Ok.ensures.spares
+    part_finished c.args.i c.with-hashed.result.index (ap (λ (f : FrameBytes). f.index) c.with-hashed.ensures ∙ c.of_file.ensures.index) c.requires.index c.requires.fresh
+    c.in-Ok.ensures.run c.in-Ok.ensures.none_lost c.in-Ok.ensures.spares

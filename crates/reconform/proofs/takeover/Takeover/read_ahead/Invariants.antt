@@ -8,12 +8,12 @@ use Rattle.reconform.proofs.takeover.Takeover.read_ahead.Given as goal
 -- the rooms so far hold donors' files, and the others are as long
 abbrev pub invariant-loop-n : goal.invariant-loop-n
 invariant-loop-n g l = record {
-  still : g.D.Disk.tells ≡ true → IsStill (g.D.Disk.history l.fn.old) (g.D.Disk.history l.old);
-  read : (k : ℕ) (d : Room) → k < l.n → HoldsDonor g.N.Work.job g.O.Work.job g.D.Disk.tells (view_of (g.D.Disk.history l.fn.old)) l.self.donors.now.by_plan (get_or l.rooms k d);
+  still : g.D.Disk.tells ≡ true → IsStill (g.D.Disk.state l.fn.old).history (g.D.Disk.state l.old).history;
+  read : (k : ℕ) (d : Room) → k < l.n → HoldsDonor g.N.Work.job g.O.Work.job g.D.Disk.tells (view_of (g.D.Disk.state l.fn.old).history) l.self.donors.now.by_plan (get_or l.rooms k d);
   size : (k : ℕ) (d : Room) → k < length l.rooms → length (get_or l.rooms k d).bytes.items ≡ frame_size g.N.Work.job;
   count : length l.rooms ≡ length l.fn.rooms;
   within : l.n ≤ length l.rooms;
   ending : l.n-end ≡ length l.rooms;
-  same : g.D.Disk.loans l.old ≡ g.D.Disk.loans l.fn.old;
-  faults : g.D.Disk.faults l.old ≡ g.D.Disk.faults l.fn.old;
+  same : (g.D.Disk.state l.old).loans ≡ (g.D.Disk.state l.fn.old).loans;
+  faults : (g.D.Disk.state l.old).faults ≡ (g.D.Disk.state l.fn.old).faults;
 }

@@ -18,7 +18,7 @@ pub returns-in-Some-clause-intact : goal.returns-in-Some-clause-intact
 returns-in-Some-clause-intact g c =
     let least = least_here g.O.Work.job c.args.self.now.view.now.gates (frames_of g.O.Work.job) c.args.self.now.donors.now.by_plan c.plan_at.result (plan_at g.N.Work.job c.args.i) (Some c.in-Some.j)
     c.requires.can.donors.least (c.plan_at.ensures ∙ ap (λ (job : JobData). plan_at job c.args.i) c.requires.can.new_is) (sym c.in-Some.is ∙ c.get.ensures) in
-    let files = view_of (g.D.Disk.history c.args.old.now) in
+    let files = view_of (g.D.Disk.state c.args.old.now).history in
     if_ok c.read_intact.result _ _ (λ is read told. intact_some g.N.Work.job g.O.Work.job c.args.self.now.view.now files c.args.i c.in-Some.j c.requires.can.donors.alike least is
     (subst (λ (job : JobData). (is ≡ true) ↔ IsIntact job c.args.self.now.view.now files c.in-Some.j) c.requires.can.old_is (read told))) c.read_intact.ensures.intact
 
@@ -26,12 +26,12 @@ pub returns-in-Some-clause-pixels : goal.returns-in-Some-clause-pixels
 returns-in-Some-clause-pixels g c =
     let least = least_here g.O.Work.job c.args.self.now.view.now.gates (frames_of g.O.Work.job) c.args.self.now.donors.now.by_plan c.plan_at.result (plan_at g.N.Work.job c.args.i) (Some c.in-Some.j)
     c.requires.can.donors.least (c.plan_at.ensures ∙ ap (λ (job : JobData). plan_at job c.args.i) c.requires.can.new_is) (sym c.in-Some.is ∙ c.get.ensures) in
-    let files = view_of (g.D.Disk.history c.args.old.now) in
+    let files = view_of (g.D.Disk.state c.args.old.now).history in
     if_ok c.read_intact.result _ _ (λ is bytes yes. served_pixels g.N.Work.job g.O.Work.job g.N.Work.files g.D.Disk.tells files c.args.self.now.view.now c.args.i c.in-Some.j c.read_intact.new.into
     c.requires.can.looked.can_serve c.requires.can.looked.viewed c.requires.can.donors.alike c.requires.can.donors.titles least.1 least.2 (λ told. ap (λ (job : JobData). files (file_of job c.in-Some.j)) (sym c.requires.can.old_is) ∙ bytes yes told)) c.read_intact.ensures.bytes
 
 pub returns-in-None-clause-intact : goal.returns-in-None-clause-intact
 returns-in-None-clause-intact g c told =
-    intact_none g.N.Work.job g.O.Work.job c.args.self.now.view.now (view_of (g.D.Disk.history c.args.old.now)) c.args.i
+    intact_none g.N.Work.job g.O.Work.job c.args.self.now.view.now (view_of (g.D.Disk.state c.args.old.now).history) c.args.i
     (least_here g.O.Work.job c.args.self.now.view.now.gates (frames_of g.O.Work.job) c.args.self.now.donors.now.by_plan c.plan_at.result (plan_at g.N.Work.job c.args.i) None
     c.requires.can.donors.least (c.plan_at.ensures ∙ ap (λ (job : JobData). plan_at job c.args.i) c.requires.can.new_is) (sym c.in-None.is ∙ c.get.ensures))

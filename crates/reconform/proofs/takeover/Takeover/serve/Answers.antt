@@ -5,16 +5,16 @@ use Rattle.reconform.specs.inside.Adopt.{IsServed}
 use Rattle.reconform.specs.Donor.{HasIntactDonor}
 use Rattle.reconform.proofs.Dressing.{freed}
 use Rattle.reconform.proofs.Going.{new_asked, still_itself}
-use Rattle.reconform.proofs.Serving.{on_ok, served_set, where_ok}
+use Rattle.reconform.proofs.Serving.{on_ok, served_set}
 use Rattle.reconform.proofs.takeover.Takeover.serve.Goals as goal
 
 pub returns-in-Some-clause-rooms : goal.returns-in-Some-clause-rooms
 returns-in-Some-clause-rooms g c =
-    on_ok c.finish_frame.result _ _ (λ free. freed g.N.Work.job g.O.Work.job g.N.Work.files g.D.Disk.tells c.args.self.now.view.now (view_of (g.D.Disk.history c.args.old.now)) c.args.rooms.now c.in-Some.n _ free c.requires.rooms) c.finish_frame.ensures.free
+    on_ok c.finish_frame.result _ _ (λ free. freed g.N.Work.job g.O.Work.job g.N.Work.files g.D.Disk.tells c.args.self.now.view.now (view_of (g.D.Disk.state c.args.old.now).history) c.args.rooms.now c.in-Some.n _ free c.requires.rooms) c.finish_frame.ensures.free
 
 pub returns-in-Some-clause-done : goal.returns-in-Some-clause-done
 returns-in-Some-clause-done g c =
-    let files = view_of (g.D.Disk.history c.args.old.now) in
+    let files = view_of (g.D.Disk.state c.args.old.now).history in
     let gates = c.args.reel.now.ledger.gates in
     let index = c.requires.index in
     let size = c.requires.flags in
@@ -27,10 +27,10 @@ returns-in-Some-clause-done g c =
       stays = done.stays;
       stays_open = done.stays_open;
       part = done.part;
-      still = λ told. still_itself (g.D.Disk.history c.args.old.now);
-      disks = new_asked g.D.Disk.faults g.D.Disk.loans g.E.Disk.faults g.E.Disk.loans _ c.args.old.now c.args.reel.now.disk c.finish_frame.new.reel.disk done.cause (where_ok c.finish_frame.result _ done.steady) done.same;
+      still = λ told. still_itself (g.D.Disk.state c.args.old.now).history;
+      disks = new_asked done.disk;
     }
 
 pub returns-in-None-clause-rooms : goal.returns-in-None-clause-rooms
 returns-in-None-clause-rooms g c =
-    on_ok c.adopt_alone.result _ _ (λ free. freed g.N.Work.job g.O.Work.job g.N.Work.files g.D.Disk.tells c.args.self.now.view.now (view_of (g.D.Disk.history c.args.old.now)) c.args.rooms.now c.free_place-n.result _ free c.requires.rooms) c.adopt_alone.ensures.free
+    on_ok c.adopt_alone.result _ _ (λ free. freed g.N.Work.job g.O.Work.job g.N.Work.files g.D.Disk.tells c.args.self.now.view.now (view_of (g.D.Disk.state c.args.old.now).history) c.args.rooms.now c.free_place-n.result _ free c.requires.rooms) c.adopt_alone.ensures.free

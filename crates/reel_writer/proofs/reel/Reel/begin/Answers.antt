@@ -13,10 +13,10 @@ use Rattle.reel_writer.proofs.reel.Reel.begin.Goals as goal
 
 -- no memory
 pub returns-in_default-clause-run : goal.returns-in_default-clause-run
-returns-in_default-clause-run g c told = reel_run_itself g.N.Work.job g.N.Work.files (g.D.Disk.history c.args.disk)
+returns-in_default-clause-run g c told = reel_run_itself g.N.Work.job g.N.Work.files (g.D.Disk.state c.args.disk).history
 
 pub returns-in_default-clause-adds_none : goal.returns-in_default-clause-adds_none
-returns-in_default-clause-adds_none g c told = (reading_part g.N.Work.job.parts.digest (frames_of g.N.Work.job) (file_of g.N.Work.job) (frame_size g.N.Work.job) _ _ (reading_itself (g.D.Disk.history c.args.disk))).adds_none
+returns-in_default-clause-adds_none g c told = (reading_part g.N.Work.job.parts.digest (frames_of g.N.Work.job) (file_of g.N.Work.job) (frame_size g.N.Work.job) _ _ (reading_itself (g.D.Disk.state c.args.disk).history)).adds_none
 
 pub returns-in_default-clause-sound_has : goal.returns-in_default-clause-sound_has
 returns-in_default-clause-sound_has g c = sound_has g.N.Work.job (subst (λ (j : JobData). (s : sources.Files) (i : ℕ) → length (frame_file j s i) ≡ frame_size j) c.requires.job c.frame_len-size.ensures.each)
@@ -30,22 +30,22 @@ returns-in-Err-clause-sound_has g c = sound_has g.N.Work.job (subst (λ (j : Job
 -- the folder was opened
 pub returns-in-Ok-attach_for-clause-run : goal.returns-in-Ok-attach_for-clause-run
 returns-in-Ok-attach_for-clause-run g c told =
-    opened_run g.N.Work.job g.N.Work.files (g.D.Disk.history c.args.disk) (g.D.Disk.history c.attach_for.new.disk)
-    (subst (λ (j : JobData). IsOpeningRun j.parts.digest (frames_of j) (file_of j) (frame_size j) (g.D.Disk.history c.args.disk) (g.D.Disk.history c.attach_for.new.disk)) c.requires.job
-    (subst (λ n. IsOpeningRun c.args.job.now.parts.digest (frames_of c.args.job.now) (file_of c.args.job.now) n (g.D.Disk.history c.args.disk) (g.D.Disk.history c.attach_for.new.disk)) c.frame_len-size.ensures.size (c.attach_for.ensures.run told)))
+    opened_run g.N.Work.job g.N.Work.files (g.D.Disk.state c.args.disk).history (g.D.Disk.state c.attach_for.new.disk).history
+    (subst (λ (j : JobData). IsOpeningRun j.parts.digest (frames_of j) (file_of j) (frame_size j) (g.D.Disk.state c.args.disk).history (g.D.Disk.state c.attach_for.new.disk).history) c.requires.job
+    (subst (λ n. IsOpeningRun c.args.job.now.parts.digest (frames_of c.args.job.now) (file_of c.args.job.now) n (g.D.Disk.state c.args.disk).history (g.D.Disk.state c.attach_for.new.disk).history) c.frame_len-size.ensures.size (c.attach_for.ensures.run told)))
 
 pub returns-in-Ok-attach_for-clause-adds_none : goal.returns-in-Ok-attach_for-clause-adds_none
-returns-in-Ok-attach_for-clause-adds_none g c told = subst (λ (j : JobData). AddsNone j.parts.digest (frames_of j) (g.D.Disk.history c.args.disk) (g.D.Disk.history c.attach_for.new.disk)) c.requires.job (c.attach_for.ensures.adds_none told)
+returns-in-Ok-attach_for-clause-adds_none g c told = subst (λ (j : JobData). AddsNone j.parts.digest (frames_of j) (g.D.Disk.state c.args.disk).history (g.D.Disk.state c.attach_for.new.disk).history) c.requires.job (c.attach_for.ensures.adds_none told)
 
 -- or not
 pub returns-in-Err-clause-run : goal.returns-in-Err-clause-run
 returns-in-Err-clause-run g c told =
-    opened_run g.N.Work.job g.N.Work.files (g.D.Disk.history c.args.disk) (g.D.Disk.history c.attach_for.new.disk)
-    (subst (λ (j : JobData). IsOpeningRun j.parts.digest (frames_of j) (file_of j) (frame_size j) (g.D.Disk.history c.args.disk) (g.D.Disk.history c.attach_for.new.disk)) c.requires.job
-    (subst (λ n. IsOpeningRun c.args.job.now.parts.digest (frames_of c.args.job.now) (file_of c.args.job.now) n (g.D.Disk.history c.args.disk) (g.D.Disk.history c.attach_for.new.disk)) c.frame_len-size.ensures.size (c.attach_for.ensures.run told)))
+    opened_run g.N.Work.job g.N.Work.files (g.D.Disk.state c.args.disk).history (g.D.Disk.state c.attach_for.new.disk).history
+    (subst (λ (j : JobData). IsOpeningRun j.parts.digest (frames_of j) (file_of j) (frame_size j) (g.D.Disk.state c.args.disk).history (g.D.Disk.state c.attach_for.new.disk).history) c.requires.job
+    (subst (λ n. IsOpeningRun c.args.job.now.parts.digest (frames_of c.args.job.now) (file_of c.args.job.now) n (g.D.Disk.state c.args.disk).history (g.D.Disk.state c.attach_for.new.disk).history) c.frame_len-size.ensures.size (c.attach_for.ensures.run told)))
 
 pub returns-in-Err-clause-adds_none : goal.returns-in-Err-clause-adds_none
-returns-in-Err-clause-adds_none g c told = subst (λ (j : JobData). AddsNone j.parts.digest (frames_of j) (g.D.Disk.history c.args.disk) (g.D.Disk.history c.attach_for.new.disk)) c.requires.job (c.attach_for.ensures.adds_none told)
+returns-in-Err-clause-adds_none g c told = subst (λ (j : JobData). AddsNone j.parts.digest (frames_of j) (g.D.Disk.state c.args.disk).history (g.D.Disk.state c.attach_for.new.disk).history) c.requires.job (c.attach_for.ensures.adds_none told)
 
 pub invariant_of-result : goal.invariant_of-result
 invariant_of-result g c =
@@ -59,7 +59,7 @@ invariant_of-result g c =
         acked = λ j lt. absurd (omega (arith, lt, empty));
         once = λ j k lt below. absurd (omega (arith, below, empty));
         kept = omega (arith, empty, c.acked-kept.ensures.count);
-        agrees = λ _ told. subst (λ b. Agrees (moment_of (g.D.Disk.history c.attach_for.new.disk)) (record { digest = c.in-Ok-attach_for.ledger.digest; gates = c.in-Ok-attach_for.ledger.gates; closed = b })) known.is_open (c.in-Ok-attach_for.ensures.answer told).agrees;
+        agrees = λ _ told. subst (λ b. Agrees (moment_of (g.D.Disk.state c.attach_for.new.disk).history) (record { digest = c.in-Ok-attach_for.ledger.digest; gates = c.in-Ok-attach_for.ledger.gates; closed = b })) known.is_open (c.in-Ok-attach_for.ensures.answer told).agrees;
       },
       room,
       λ _. known.is_open,

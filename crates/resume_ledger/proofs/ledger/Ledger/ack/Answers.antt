@@ -20,7 +20,7 @@ returns-in-Ok-clause-acked g c told = acked_then _ _ _ (c.requires.agrees told) 
 
 pub returns-in-Ok-clause-agrees : goal.returns-in-Ok-clause-agrees
 returns-in-Ok-clause-agrees g c told =
-    subst (λ (l : LedgerState). Agrees (moment_of (g.D.Disk.history c.patch_firmly.new.disk)) (record l { gates = set l.gates c.args.i true })) (sym c.self.view_is)
+    subst (λ (l : LedgerState). Agrees (moment_of (g.D.Disk.state c.patch_firmly.new.disk).history) (record l { gates = set l.gates c.args.i true })) (sym c.self.view_is)
     (acked_agrees _ _ _ (c.requires.agrees told) _ c.requires.within _ c.gate-at.ensures (c.in-Ok.ensures.firmly told))
 
 -- the disk failed

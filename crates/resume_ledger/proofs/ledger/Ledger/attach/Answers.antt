@@ -1,13 +1,18 @@
-use Rattle.std.proofs.Common.{length}
+use Rattle.std.proofs.Common.{length, subst, sym, Bool, Ok}
 use Rattle.resume_ledger.specs.Sound.{file_at}
+use Rattle.reel_disk.specs.Disk.{Files}
+use Rattle.resume_ledger.specs.declared.layout.Version.TheVariants.{One, Two}
+use Rattle.resume_ledger.specs.Calls.{SyncsSeal}
+use Rattle.resume_ledger.specs.Ledger.{IsInForce}
 use Rattle.resume_ledger.proofs.Attaching.{attached_along}
 use Rattle.resume_ledger.proofs.Reading.{reading_along, reading_part, part_along}
+use Rattle.resume_ledger.proofs.Openings.{taken_along}
 use Rattle.resume_ledger.proofs.ledger.Ledger.attach.Goals as goal
 
 -- the folder is sealed by version 2
 pub returns-in-Ok-true-clause-answer : goal.returns-in-Ok-true-clause-answer
 returns-in-Ok-true-clause-answer g c told =
-    attached_along c.args.digest (length c.args.files.now) (g.D.Disk.history c.args.disk.now) (g.D.Disk.history c.is_sealed.new.disk) (g.D.Disk.history c.open_sealed.new.disk) (c.is_sealed.ensures.reading told).narrows (c.in-Ok-true.ensures.read told).view (file_at c.args.files.now) c.args.size c.open_sealed.result (c.open_sealed.ensures.answer told (file_at c.args.files.now) c.args.size)
+    attached_along c.args.digest (length c.args.files.now) (g.D.Disk.state c.args.disk.now).history (g.D.Disk.state c.is_sealed.new.disk).history (g.D.Disk.state c.open_sealed.new.disk).history (c.is_sealed.ensures.reading told).narrows (c.in-Ok-true.ensures.read told).view (file_at c.args.files.now) c.args.size c.open_sealed.result (c.open_sealed.ensures.answer told (file_at c.args.files.now) c.args.size)
 
 pub returns-in-Ok-true-clause-run : goal.returns-in-Ok-true-clause-run
 returns-in-Ok-true-clause-run g c told = (reading_part c.args.digest (length c.args.files.now) (file_at c.args.files.now) c.args.size _ _ (reading_along _ _ _ (c.is_sealed.ensures.reading told) (c.open_sealed.ensures.reading told))).run
@@ -27,7 +32,7 @@ returns-in-Ok-true-clause-writes g c told = (reading_along _ _ _ (c.is_sealed.en
 -- it is not
 pub returns-in-Ok-false-clause-answer : goal.returns-in-Ok-false-clause-answer
 returns-in-Ok-false-clause-answer g c told =
-    attached_along c.args.digest (length c.args.files.now) (g.D.Disk.history c.args.disk.now) (g.D.Disk.history c.is_sealed.new.disk) (g.D.Disk.history c.open_older.new.disk) (c.is_sealed.ensures.reading told).narrows (c.in-Ok-false.ensures.read told).view (file_at c.args.files.now) c.args.size c.open_older.result (c.open_older.ensures.answer told)
+    attached_along c.args.digest (length c.args.files.now) (g.D.Disk.state c.args.disk.now).history (g.D.Disk.state c.is_sealed.new.disk).history (g.D.Disk.state c.open_older.new.disk).history (c.is_sealed.ensures.reading told).narrows (c.in-Ok-false.ensures.read told).view (file_at c.args.files.now) c.args.size c.open_older.result (c.open_older.ensures.answer told)
 
 pub returns-in-Ok-false-clause-run : goal.returns-in-Ok-false-clause-run
 returns-in-Ok-false-clause-run g c told = (part_along c.args.digest (length c.args.files.now) (file_at c.args.files.now) c.args.size _ _ _ (c.is_sealed.ensures.reading told) (c.in-Ok-false.ensures.read told).view (c.open_older.ensures.part told)).run
@@ -47,3 +52,8 @@ returns-in-Err-clause-run g c told = (reading_part c.args.digest (length c.args.
 
 pub returns-in-Err-clause-adds_none : goal.returns-in-Err-clause-adds_none
 returns-in-Err-clause-adds_none g c told = (reading_part c.args.digest (length c.args.files.now) (file_at c.args.files.now) c.args.size _ _ (c.is_sealed.ensures.reading told)).adds_none
+
+pub returns-in-Ok-false-clause-taken : goal.returns-in-Ok-false-clause-taken
+returns-in-Ok-false-clause-taken g c told one =
+    let sealed = subst (λ (there : Bool). SyncsSeal Two (Ok there) (g.D.Disk.state c.args.disk.now).calls (g.D.Disk.state c.is_sealed.new.disk).calls) c.in-Ok-false.field-0-test c.in-Ok-false.ensures.calls in
+    taken_along c.args.digest c.args.files.now c.args.size _ _ _ sealed c.open_older.result (c.open_older.ensures.taken told (subst (λ (files : Files). IsInForce One files) (sym (c.in-Ok-false.ensures.read told).view) one))

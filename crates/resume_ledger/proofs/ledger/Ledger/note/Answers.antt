@@ -39,7 +39,7 @@ returns-in-Ok-clause-agrees g c told =
 pub returns-in-Ok-clause-written : goal.returns-in-Ok-clause-written
 returns-in-Ok-clause-written g c told =
     let at : c.gate.result + 1 ≡ 65 + 33 * c.args.i = omega (arith, c.gate.ensures) in
-    (c.in-Ok.ensures.firmly told).there ∙ ap (λ n. with_range (view_of (g.D.Disk.history c.args.disk.now) Body2) n c.args.hash) at
+    (c.in-Ok.ensures.firmly told).there ∙ ap (λ n. with_range (view_of (g.D.Disk.state c.args.disk.now).history Body2) n c.args.hash) at
 
 -- the disk failed
 pub returns-in-Err-clause-run : goal.returns-in-Err-clause-run

@@ -1,0 +1,16 @@
+-- One call on a disk, with what it was given and what it answered. All of it is this project's own rule.
+-- * call on a disk: of which kind, on which file, from which byte on, with which bytes, and what it answered
+use Rattle.std.specs.Prelude.{ℕ, List}
+use Rattle.cf_base.specs.declared.file.FileId.{FileId}
+use Rattle.reel_disk.specs.declared.disk.Length.{Length}
+use Rattle.reel_disk.specs.declared.disk.Got.{Got}
+use Rattle.reel_disk.specs.declared.disk.Did.{Did}
+
+pub data Call : Type 0 where
+  -- how long the file is
+  Measured : FileId → Length → Call
+  -- a read from a byte on; the list is the whole buffer behind it, whose first bytes are what was read
+  Read : FileId → (start : ℕ) → (into : List ℕ) → Got → Call
+  Wrote : FileId → (bytes : List ℕ) → Did → Call
+  Patched : FileId → (start : ℕ) → (bytes : List ℕ) → Did → Call
+  Synced : FileId → Did → Call

@@ -1,0 +1,27 @@
+-- What a disk is at a moment, and what each call leaves of it. All of it is this project's own rule.
+-- * state of a disk: its moments until now, how often it has failed, the calls that were made on it, and how it is lent; a call leaves it lent as it was, and its
+--   count of faults rises where the call failed for one, and else stays
+--     DiskState      its moments until now, how often it has failed, the calls that were made on it, and how it is lent
+--     LeavesDisk      what a call leaves of it, whatever it comes to
+use Rattle.std.specs.Prelude.{◌≡◌, ℕ, List, ◌∷◌}
+use Rattle.cf_base.specs.Count.{CountsFaults}
+use Rattle.reel_disk.specs.Call.{Call}
+use Rattle.reel_disk.specs.Disk.{History}
+use Rattle.cf_base.specs.Loan.{Loan}
+
+-- The count never falls, and stays at 2^64 - 1 once it is there. The newest call comes first, and so does the outermost loan; a
+-- disk that isn't lent has none.
+pub record DiskState : Type 0 where
+  pub history : History
+  pub faults : ℕ
+  pub calls : List Call
+  pub loans : List Loan
+
+-- the same, lent once more
+abbrev pub lent_by : Loan → DiskState → DiskState
+lent_by loan disk = record disk { loans = loan ∷ disk.loans }
+
+-- What a call leaves of a disk, whatever it comes to.
+pub record LeavesDisk (Failed : Type 0) (before after : DiskState) : Type 0 where
+  pub counts : CountsFaults Failed before.faults after.faults
+  pub lent : after.loans ≡ before.loans
