@@ -14,6 +14,7 @@ from dataclasses import dataclass, field
 from typing import Dict, List, Optional
 
 from room.edit_list import TOKEN, fcm_words, says_drop
+from room.least import Least
 from room.list_text import LONGEST, Line
 from room.timecode import Counting
 
@@ -370,11 +371,17 @@ def _overlaps(lasting: List[Taken]) -> List[Refused]:
     starts: List[int] = []
     ends: List[int] = []
     lines: List[int] = []
+    earliest: Optional[Least] = None
     overlapping: List[Taken] = []
     for taken in lasting:
         place = bisect.bisect_right(ends, taken.record_in)
-        near = lines[place : bisect.bisect_left(starts, taken.record_out, place)]
-        near += [other.line for other in overlapping if other.record_in < taken.record_out and taken.record_in < other.record_out]
+        near = [other.line for other in overlapping if other.record_in < taken.record_out and taken.record_in < other.record_out]
+        if place < len(starts) and starts[place] < taken.record_out:
+            if earliest is None:
+                earliest = Least(other.record_in for other in lasting)
+                for start, line in zip(starts, lines):
+                    earliest.put(start, line)
+            near.append(earliest.of(starts[place], taken.record_out))
         if near:
             refused.append(Refused("7.1", taken.line, other_line=min(near)))
             if len(overlapping) < 50:
@@ -383,4 +390,6 @@ def _overlaps(lasting: List[Taken]) -> List[Refused]:
             starts.insert(place, taken.record_in)
             ends.insert(place, taken.record_out)
             lines.insert(place, taken.line)
+            if earliest is not None:
+                earliest.put(taken.record_in, taken.line)
     return refused

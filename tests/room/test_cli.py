@@ -2,17 +2,17 @@
 
 from __future__ import annotations
 
-import gc
 import os
 import random
 import subprocess
-import time
+import sys
 import unittest
-from typing import Callable
+from typing import Any, Callable
 
 from helpers import TOP, InFolder, quick_station, typed
+from long_lists import SHAPES, event, long_list
 from room.check import check
-from room.cli import COMMANDS, SELDOM, parser
+from room.cli import COMMANDS, parser
 from room.draft import Options
 from room.edit_list import read_event, read_motion, read_note
 from room.rewrite import rewrite
@@ -20,28 +20,24 @@ from room.rewrite import rewrite
 ROOM = TOP / "room"
 
 
-def label(frame: int) -> str:
-    return f"{frame // 86400:02}:{frame // 1440 % 60:02}:{frame // 24 % 60:02}:{frame % 24:02}"
+def steps(what: Callable[[], object]) -> int:
+    """How many lines of Python are gone through where nothing was read before: the same from run to run."""
+    count = 0
 
+    def counting(*_: Any) -> Any:
+        nonlocal count
+        count += 1
+        return counting
 
-def event(number: int, word: str = "", reel: str = "") -> str:
-    """An event line of 20 frames, behind those of lower numbers."""
-    times = (label(frame) for frame in (number * 30, number * 30 + 20, number * 20, number * 20 + 20))
-    return f"{word or f'{number + 1:06}'}  {reel or f'A{number % 50:03}'}     V     C        {' '.join(times)}\n"
-
-
-def processor_time(what: Callable[[], object]) -> float:
-    """How long it takes the processor on the command line, where nothing was read before."""
     for read in (read_event, read_motion, read_note):
         read.cache_clear()
-    thresholds = gc.get_threshold()
-    gc.collect()
-    gc.set_threshold(SELDOM)
-    begun = time.process_time()
-    what()
-    took = time.process_time() - begun
-    gc.set_threshold(*thresholds)
-    return took
+    before = sys.gettrace()
+    sys.settrace(counting)
+    try:
+        what()
+    finally:
+        sys.settrace(before)
+    return count
 
 
 ODD = (
@@ -134,42 +130,20 @@ class TestOddBytes(unittest.TestCase):
                 self.assertEqual(rewrite(new, Options(rate, "avid"), None)[0], new)
 
     def test_ten_thousand_events(self) -> None:
-        """By the processor's time, beside a loop of this machine that is known to take a fifth of a second where nothing else runs."""
         data = "".join(event(number) + f"* FROM CLIP NAME: {number}\n" for number in range(10_000)).encode()
         changed = data.replace(b"  A0", b"  AX", 1).replace(b" V     C ", b" v     c ")
         found = check(data, 24, None)
         self.assertEqual([finding.text for finding in found if finding.is_to_decide], [])
         new, found = rewrite(changed, Options(24), None)
         self.assertEqual((new.count(b" V     C "), len([finding for finding in found if finding.kind == "changed"])), (10_000, 20_000))
-        for what in (lambda: check(data, 24, None), lambda: rewrite(changed, Options(24), None)):
-            ratios = []
-            for _ in range(3):
-                begun = time.process_time()
-                sum(number & 7 for number in range(4_000_000))
-                fifth = time.process_time() - begun
-                ratios.append(processor_time(what) / fifth)
-            self.assertLess(min(ratios), 5, ratios)
 
-    def test_four_times_the_events_take_no_more_than_some_four_times_as_long(self) -> None:
-        """Shapes in which something could be looked for again and again. Where it is, four times the events take sixteen times as long."""
-        shapes = {
-            "all change": lambda number, many: event(number).replace(" V     C ", " v     c "),
-            "one number": lambda number, many: event(number, "001", "AX") if number < many // 2 else f"M2 AX 023.9761 {label((number - many // 2) * 30)}\n",
-            "motion lines first": lambda number, many: f"M2 A{number % 50:03} 024.0 {label(number * 30)}\n" + event(number),
-            "triggers that are off": lambda number, many: event(number) + f"M2 A{number % 50:03} 024.0 {label(number * 30 + 1)}\n",
-            "stills": lambda number, many: event(number) + "* FROM CLIP IS A STILL\n",
-            "long events over short ones": lambda number, many: event(number) if number < many // 2 else event(number).replace(label(number * 20), label(0)),
-            "refused motion lines": lambda number, many: event(number, "001") if number < many // 2 else "M2 A001 x\n",
-        }
-        for shape, row in shapes.items():
-            times = []
-            for many in (1000, 4000):
-                data = "".join(row(number, many) for number in range(many)).encode()
-                for what in (lambda: check(data, 24, None), lambda: rewrite(data, Options(24, "avid"), None)):
-                    times.append(min(processor_time(what) for _ in range(2)))
-            with self.subTest(shape=shape, times=times):
-                self.assertLess(times[2] / times[0], 10)
-                self.assertLess(times[3] / times[1], 10)
+    def test_four_times_the_events_take_some_four_times_as_many_steps(self) -> None:
+        """Where something is looked for again and again, four times the events take sixteen times as many. (bench/room has the time.)"""
+        for shape in SHAPES:
+            for what in (lambda data: check(data, 24, None), lambda data: rewrite(data, Options(24, "avid"), None)):
+                few, many = (steps(lambda: what(long_list(shape, count).encode())) for count in (250, 1000))
+                with self.subTest(shape=shape, few=few, many=many):
+                    self.assertLess(many / few, 5)
 
     def test_the_station_is_right_where_the_kit_differs(self) -> None:
         data = b"001 A001 V C 01:00:00:00 01:00:01:00 01:00:00:00 01:00:01:00\n"
