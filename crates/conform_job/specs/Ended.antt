@@ -1,10 +1,12 @@
 -- The heads that a plan asked for before a fault ended it.
 --     head_count p ask      how many heads a source frame costs
 --     EndAt p told asks infos before after why      the fault came at one of these asks
+--     FaultAt p before after asks infos why      the same, from one state of the scan to another
 --     HasAsked p told before after why      the heads of a plan that ended so
 use Rattle.std.specs.Prelude.{◌≡◌, ℕ, List, [], ◌∷◌, ◌++◌, length, Option, Some, None, IfSome, option_and_then}
 use Rattle.cf_base.specs.declared.key.Key.{Key}
 use Rattle.dpx_header.specs.declared.info.FrameInfo.{FrameInfo}
+use Rattle.scan_source.specs.State.{ScanState}
 use Rattle.scan_source.specs.World.{World, file_at}
 use Rattle.source_reels.specs.Reels.{path_of_key}
 use Rattle.conform_job.specs.declared.frames.Ask.{Ask}
@@ -39,6 +41,9 @@ pub record EndAt (p : JobParts) (told : Option World) (asks : List Ask) (infos :
   pub middle : ℕ
   pub heads : HeadsGrow before middle (length infos) (length kept)
   pub own : after ≡ count_after (head_count p ask) middle
+
+abbrev pub FaultAt : JobParts → (before after : ScanState) → List Ask → List (Key × FrameInfo) → JobFault → Type 0
+FaultAt p before after asks infos why = EndAt p before.world asks infos before.heads after.heads why
 
 -- it came at one of the frames that the timeline asks for
 abbrev pub EndInTurn : JobParts → Option World → (before after : ℕ) → JobFault → Type 0

@@ -4,12 +4,14 @@
 --     JobData      what contracts see of it: its parts, and what the file of each needed key says
 --     IsJob p infos      what holds of every job, whatever its scan told
 --     need_at job i      the keys that record frame i needs, with their infos
+--     IsJobOf parts told job      what a plan of these parts makes
 --     HasTableKeys p, HasNeeds job      that each needed key is of a reel in the table, and that each record frame has what it needs
 --     file_of job i      the file that record frame i is written to
 --     IsByLines why first      which answers are told without a scan
 use Rattle.std.specs.Prelude.{◌≡◌, ℕ, ◌+◌, ◌<◌, ◌≤◌, true, List, [], length, Option, Some, None, IsSome, option_and_then}
 use Rattle.std.specs.Option.{option_map}
 use Rattle.std.specs.List.{list_any}
+use Rattle.scan_source.specs.World.{World}
 use Rattle.cf_base.specs.declared.file.FileId.{FileId}
 use Rattle.cf_base.specs.declared.file.FileId.TheVariants.{Frame as FrameFile}
 use Rattle.cf_base.specs.declared.key.Key.{Key}
@@ -50,6 +52,10 @@ pub record IsJob (p : JobParts) (infos : List (Key × FrameInfo)) : Type 0 where
   pub cut : bad_cut p ≡ None
   pub known : unknown_of p.reels p.timeline.events ≡ None
   pub filled : Grows p None (asks_of p.timeline) [] infos
+
+-- a plan's job: of these parts, with the infos that their frames ask for, each inspected once
+abbrev pub IsJobOf : JobParts → Option World → JobData → Type 0
+IsJobOf parts told job = (job.parts ≡ parts) × Grows parts told (asks_of parts.timeline) [] job.infos
 
 -- the file of record frame i: that of its record reel with the number of the record frame
 abbrev pub file_of : JobData → ℕ → FileId

@@ -6,7 +6,7 @@ ghost use Rattle.record_timeline.specs.Accepted.{first_frame, frame_count};
 ghost use Rattle.record_timeline.specs.Shots.{IsSideIn, IsShotIn};
 ghost use Rattle.source_reels.specs.Reels.{path_of_key};
 ghost use Rattle.source_reels.specs.Seen.{IsSeenFrame};
-ghost use Rattle.conform_job.specs.Ended.{EndAt, EndInTurn, path_count};
+ghost use Rattle.conform_job.specs.Ended.{EndInTurn, FaultAt, path_count};
 ghost use Rattle.conform_job.specs.Answers.{IsStep, IsOfFrame, IsInfoOf, AreInfosOf, Grows, HeadsGrow, count_after};
 ghost use Rattle.conform_job.specs.inside.Answers.{IsJudged};
 ghost use Rattle.conform_job.specs.Asks.{asks_of, asks_of_side, asks_of_shot, shot_of_frame};
@@ -186,7 +186,7 @@ fn inspect_frame<S: Scans>(
     ensures scan { LeavesScan (result ≡ Err JobFault.SourceFault) (S.state scans.old) (S.state scans.new) }
 
     ensures heads { OnOk result (HeadsGrow (S.state scans.old).heads (S.state scans.new).heads (length infos.old) (length infos.new)) }
-    ensures end { IfErr result (EndAt parts.now (S.state scans.old).world (ask ∷ []) infos.old (S.state scans.old).heads (S.state scans.new).heads) }
+    ensures end { IfErr result (FaultAt parts.now (S.state scans.old) (S.state scans.new) (ask ∷ []) infos.old) }
     ensures loads { (S.state scans.new).loads ≡ (S.state scans.old).loads }
 {
     let named = named_of(parts, ask);
@@ -219,7 +219,7 @@ fn inspect_side<S: Scans>(
     ensures scan { LeavesScan (result ≡ Err JobFault.SourceFault) (S.state scans.old) (S.state scans.new) }
 
     ensures heads { OnOk result (HeadsGrow (S.state scans.old).heads (S.state scans.new).heads (length infos.old) (length infos.new)) }
-    ensures end { IfErr result (EndAt parts.now (S.state scans.old).world (asks_of_side side) infos.old (S.state scans.old).heads (S.state scans.new).heads) }
+    ensures end { IfErr result (FaultAt parts.now (S.state scans.old) (S.state scans.new) (asks_of_side side) infos.old) }
     ensures loads { (S.state scans.new).loads ≡ (S.state scans.old).loads }
 {
     match side {
@@ -251,7 +251,7 @@ fn inspect_shot<S: Scans>(
     ensures scan { LeavesScan (result ≡ Err JobFault.SourceFault) (S.state scans.old) (S.state scans.new) }
 
     ensures heads { OnOk result (HeadsGrow (S.state scans.old).heads (S.state scans.new).heads (length infos.old) (length infos.new)) }
-    ensures end { IfErr result (EndAt parts.now (S.state scans.old).world (asks_of_shot shot) infos.old (S.state scans.old).heads (S.state scans.new).heads) }
+    ensures end { IfErr result (FaultAt parts.now (S.state scans.old) (S.state scans.new) (asks_of_shot shot) infos.old) }
     ensures loads { (S.state scans.new).loads ≡ (S.state scans.old).loads }
 {
     match shot {

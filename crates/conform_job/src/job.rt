@@ -1,16 +1,16 @@
 //! A job, and how it is planned.
-ghost use Rattle.std.specs.Prelude.{◌≡◌, ◌<◌, ◌≤◌, [], length, None, Some, Err, IfSome, IfOk, IfErr, MatchResult};
+ghost use Rattle.std.specs.Prelude.{◌≡◌, ◌<◌, ◌≤◌, length, None, Some, Err, IfSome, IfOk, IfErr, MatchResult};
 ghost use Rattle.scan_source.specs.World.{file_at};
 ghost use Rattle.record_timeline.specs.Accepted.{frame_count};
 ghost use Rattle.record_timeline.specs.Shots.{IsShotIn};
 ghost use Rattle.source_reels.specs.Reels.{path_of_key};
-ghost use Rattle.conform_job.specs.Answers.{IsStep, Grows, HeadsGrow};
-ghost use Rattle.conform_job.specs.Asks.{asks_of, shot_of_frame};
+ghost use Rattle.conform_job.specs.Answers.{IsStep, HeadsGrow};
+ghost use Rattle.conform_job.specs.Asks.{shot_of_frame};
 ghost use Rattle.conform_job.specs.Cuts.{record_reel, reel_count, reel_span, HasFramesOf, IsWithin};
 ghost use Rattle.conform_job.specs.Ended.{HasAsked};
 ghost use Rattle.conform_job.specs.inside.Found.{IsFound};
 ghost use Rattle.conform_job.specs.Infos.{HasEachOnce};
-ghost use Rattle.conform_job.specs.Job.{ArePlanned, IsByLines, IsNeeded, file_of};
+ghost use Rattle.conform_job.specs.Job.{ArePlanned, IsByLines, IsJobOf, IsNeeded, file_of};
 ghost use Rattle.conform_job.specs.inside.Lines.{ArePlaces, IsPlacedUnless};
 ghost use Rattle.conform_job.specs.Refusals.{first_refusal, told_refusal};
 ghost use Rattle.scan_source.specs.State.{LeavesScan};
@@ -72,7 +72,7 @@ impl Job {
         ensures lines { MatchResult result (λ _. told_refusal parts ≡ None) (λ why. IsByLines why (told_refusal parts)) }
 
         // The job has these parts, and one info for each needed key, which was inspected once.
-        ensures job { IfOk result (λ job. (job.parts ≡ parts) × Grows parts (S.state scans.old).world (asks_of parts.timeline) [] job.infos) }
+        ensures job { IfOk result (IsJobOf parts (S.state scans.old).world) }
         ensures once { IfOk result (λ job. HasEachOnce job.infos) }
         ensures heads { IfOk result (λ job. HeadsGrow (S.state scans.old).heads (S.state scans.new).heads 0 (length job.infos)) }
 

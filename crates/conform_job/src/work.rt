@@ -1,9 +1,9 @@
 //! The name of a job, of the world that its source files stand in, and of how many source frames are shared.
 use std::marker::Brand;
 
-/// Names the job of a run, the files of its scans where they are told, and how many decoded source frames record frames share. A value that stands behind a lock is known by
-/// its type alone, so its type has such a name as a parameter. A name has no call and no constant, and its meanings never
-/// change; the caller of a function that has a name picks them.
+/// Names the job of a run, the files of its scans where they are told, and how many decoded source frames record frames share.
+/// A value that stands behind a lock is known by its type alone, so its type has such a name as a parameter. A name has no call
+/// and no constant, and its meanings never change; the caller of a function that has a name picks them.
 pub trait Work {
     ghost use Rattle.conform_job.specs.Job.{JobData};
     ghost use Rattle.scan_source.specs.World.{World};

@@ -89,7 +89,8 @@ module _ {S : Type 0} (state : S → ScanState) where
     -- of a refused one the files up to the one that has the fault
     pub refused : (scan : S) → HasLoadedFor (told_by state old) path (state (slice_index_or old 0 scan)).loads
         (state (slice_index_or new 0 scan)).loads reached
-    pub steady : reached ≢ outcome.SourceFault → (scan : S) → (state (slice_index_or new 0 scan)).faults ≡ (state (slice_index_or old 0 scan)).faults
+    pub steady : reached ≢ outcome.SourceFault
+        → (scan : S) → (state (slice_index_or new 0 scan)).faults ≡ (state (slice_index_or old 0 scan)).faults
     pub later : (scan : S) → (state (slice_index_or old 0 scan)).faults ≤ (state (slice_index_or new 0 scan)).faults
     pub told : (scan : S) → (state (slice_index_or new 0 scan)).world ≡ (state (slice_index_or old 0 scan)).world
     pub lent : (scan : S) → (state (slice_index_or new 0 scan)).loans ≡ (state (slice_index_or old 0 scan)).loans
@@ -97,4 +98,5 @@ module _ {S : Type 0} (state : S → ScanState) where
 
   abbrev pub IsCrewReply : List ℕ → Extent → ℕ → ℕ → List S → List S → FolderState → FolderState → Outcome → List ℕ → Type 0
   IsCrewReply path extent workers share old new disk disk_after reached output =
-      RanItsJobByCrew path extent workers share old new disk disk_after reached output ⊎ IsUnplannedByCrew path old new disk disk_after reached
+      RanItsJobByCrew path extent workers share old new disk disk_after reached output
+      ⊎ IsUnplannedByCrew path old new disk disk_after reached

@@ -85,7 +85,8 @@ IsKnown job other = Unit {0}
 
 -- What a run that ended so keeps: at every moment of it each frame that a crash leaves acknowledged is the definition's, and no
 -- acknowledgement is lost; at Done the folder has all frames of the range.
-pub record IsSafeRun (job : JobData) (range : FrameRange) (told : Option World) (how : RunEnd) (disk disk_after : FolderState) : Type 0 where
+pub record IsSafeRun (job : JobData) (range : FrameRange) (told : Option World) (how : RunEnd)
+    (disk disk_after : FolderState) : Type 0 where
   pub run : disk.tells ≡ true → IsReelRun job told disk.history disk_after.history
   pub acked : how ≡ ends.Done → disk.tells ≡ true → AreAllAcked job range.low range.high (moment_of disk_after.history)
   pub whole : how ≡ ends.Done → disk.tells ≡ true → HasWhole job range.low range.high told disk.history disk_after.history

@@ -1,4 +1,4 @@
--- The command `adopt`: the reel of a project's job in the reel folder, with frames of an old project's reel taken over and the: words of private clauses.
+-- The command `adopt`: words of private clauses.
 use Rattle.std.specs.Prelude.{◌≡◌, ◌⊎◌, ℕ, List, Option, IfSome, Result, Ok, MatchResult}
 use Rattle.scan_source.specs.World.{World, file_at}
 use Rattle.conform_job.specs.Job.{JobData}

@@ -16,7 +16,8 @@ abbrev Bytes : Type 0
 Bytes = List ℕ
 
 abbrev Parts : Type 0
-Parts = (FileId × Length) ⊎ ((FileId × (ℕ × (Bytes × Got))) ⊎ ((FileId × (Bytes × Did)) ⊎ ((FileId × (ℕ × (Bytes × Did))) ⊎ (FileId × Did))))
+Parts = (FileId × Length)
+    ⊎ ((FileId × (ℕ × (Bytes × Got))) ⊎ ((FileId × (Bytes × Did)) ⊎ ((FileId × (ℕ × (Bytes × Did))) ⊎ (FileId × Did))))
 
 abbrev to_parts : Call → Parts
 to_parts (Measured id len) = inl (id, len)

@@ -1,4 +1,4 @@
--- What is counted over a picture's words (10-bit RGB, filled by method A: R in bits 31 to 22, G in 21 to 12, B in 11 to 2): words of private clauses.
+-- What is counted over a picture's words: words of private clauses.
 use Rattle.std.specs.Prelude.{ℕ, ◌*◌, ◌/◌, ◌%◌, List, drop, length, slice_index, take}
 use Rattle.reel_qc.specs.declared.probe.ProbeKind.{ProbeKind}
 use Rattle.reel_qc.specs.Counts.{counts_of}

@@ -41,7 +41,8 @@ IsRangeFile job low high gates q = (q ≡ Body2)
 
 -- What the work on frame i, whose gate was closed, makes of an open reel: the frame is finished, or no frame is where the
 -- work ended early. No file is written but the frame's and the ledger's.
-pub record HasRunFrame {D R : Type 0} (i : ℕ) (job : JobData) (told : Option World) (tells : Bool) (state : D → DiskState) (result : Result R RunEnd) (old new : ReelView D) : Type 0 where
+pub record HasRunFrame {D R : Type 0} (i : ℕ) (job : JobData) (told : Option World) (tells : Bool) (state : D → DiskState)
+    (result : Result R RunEnd) (old new : ReelView D) : Type 0 where
   pub fresh : slice_index_or old.ledger.gates i false ≡ false
   pub past : OnOk result (IsPast i old new)
   pub unfinished : OnErr result (IsUnfinished old new)
@@ -58,7 +59,8 @@ pub record HasRunFrame {D R : Type 0} (i : ℕ) (job : JobData) (told : Option W
 
 -- What a run over a range of frames of an open reel makes of it, until it ends so. It finished so many of the
 -- frames whose gate was closed, in their order, and wrote no file but theirs and the ledger's.
-pub record HasRunOver {D : Type 0} (job : JobData) (low high : ℕ) (told : Option World) (tells : Bool) (state : D → DiskState) (end : RunEnd) (old new : ReelView D) : Type 0 where
+pub record HasRunOver {D : Type 0} (job : JobData) (low high : ℕ) (told : Option World) (tells : Bool) (state : D → DiskState)
+    (end : RunEnd) (old new : ReelView D) : Type 0 where
   pub acks : new.acks ≡ take (length new.acks) (closed_frames old.ledger.gates low high)
   pub gates : AreOpened old.ledger.gates new.acks new.ledger.gates
   pub kept : new.kept ≡ old.kept

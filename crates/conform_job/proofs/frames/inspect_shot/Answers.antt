@@ -1,5 +1,10 @@
 -- What a shot asks for, side by side: where the old side refuses nothing, the new one answers.
+use Rattle.std.proofs.Common.{subst}
+use Rattle.std.specs.Prelude.{IfErr, Option}
+use Rattle.scan_source.specs.World.{World}
 use Rattle.scan_source.proofs.Leaving.{leaves_then}
+use Rattle.conform_job.specs.Asks.{asks_of_side}
+use Rattle.conform_job.specs.Ended.{EndAt}
 use Rattle.conform_job.proofs.Planning.{no_err}
 use Rattle.conform_job.proofs.Asking.{on_ok, told_then, told_refused, one_side, two_sides}
 use Rattle.conform_job.proofs.Growing.{grown_none, grown_both}
@@ -47,7 +52,9 @@ pub returns-in-Ok-clause-end : goal.returns-in-Ok-clause-end
 returns-in-Ok-clause-end g c = rw (c.in-Two.is, two_sides)
     (second_ended c.inspect_side-in-Ok.result _ _
     (λ why e. ended_then c.args.parts.now (g.S.Scans.state c.args.scans.now).world _ _ _ _ _ _ _ why c.in-Ok.ensures.grows c.in-Ok.ensures.heads e)
-    (rw c.inspect_side-in-Two.ensures.scan.told at c.inspect_side-in-Ok.ensures.end))
+    (subst (λ (told : Option World). IfErr c.inspect_side-in-Ok.result
+    (EndAt c.args.parts.now told (asks_of_side c.in-Two.new) c.inspect_side-in-Two.new.infos (g.S.Scans.state c.inspect_side-in-Two.new.scans).heads (g.S.Scans.state c.inspect_side-in-Ok.new.scans).heads))
+    c.inspect_side-in-Two.ensures.scan.told c.inspect_side-in-Ok.ensures.end))
 
 pub returns-in-Err-clause-end : goal.returns-in-Err-clause-end
 returns-in-Err-clause-end g c = rw (c.in-Two.is, two_sides) (ended_first c.args.parts.now (g.S.Scans.state c.args.scans.now).world _ _ _ _ _ _ c.in-Err.ensures.end)
