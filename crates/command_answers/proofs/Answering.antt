@@ -144,7 +144,7 @@ found_instead Found Instead job disk disk_after reached each seen = record {
 
 seen_instead : (Found Instead : ViewState → Type 0) (job : JobData) (disk disk_after : FolderState) (reached : Outcome) → ((view : ViewState) → Found view → Instead view)
     → HasSeen job disk disk_after reached Found → HasSeen job disk disk_after outcomes.NoMemory Instead
-seen_instead Found Instead job disk disk_after reached each has = record { seen = found_instead Found Instead job disk disk_after reached each has.seen; still = has.still }
+seen_instead Found Instead job disk disk_after reached each has = record { seen = found_instead Found Instead job disk disk_after reached each has.seen; reads = has.reads }
 
 status_instead : (job : JobData) (disk disk_after : FolderState) (reached : Outcome) (output : List ℕ) → IsStatus job disk disk_after reached output → IsStatus job disk disk_after outcomes.NoMemory (line_of outcomes.NoMemory)
 status_instead job disk disk_after reached output status = record {
@@ -153,7 +153,7 @@ status_instead job disk disk_after reached output status = record {
   form = λ same. absurd (cc);
   peeked = status.peeked;
   known = status.known;
-  still = status.still;
+  reads = status.reads;
 }
 
 check_instead : (job : JobData) (view : ViewState) (disk : FolderState) (reached : Outcome) (output : List ℕ) → IsChecked job view disk reached output → IsChecked job view disk outcomes.NoMemory (line_of outcomes.NoMemory)
@@ -179,6 +179,7 @@ sheet_instead tone job disk disk_after reached output made = record {
   spares = made.spares;
   sound = made.sound;
   kept = made.kept;
+  writes = made.writes;
   refused = made.refused;
 }
 
@@ -208,7 +209,7 @@ adopted_instead job old_job told old old_after disk disk_after loads loads_after
       went = rest_instead job told done went.between disk_after loads loads_after reached output rest;
       sealed = sealed;
       untouched = tt;
-      still = went.still;
+      reads = went.reads;
       acked = λ same. absurd (cc);
       spares = went.spares;
       writes = went.writes;
@@ -222,7 +223,7 @@ adopted_instead job old_job told old old_after disk disk_after loads loads_after
       went = record { reached_is = refl; unchanged = unadopted.unchanged; unloaded = unadopted.unloaded };
       sealed = tt;
       untouched = λ none. absurd none;
-      still = went.still;
+      reads = went.reads;
       acked = λ same. absurd (cc);
       spares = went.spares;
       writes = went.writes;

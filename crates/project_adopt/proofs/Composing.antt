@@ -6,7 +6,8 @@ use Rattle.cf_base.specs.declared.reel.ReelEntry.{ReelEntry}
 use Rattle.scan_source.specs.World.{World}
 use Rattle.conform_job.specs.Job.{JobData}
 use Rattle.conform_job.specs.Names.{Tells}
-use Rattle.reel_disk.specs.Disk.{Files, History, IsStill, moment_of, view_of}
+use Rattle.reel_disk.specs.Disk.{Files, History, moment_of, view_of}
+use Rattle.reel_disk.specs.State.{DiskState, OnlyReads}
 use Rattle.reel_disk.specs.Runs.{Spares}
 use Rattle.reel_disk.proofs.Sparing.{spares_along, spares_wider}
 use Rattle.resume_ledger.specs.declared.layout.Version.TheVariants.{Two}
@@ -27,7 +28,7 @@ use Rattle.frame_fetch.specs.declared.run_end.RunEnd.TheVariants as ends
 use Rattle.single_run.proofs.Closing.{whole_reel}
 use Rattle.outcome_line.specs.declared.outcome.Outcome.{Outcome}
 use Rattle.outcome_line.specs.declared.outcome.Outcome.TheVariants as outcome
-use Rattle.project_run.specs.Calls.{FolderState}
+use Rattle.project_run.specs.Calls.{FolderState, folder_state}
 use Rattle.project_run.specs.Run.{IsOfRun, outcome_of_end}
 use Rattle.project_adopt.specs.Adopt.{IsAdoption, IsOfAdopt, IsPromised, IsRest, outcome_of_fault}
 
@@ -131,64 +132,61 @@ pub rest_of : {job other : JobData} {told : Option World} {done : Adopted} {disk
 rest_of {told = told} {done = done} {disk = disk} {disk_after = disk_after} {loads = loads} {loads_after = loads_after} {reached = reached} {output = output} same rest =
     subst (λ (j : JobData). IsRest j done told loads loads_after disk disk_after reached output) same rest
 
--- what a disk is at a moment
-abbrev at : Bool → History → ℕ → FolderState
-at tells history faults = record { tells = tells; history = history; faults = faults }
-
-module _ (job old_job : JobData) (lent told : Option World) (tells_lent : Tells lent told) (tells : Bool) (h h_after before between after : History) (f f_after f_before f_between f_after_all : ℕ) (sound_has : (world : World) (files : Files) → IsSoundReel job world files → HasFrameFiles job files) (still : tells ≡ true → IsStill h h_after) (run : tells ≡ true → IsReelRun job lent before between)
-    (spares : tells ≡ true → Spares before between (IsOwnFile job (view_of before))) (writes : tells ≡ true → WritesOnly before between (MayWrite job (view_of before))) where
+module _ (job old_job : JobData) (lent told : Option World) (tells_lent : Tells lent told) (tells : Bool) (old old_after before between after : DiskState) (sound_has : (world : World) (files : Files) → IsSoundReel job world files → HasFrameFiles job files) (reads : OnlyReads tells old old_after) (run : tells ≡ true → IsReelRun job lent before.history between.history)
+    (spares : tells ≡ true → Spares before.history between.history (IsOwnFile job (view_of before.history)))
+    (writes : tells ≡ true → WritesOnly before.history between.history (MayWrite job (view_of before.history))) where
   -- both folders were opened
-  module _ (done : Adopted) (adopted : WasAdopted job old_job tells (view_of h) (view_of before) (view_of between) done) (two : tells ≡ true → IsInForce Two (view_of between))
-      (loads loads_after : ℕ) (reached : Outcome) (output : List ℕ) (rest : IsRest job done told loads loads_after (at tells between f_between) (at tells after f_after_all) reached output) where
-    both_acked : reached ≡ outcome.Done → tells ≡ true → AreAllAcked job 0 (frames_of job) (moment_of after)
+  module _ (done : Adopted) (adopted : WasAdopted job old_job tells (view_of old.history) (view_of before.history) (view_of between.history) done) (two : tells ≡ true → IsInForce Two (view_of between.history))
+      (loads loads_after : ℕ) (reached : Outcome) (output : List ℕ) (rest : IsRest job done told loads loads_after (folder_state tells between) (folder_state tells after) reached output) where
+    both_acked : reached ≡ outcome.Done → tells ≡ true → AreAllAcked job 0 (frames_of job) (moment_of after.history)
     both_acked is t = rest.run.keeps.acked (done_ends job.parts.reels rest.run.how reached rest.run.reply.reached_is is) t
 
-    both_ran : tells ≡ true → IsReelRun job lent before after
-    both_ran t = both_run job before between after (two t) lent told tells_lent (run t) (rest.run.keeps.run t)
+    both_ran : tells ≡ true → IsReelRun job lent before.history after.history
+    both_ran t = both_run job before.history between.history after.history (two t) lent told tells_lent (run t) (rest.run.keeps.run t)
 
-    kept_still : tells ≡ true → (k : ℕ) → HasKept job k (view_of before) → HasKept job k (view_of between)
-    kept_still t = kept_on job old_job tells (view_of h) (view_of before) (view_of between) done adopted t (two t)
+    kept_still : tells ≡ true → (k : ℕ) → HasKept job k (view_of before.history) → HasKept job k (view_of between.history)
+    kept_still t = kept_on job old_job tells (view_of old.history) (view_of before.history) (view_of between.history) done adopted t (two t)
 
-    pub went_on : IsAdoption job old_job told loads loads_after (at tells h f) (at tells h_after f_after) (at tells before f_before) (at tells after f_after_all) reached output
+    pub went_on : IsAdoption job old_job told loads loads_after (folder_state tells old) (folder_state tells old_after) (folder_state tells before) (folder_state tells after) reached output
     went_on = record {
       adopted = Ok done;
-      between = at tells between f_between;
+      between = folder_state tells between;
       tells = refl;
       answer = adopted;
       went = rest;
       sealed = two;
       untouched = tt;
-      still = still;
+      reads = record { still = reads.still; writes = reads.writes };
       acked = both_acked;
-      spares = λ t. both_spare job before between after (two t) (kept_still t) (run t) (rest.run.keeps.run t) (spares t) (rest.run.keeps.spares t);
-      writes = λ t. both_write job before between after (two t) (kept_still t) (run t) (rest.run.keeps.run t) (writes t) (rest.run.keeps.writes t);
+      spares = λ t. both_spare job before.history between.history after.history (two t) (kept_still t) (run t) (rest.run.keeps.run t) (spares t) (rest.run.keeps.spares t);
+      writes = λ t. both_write job before.history between.history after.history (two t) (kept_still t) (run t) (rest.run.keeps.run t) (writes t) (rest.run.keeps.writes t);
       sound_has = sound_has;
     }
 
-    pub promised_on : tells ≡ true → IsPromised job lent (at tells before f_before) (at tells after f_after_all) reached
+    pub promised_on : tells ≡ true → IsPromised job lent (folder_state tells before) (folder_state tells after) reached
     promised_on t = record {
       run = both_ran t;
-      whole = λ is. whole_reel job 0 (frames_of job) lent before after (both_ran t) (both_acked is t);
+      whole = λ is. whole_reel job 0 (frames_of job) lent before.history after.history (both_ran t) (both_acked is t);
     }
 
   -- the adoption didn't come to its end
-  module _ (why : AdoptFault) (refused : IsWhyUnadopted job old_job tells h h_after before between why) (untouched : IsOfOld why → at tells between f_between ≡ at tells before f_before)
+  module _ (why : AdoptFault) (refused : IsWhyUnadopted job old_job tells old.history old_after.history before.history between.history why) (untouched : IsOfOld why → folder_state tells between ≡ folder_state tells before)
       (loads : ℕ) (reached : Outcome) (output : List ℕ) (is : reached ≡ outcome_of_fault why) where
-    pub went_no_further : IsAdoption job old_job told loads loads (at tells h f) (at tells h_after f_after) (at tells before f_before) (at tells between f_between) reached output
+    pub went_no_further : IsAdoption job old_job told loads loads (folder_state tells old) (folder_state tells old_after) (folder_state tells before) (folder_state tells between) reached output
     went_no_further = record {
       adopted = Err why;
-      between = at tells between f_between;
+      between = folder_state tells between;
       tells = refl;
       answer = refused;
       went = record { reached_is = is; unchanged = refl; unloaded = refl };
       sealed = tt;
       untouched = untouched;
-      still = still;
+      reads = record { still = reads.still; writes = reads.writes };
       acked = λ done. absurd (never_done why (sym is ∙ done));
       spares = spares;
       writes = writes;
       sound_has = sound_has;
     }
 
-    pub promised_no_further : tells ≡ true → IsPromised job lent (at tells before f_before) (at tells between f_between) reached
+    pub promised_no_further : tells ≡ true → IsPromised job lent (folder_state tells before) (folder_state tells between) reached
     promised_no_further t = record { run = run t; whole = λ done. absurd (never_done why (sym is ∙ done)) }

@@ -14,7 +14,7 @@ use Rattle.std.specs.Prelude.{◌≡◌, ◌⊎◌, ℕ, ◌+◌, Bool, true, Li
 use Rattle.scan_source.specs.World.{World, file_at}
 use Rattle.conform_job.specs.Answers.{count_after}
 use Rattle.conform_job.specs.Job.{JobData}
-use Rattle.reel_disk.specs.Disk.{Files, moment_of, view_of, IsStill}
+use Rattle.reel_disk.specs.Disk.{Files, moment_of, view_of}
 use Rattle.reel_disk.specs.Runs.{Spares}
 use Rattle.reel_disk.specs.State.{DiskState}
 use Rattle.resume_ledger.specs.Ledger.{IsInForce}
@@ -32,7 +32,7 @@ use Rattle.printed_text.specs.Text.{spaced_line}
 use Rattle.outcome_line.specs.declared.outcome.Outcome.{Outcome}
 use Rattle.outcome_line.specs.declared.outcome.Outcome.TheVariants as outcome
 use Rattle.project_job.specs.Jobs.{ComesTo, cube_count}
-use Rattle.project_run.specs.Calls.{FolderState, OnDisk}
+use Rattle.project_run.specs.Calls.{FolderState, OnDisk, WasOnlyRead}
 use Rattle.frame_range.specs.Parts.{range_of}
 use Rattle.frame_range.specs.declared.range.Extent.TheVariants.{Whole}
 use Rattle.project_run.specs.Run.{IsJobRun, IsOfRun, IsUnplanned}
@@ -111,8 +111,8 @@ pub record IsAdoption (job old_job : JobData) (told : Option World) (loads loads
   pub sealed : MatchResult adopted (λ done. disk.tells ≡ true → IsInForce Two (view_of between.history)) (λ why. Unit {0})
   -- a refusal of the old folder leaves the new one as it was
   pub untouched : MatchResult adopted (λ done. Unit {0}) (λ why. IsOfOld why → disk_after ≡ disk)
-  -- the old folder was changed at no moment
-  pub still : disk.tells ≡ true → IsStill old.history old_after.history
+  -- the old folder was read and nothing else
+  pub reads : WasOnlyRead old old_after
   pub acked : reached ≡ outcome.Done → disk.tells ≡ true → AreAllAcked job 0 (frames_of job) (moment_of disk_after.history)
   -- what may have changed in the new one, and what was written, as in a run
   pub spares : disk.tells ≡ true → Spares disk.history disk_after.history (IsOwnFile job (view_of disk.history))

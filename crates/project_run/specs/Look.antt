@@ -7,7 +7,6 @@
 --     HasSeen      the same, and the folder was never changed
 use Rattle.std.specs.Prelude.{◌≡◌, ◌⊎◌, ℕ, ◌+◌, true, List, Option, IfSome, Result, Ok, MatchResult}
 use Rattle.scan_source.specs.World.{World, file_at}
-use Rattle.reel_disk.specs.Disk.{IsStill}
 use Rattle.reel_writer.specs.Reel.{frames_of}
 use Rattle.conform_job.specs.Answers.{count_after}
 use Rattle.conform_job.specs.Job.{JobData}
@@ -17,7 +16,7 @@ use Rattle.resume_ledger.specs.declared.attach.OpenFault.TheVariants as faults
 use Rattle.project_job.specs.Jobs.{ComesTo, cube_count}
 use Rattle.outcome_line.specs.declared.outcome.Outcome.{Outcome}
 use Rattle.outcome_line.specs.declared.outcome.Outcome.TheVariants as outcome
-use Rattle.project_run.specs.Calls.{FolderState}
+use Rattle.project_run.specs.Calls.{FolderState, WasOnlyRead}
 use Rattle.project_run.specs.Run.{IsOfRun, IsUnplanned}
 
 -- the outcome of a ledger that can't be had
@@ -41,10 +40,10 @@ pub record HasFound (job : JobData) (disk disk_after : FolderState) (reached : O
   pub known : IsLookFor job.parts.digest (frames_of job) ledger
   pub found : MatchResult ledger Found (λ fault. (reached ≡ outcome_of_fault fault) ⊎ (reached ≡ outcome.NoMemory))
 
--- And at no moment was the folder changed.
+-- And the folder was read and nothing else.
 pub record HasSeen (job : JobData) (disk disk_after : FolderState) (reached : Outcome) (Found : ViewState → Type 0) : Type 0 where
   pub seen : HasFound job disk disk_after reached Found
-  pub still : disk.tells ≡ true → IsStill disk.history disk_after.history
+  pub reads : WasOnlyRead disk disk_after
 
 -- The project came to this job, and its folder was looked at so.
 pub record HasLookedAt (told : Option World) (path : List ℕ) (loads loads_after : ℕ) (Looked : JobData → Type 0) : Type 0 where

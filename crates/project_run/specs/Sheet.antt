@@ -6,18 +6,19 @@
 use Rattle.std.specs.Prelude.{◌≡◌, ℕ, ◌≤◌, true, List, [], ◌∷◌, ◌++◌, codes, decimal, length, Option, Some, IsErr}
 use Rattle.cf_base.specs.declared.file.FileId.TheVariants as file
 use Rattle.scan_source.specs.World.{World}
-use Rattle.reel_disk.specs.Disk.{IsStill, moment_of, view_of}
+use Rattle.reel_disk.specs.Disk.{moment_of, view_of}
+use Rattle.reel_disk.specs.Call.{writes_in}
 use Rattle.reel_disk.specs.Runs.{LeavesOnly, Spares, Surely}
 use Rattle.conform_job.specs.Job.{JobData}
 use Rattle.resume_ledger.specs.Look.{ViewState}
 use Rattle.resume_ledger.specs.Steps.{IsFirmly}
 use Rattle.reel_writer.specs.Reel.{HasAcked, IsSoundReel}
-use Rattle.reel_qc.specs.Sheet.{cell_frames, sheet_file, sheet_peak}
+use Rattle.reel_qc.specs.Sheet.{cell_frames, sheet_file, sheet_peak, WritesSheet}
 use Rattle.printed_text.specs.Text.{spaced_line}
 use Rattle.outcome_line.specs.declared.outcome.Outcome.{Outcome}
 use Rattle.outcome_line.specs.declared.outcome.Outcome.TheVariants as outcome
 use Rattle.project_run.specs.Look.{HasFound, IsBehindLook, IsLookReply}
-use Rattle.project_run.specs.Calls.{FolderState}
+use Rattle.project_run.specs.Calls.{FolderState, WasOnlyRead}
 
 -- how many cells the sheet has, and its greatest code
 abbrev pub sheet_text : (cells peak : ℕ) → List ℕ
@@ -46,7 +47,8 @@ pub record HasSheet (tone : List ℕ) (job : JobData) (disk disk_after : FolderS
       → LeavesOnly disk.history disk_after.history (IsSoundReel job world)
   pub kept : disk.tells ≡ true → (i : ℕ) → Surely (moment_of disk.history) (HasAcked job i)
       → LeavesOnly disk.history disk_after.history (HasAcked job i)
-  pub refused : disk.tells ≡ true → IsErr seen.ledger → IsStill disk.history disk_after.history
+  pub writes : WritesSheet (writes_in disk.calls) (writes_in disk_after.calls)
+  pub refused : IsErr seen.ledger → WasOnlyRead disk disk_after
 
 abbrev pub IsSheetReply : List ℕ → List ℕ → Option World → (loads loads_after : ℕ) → (disk disk_after : FolderState)
     → Outcome → List ℕ → Type 0

@@ -4,7 +4,6 @@
 --     IsStatusReply      the project came to a job, and the folder was looked at, or it came to none
 use Rattle.std.specs.Prelude.{◌≡◌, ◌⊎◌, ℕ, true, List, [], ◌∷◌, ◌++◌, codes, decimal, Option, Result, Ok, Err}
 use Rattle.scan_source.specs.World.{World}
-use Rattle.reel_disk.specs.Disk.{IsStill}
 use Rattle.reel_writer.specs.Reel.{frames_of}
 use Rattle.conform_job.specs.Job.{JobData}
 use Rattle.resume_ledger.specs.Peek.{HasPeeked, IsPeekFor}
@@ -13,7 +12,7 @@ use Rattle.printed_text.specs.Text.{spaced_line}
 use Rattle.outcome_line.specs.declared.outcome.Outcome.{Outcome}
 use Rattle.outcome_line.specs.declared.outcome.Outcome.TheVariants as outcome
 use Rattle.project_run.specs.Look.{IsLookReply, outcome_of_fault}
-use Rattle.project_run.specs.Calls.{FolderState}
+use Rattle.project_run.specs.Calls.{FolderState, WasOnlyRead}
 
 -- the frames of the reel, and those that the folder acknowledges
 abbrev pub status_text : (frames acked : ℕ) → List ℕ
@@ -26,14 +25,14 @@ abbrev pub outcome_of_peek : Result ℕ OpenFault → Outcome
 outcome_of_peek (Ok acked) = outcome.Done
 outcome_of_peek (Err fault) = outcome_of_fault fault
 
--- The folder was looked at, at no moment was it changed, and its number was put: that of the frames that it acknowledges.
+-- The folder was looked at and nothing else, and its number was put: that of the frames that it acknowledges.
 pub record IsStatus (job : JobData) (disk disk_after : FolderState) (reached : Outcome) (output : List ℕ) : Type 0 where
   pub answer : Result ℕ OpenFault
   pub reached_is : (reached ≡ outcome_of_peek answer) ⊎ (reached ≡ outcome.NoMemory)
   pub form : reached ≡ outcome.Done → (acked : ℕ) × (answer ≡ Ok acked) × (output ≡ status_text (frames_of job) acked)
   pub peeked : disk.tells ≡ true → HasPeeked job.parts.digest (frames_of job) disk.history disk_after.history answer
   pub known : IsPeekFor job.parts.digest (frames_of job) answer
-  pub still : disk.tells ≡ true → IsStill disk.history disk_after.history
+  pub reads : WasOnlyRead disk disk_after
 
 abbrev pub IsStatusReply : List ℕ → Option World → (loads loads_after : ℕ) → (disk disk_after : FolderState) → Outcome → List ℕ → Type 0
 IsStatusReply path told loads loads_after disk disk_after reached output =

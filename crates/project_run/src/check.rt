@@ -1,10 +1,10 @@
 //! The command `verify`.
 ghost use Rattle.std.specs.Prelude.{◌≡◌, ◌≢◌, true, length, Err, IfOk, MatchResult};
-ghost use Rattle.reel_disk.specs.Disk.{view_of, IsStill};
+ghost use Rattle.reel_disk.specs.Disk.{view_of};
 ghost use Rattle.reel_writer.specs.Reel.{frames_of};
 ghost use Rattle.resume_ledger.specs.Look.{IsViewOf};
 ghost use Rattle.project_run.specs.Calls.{LeavesDiskFor, LeavesScanFor, OnDisk, Replies, OverScan};
-ghost use Rattle.reel_disk.specs.State.{LeavesDisk};
+ghost use Rattle.reel_disk.specs.State.{LeavesDisk, OnlyReads};
 ghost use Rattle.project_run.specs.Verify.{IsChecked, IsOfVerify, IsVerified, IsVerifyReply, outcome_of_check, verify_text};
 
 use crate::progress::outcome_of_fault;
@@ -89,7 +89,7 @@ fn checked<D: Disk, H: Hasher>(
     requires view { D.tells ≡ true → IsViewOf job.now.parts.digest (frames_of job.now) (view_of (D.state disk.old).history) view.now }
     ensures checked { Replies result (OnDisk D.tells (D.state disk.old) (D.state disk.new)
         (λ was is. IsChecked job.now view.now was)) }
-    ensures still { D.tells ≡ true → IsStill (D.state disk.old).history (D.state disk.new).history }
+    ensures reads { OnlyReads D.tells (D.state disk.old) (D.state disk.new) }
     ensures kind { MatchResult result (λ text. Unit {0}) IsOfVerify }
     ensures never { result ≢ Err Outcome.SourceFault }
 

@@ -1,7 +1,9 @@
 //! The command `sheet`.
 ghost use Rattle.std.specs.Prelude.{◌≡◌, ◌≢◌, true, length, Err, IfOk, MatchResult};
 ghost use Rattle.cf_base.specs.declared.file.FileId.TheVariants as file;
+ghost use Rattle.reel_disk.specs.Call.{writes_in};
 ghost use Rattle.reel_disk.specs.Runs.{Extends, Spares};
+ghost use Rattle.reel_qc.specs.Sheet.{WritesSheet};
 ghost use Rattle.reel_writer.specs.Reel.{frames_of};
 ghost use Rattle.project_run.specs.Look.{IsOfLook};
 ghost use Rattle.project_run.specs.Calls.{LeavesDiskFor, LeavesScanFor, OnDisk, Replies, OverScan};
@@ -86,6 +88,7 @@ fn sheeted<D: Disk>(
         (IsSheeted tone.now.table job.now view.now)) }
     ensures past { D.tells ≡ true → Extends (D.state disk.old).history (D.state disk.new).history }
     ensures spares { D.tells ≡ true → Spares (D.state disk.old).history (D.state disk.new).history (λ q. q ≡ file.Sheet) }
+    ensures writes { WritesSheet (writes_in (D.state disk.old).calls) (writes_in (D.state disk.new).calls) }
     ensures kind { MatchResult result (λ text. Unit {0}) IsOfLook }
     ensures never { result ≢ Err Outcome.SourceFault }
 

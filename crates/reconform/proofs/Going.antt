@@ -27,12 +27,6 @@ use Rattle.reconform.specs.declared.adopting.Adopted.{Adopted}
 use Rattle.reconform.specs.declared.adopting.AdoptFault.{AdoptFault}
 use Rattle.reconform.specs.declared.adopting.AdoptFault.TheVariants.{DiskFault}
 
-pub still_itself : (h : History) → IsStill h h
-still_itself h = record {
-  passes = record { later = omega arith; kept = λ m le. refl; inside = λ m from to. absurd (omega (arith, from, to)) };
-  same = refl;
-}
-
 module _ (new old : JobData) (tells : Bool) (h later : History) (still : tells ≡ true → IsStill h later) where
   can_along : (told : Option World) → IfSome told (λ world. CanServe new old world tells (view_of h)) → IfSome told (λ world. CanServe new old world tells (view_of later))
   can_along None can = tt

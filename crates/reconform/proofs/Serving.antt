@@ -1,5 +1,6 @@
 -- What a frame gets of its donor.
 use Rattle.std.proofs.Common.{◌≡◌, inl, inr, ℕ, ◌+◌, ◌<◌, Bool, true, false, List, get_or, set, length, drop, refl, sym, ap, ◌∙◌, subst, arith, Option}
+use Rattle.resume_ledger.proofs.Reading.{reads_none}
 use Rattle.std.specs.Prelude.{Some, None, IfSome, ◌⊎◌, ◌↔◌, Result, Ok, Err, IfOk, OnOk}
 use Rattle.std.specs.BTreeMap.{BTreeMap}
 use Rattle.std.proofs.lemmas.Bool.{cases_eq, cases_lt, false≢true}
@@ -21,7 +22,7 @@ use Rattle.reconform.specs.inside.Donor.{IsLeast, AreLeast, donor_in}
 use Rattle.reconform.specs.Laws.{HasTitle}
 use Rattle.reconform.specs.inside.Parts.{HasAdopted, HasServed}
 use Rattle.reconform.specs.Plan.{AreAlike, plan_at}
-use Rattle.reconform.proofs.Going.{both_itself, part_itself, still_itself}
+use Rattle.reconform.proofs.Going.{both_itself, part_itself}
 use Rattle.reconform.proofs.Painting.{equal_plans}
 
 -- where the old folder is sound, the pixels of a donor are those of the frame
@@ -179,7 +180,7 @@ adopted_none new old told tells state reel_tells reel_state view disk reel = rec
   stays_open = tt;
   end = inr refl;
   part = part_itself;
-  still = λ is. still_itself (state disk).history;
+  reads = reads_none;
 }
 
 -- nothing is to be done for a frame
@@ -192,6 +193,6 @@ nothing_done new old told tells state reel_tells reel_state view i disk reel is_
   stays = same_itself reel;
   stays_open = is_open;
   part = part_itself;
-  still = λ is. still_itself (state disk).history;
+  reads = reads_none;
   disks = both_itself (λ is. cc);
 }

@@ -1,6 +1,7 @@
 //! Taking over frames of an old reel.
 ghost use Rattle.std.specs.Prelude.{◌≡◌, true, false, length, IfOk, IfSome, IfErr, IsErrOf};
-ghost use Rattle.reel_disk.specs.Disk.{Files, view_of, IsStill};
+ghost use Rattle.reel_disk.specs.Disk.{Files, view_of};
+ghost use Rattle.reel_disk.specs.State.{OnlyReads};
 ghost use Rattle.reel_disk.specs.Runs.{Spares};
 ghost use Rattle.resume_ledger.specs.Ledger.{IsInForce};
 ghost use Rattle.resume_ledger.specs.Sound.{WritesOnly};
@@ -90,7 +91,7 @@ pub fn adopt<N: Work, O: Work, D: Disk, H: Hasher>(
         → WritesOnly (D.state disk.old).history (D.state disk.new).history (MayWrite N.job (view_of (D.state disk.old).history)) }
 
     // What the old folder holds stays as it is, at every moment and whatever the answer is.
-    ensures still { D.tells ≡ true → IsStill (D.state old.old).history (D.state old.new).history }
+    ensures reads { OnlyReads D.tells (D.state old.old) (D.state old.new) }
 
     // Both disks are lent as they were. The count of one of them rose where a disk failed, and else both stay.
     ensures disks { LeavesBoth (IsErrOf result AdoptFault.DiskFault) (D.state old.old) (D.state old.new) (D.state disk.old)
@@ -119,7 +120,7 @@ fn adopt_into<N: Work, O: Work, D: Disk, E: Disk, H: Hasher>(
     ensures untouched { IfErr result.0 (λ fault. IsOfOld fault → result.1 ≡ disk) }
     ensures safe { IsSafeAdoption N.job N.files E.tells (E.state disk) (E.state result.1) }
     ensures sealed { IfOk result.0 (λ done. E.tells ≡ true → IsInForce Version.Two (view_of (E.state result.1).history)) }
-    ensures still { D.tells ≡ true → IsStill (D.state old.old).history (D.state old.new).history }
+    ensures reads { OnlyReads D.tells (D.state old.old) (D.state old.new) }
     ensures disks { LeavesBoth (IsErrOf result.0 AdoptFault.DiskFault) (D.state old.old) (D.state old.new) (E.state disk)
         (E.state result.1) }
 {
@@ -150,7 +151,7 @@ fn adopt_owned<N: Work, O: Work, D: Disk, E: Disk, H: Hasher>(
     ensures not_old { IfErr result.0 (λ fault. IsOfOld fault → ⊥) }
     ensures safe { IsSafeAdoption N.job N.files E.tells (E.state disk) (E.state result.1) }
     ensures sealed { IfOk result.0 (λ done. E.tells ≡ true → IsInForce Version.Two (view_of (E.state result.1).history)) }
-    ensures still { D.tells ≡ true → IsStill (D.state old.old).history (D.state old.new).history }
+    ensures reads { OnlyReads D.tells (D.state old.old) (D.state old.new) }
     ensures disks { LeavesBoth (IsErrOf result.0 AdoptFault.DiskFault) (D.state old.old) (D.state old.new) (E.state disk)
         (E.state result.1) }
 {
@@ -203,7 +204,7 @@ fn adopt_opened<N: Work, O: Work, D: Disk, E: Disk, H: Hasher>(
     ensures answer { AsOpenedFor N.job O.job D.tells view.now (D.state old.old).history E.tells E.state reel result }
     ensures part { IsPart N.job N.files E.tells reel.ledger.gates (E.state reel.disk) (E.state result.1) }
     ensures sealed { IfOk result.0 (λ done. E.tells ≡ true → IsInForce Version.Two (view_of (E.state result.1).history)) }
-    ensures still { D.tells ≡ true → IsStill (D.state old.old).history (D.state old.new).history }
+    ensures reads { OnlyReads D.tells (D.state old.old) (D.state old.new) }
     ensures disks { LeavesBoth (IsErrOf result.0 AdoptFault.DiskFault)
         (D.state old.old) (D.state old.new) (E.state reel.disk) (E.state result.1) }
 {

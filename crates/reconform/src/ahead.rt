@@ -3,8 +3,8 @@
 ghost use Rattle.std.specs.Prelude.{◌≡◌, ◌<◌, true, Some, length, slice_index_or, All, OnOk, IfSome, IsErr};
 ghost use Rattle.frame_hash.specs.declared.Room.{Room};
 ghost use Rattle.frame_render.specs.Frame.{frame_size};
-ghost use Rattle.reel_disk.specs.Disk.{view_of, IsStill};
-ghost use Rattle.reel_disk.specs.State.{LeavesDisk};
+ghost use Rattle.reel_disk.specs.Disk.{view_of};
+ghost use Rattle.reel_disk.specs.State.{LeavesDisk, OnlyReads};
 ghost use Rattle.reel_writer.specs.Reel.{frames_of};
 ghost use Rattle.reconform.specs.inside.Ahead.{AreReady, HoldsDonor, HoldsFrame, IsKept};
 ghost use Rattle.reconform.specs.inside.Donor.{donor_in};
@@ -37,7 +37,7 @@ impl<H: Hasher> Takeover<'_, '_, '_, '_, '_, H> {
         requires size { All (λ room. length room.bytes.items ≡ frame_size N.job) rooms.old }
         ensures filled { OnOk result (AreReady N.job O.job N.files D.tells self.now.view.now (view_of (D.state old.old).history)
             rooms.new) }
-        ensures still { D.tells ≡ true → IsStill (D.state old.old).history (D.state old.new).history }
+        ensures reads { OnlyReads D.tells (D.state old.old) (D.state old.new) }
         ensures disk { LeavesDisk (IsErr result) (D.state old.old) (D.state old.new) }
     {
         match self.read_ahead::<N, O, D, E>(old, reel, from, rooms) {
@@ -65,7 +65,7 @@ impl<H: Hasher> Takeover<'_, '_, '_, '_, '_, H> {
         requires size { All (λ room. length room.bytes.items ≡ frame_size N.job) rooms.old }
         ensures read { OnOk result (All (HoldsDonor N.job O.job D.tells (view_of (D.state old.old).history) self.now.donors.now.by_plan)
             rooms.new) }
-        ensures still { D.tells ≡ true → IsStill (D.state old.old).history (D.state old.new).history }
+        ensures reads { OnlyReads D.tells (D.state old.old) (D.state old.new) }
         ensures disk { LeavesDisk (IsErr result) (D.state old.old) (D.state old.new) }
     {
         let mut next = from;
@@ -93,7 +93,7 @@ impl<H: Hasher> Takeover<'_, '_, '_, '_, '_, H> {
         requires size { length room.old.bytes.items ≡ frame_size N.job }
         ensures read { OnOk result
             (HoldsDonor N.job O.job D.tells (view_of (D.state old.old).history) self.now.donors.now.by_plan room.new) }
-        ensures still { D.tells ≡ true → IsStill (D.state old.old).history (D.state old.new).history }
+        ensures reads { OnlyReads D.tells (D.state old.old) (D.state old.new) }
         ensures disk { LeavesDisk (IsErr result) (D.state old.old) (D.state old.new) }
     {
         room.frame = None;

@@ -4,8 +4,8 @@ ghost use Rattle.sha2.specs.Sha256.{sha256};
 ghost use Rattle.frame_hash.specs.Rooms.{IsFree};
 ghost use Rattle.frame_render.specs.Frame.{IsFileOf, frame_file, frame_size};
 ghost use Rattle.scan_source.specs.World.{file_at};
-ghost use Rattle.reel_disk.specs.Disk.{view_of, IsStill};
-ghost use Rattle.reel_disk.specs.State.{LeavesDisk};
+ghost use Rattle.reel_disk.specs.Disk.{view_of};
+ghost use Rattle.reel_disk.specs.State.{LeavesDisk, OnlyReads};
 ghost use Rattle.reel_writer.specs.Reel.{frames_of};
 ghost use Rattle.reconform.specs.Adopt.{LeavesBoth};
 ghost use Rattle.reconform.specs.inside.Adopt.{IsSameReel};
@@ -47,7 +47,7 @@ impl<H: Hasher> Takeover<'_, '_, '_, '_, '_, H> {
         ensures pixels { IfOk result (λ is. is ≡ true → IfSome N.files (λ world.
             drop 2048 file.new ≡ drop 2048 (frame_file N.job (file_at world) i))) }
         ensures file { length file.new ≡ frame_size O.job }
-        ensures still { D.tells ≡ true → IsStill (D.state old.old).history (D.state old.new).history }
+        ensures reads { OnlyReads D.tells (D.state old.old) (D.state old.new) }
         ensures disk { LeavesDisk (IsErr result) (D.state old.old) (D.state old.new) }
     {
         match self.donors.get(plan_at(self.new_job, i)) {
@@ -191,7 +191,7 @@ impl<H: Hasher> Takeover<'_, '_, '_, '_, '_, H> {
             self.now.new_job.now self.now.old_job.now self.now.view.now self.now.donors.now.by_plan }
         requires rooms { AreReady N.job O.job N.files D.tells self.now.view.now (view_of (D.state old.old).history) rooms.old }
         ensures rooms { OnOk result (AreReady N.job O.job N.files D.tells self.now.view.now (view_of (D.state old.old).history) rooms.new) }
-        ensures still { D.tells ≡ true → IsStill (D.state old.old).history (D.state old.new).history }
+        ensures reads { OnlyReads D.tells (D.state old.old) (D.state old.new) }
         ensures disk { LeavesDisk (IsErr result) (D.state old.old) (D.state old.new) }
     {
         if are_free(rooms) {

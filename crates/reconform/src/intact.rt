@@ -1,9 +1,9 @@
 //! The file of a donor.
 ghost use Rattle.std.specs.Prelude.{◌≡◌, ◌<◌, ◌↔◌, true, length, Some, IfOk, IsErr};
-ghost use Rattle.reel_disk.specs.State.{LeavesDisk};
+ghost use Rattle.reel_disk.specs.State.{LeavesDisk, OnlyReads};
 ghost use Rattle.conform_job.specs.Job.{file_of};
 ghost use Rattle.frame_render.specs.Frame.{frame_size};
-ghost use Rattle.reel_disk.specs.Disk.{view_of, IsStill};
+ghost use Rattle.reel_disk.specs.Disk.{view_of};
 ghost use Rattle.reel_writer.specs.Reel.{frames_of};
 ghost use Rattle.reconform.specs.Donor.{IsIntact, IsOfHash};
 
@@ -30,7 +30,7 @@ pub(crate) fn read_intact<D: Disk>(
     ensures bytes { IfOk result (λ is. is ≡ true → D.tells ≡ true
         → view_of (D.state disk.old).history (file_of job.now j) ≡ Some into.new) }
     ensures room { length into.new ≡ frame_size job.now }
-    ensures still { D.tells ≡ true → IsStill (D.state disk.old).history (D.state disk.new).history }
+    ensures reads { OnlyReads D.tells (D.state disk.old) (D.state disk.new) }
     ensures disk { LeavesDisk (IsErr result) (D.state disk.old) (D.state disk.new) }
 {
     match read_whole(disk, job.file_of(j), into) {

@@ -1,6 +1,8 @@
 -- One call on a disk, with what it was given and what it answered. All of it is this project's own rule.
 -- * call on a disk: of which kind, on which file, from which byte on, with which bytes, and what it answered
-use Rattle.std.specs.Prelude.{ℕ, List}
+--     Call      one call
+--     writes_in calls      the writes and the syncs among calls: where they are as before, the calls since then only read
+use Rattle.std.specs.Prelude.{ℕ, List, [], ◌∷◌}
 use Rattle.cf_base.specs.declared.file.FileId.{FileId}
 use Rattle.reel_disk.specs.declared.disk.Length.{Length}
 use Rattle.reel_disk.specs.declared.disk.Got.{Got}
@@ -14,3 +16,16 @@ pub data Call : Type 0 where
   Wrote : FileId → (bytes : List ℕ) → Did → Call
   Patched : FileId → (start : ℕ) → (bytes : List ℕ) → Did → Call
   Synced : FileId → Did → Call
+
+-- before others, where it is a write or a sync
+abbrev pub with_write : Call → List Call → List Call
+with_write (Measured id len) writes = writes
+with_write (Read id start into got) writes = writes
+with_write (Wrote id bytes did) writes = Wrote id bytes did ∷ writes
+with_write (Patched id start bytes did) writes = Patched id start bytes did ∷ writes
+with_write (Synced id did) writes = Synced id did ∷ writes
+
+-- the writes and the syncs among calls, the newest first
+abbrev pub writes_in : List Call → List Call
+writes_in [] = []
+writes_in (call ∷ calls) = with_write call (writes_in calls)

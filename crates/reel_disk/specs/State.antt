@@ -1,12 +1,13 @@
 -- What a disk is at a moment, and what each call leaves of it. All of it is this project's own rule.
--- * state of a disk: its moments until now, how often it has failed, the calls that were made on it, and how it is lent; a call leaves it lent as it was, and its
---   count of faults rises where the call failed for one, and else stays
+-- * state of a disk: its moments until now, how often it has failed, the calls that were made on it, and how it is lent; a call
+--   leaves it lent as it was, and its count of faults rises where the call failed for one, and else stays
 --     DiskState      its moments until now, how often it has failed, the calls that were made on it, and how it is lent
 --     LeavesDisk      what a call leaves of it, whatever it comes to
-use Rattle.std.specs.Prelude.{◌≡◌, ℕ, List, ◌∷◌}
+--     OnlyReads      what a call leaves of it that only reads
+use Rattle.std.specs.Prelude.{◌≡◌, ℕ, Bool, true, List, ◌∷◌}
 use Rattle.cf_base.specs.Count.{CountsFaults}
-use Rattle.reel_disk.specs.Call.{Call}
-use Rattle.reel_disk.specs.Disk.{History}
+use Rattle.reel_disk.specs.Call.{Call, writes_in}
+use Rattle.reel_disk.specs.Disk.{History, IsStill}
 use Rattle.cf_base.specs.Loan.{Loan}
 
 -- The count never falls, and stays at 2^64 - 1 once it is there. The newest call comes first, and so does the outermost loan; a
@@ -25,3 +26,8 @@ lent_by loan disk = record disk { loans = loan ∷ disk.loans }
 pub record LeavesDisk (Failed : Type 0) (before after : DiskState) : Type 0 where
   pub counts : CountsFaults Failed before.faults after.faults
   pub lent : after.loans ≡ before.loans
+
+-- What a call that only reads leaves of a disk: what it tells of its files stays at every moment, and no write and no sync was made.
+pub record OnlyReads (tells : Bool) (before after : DiskState) : Type 0 where
+  pub still : tells ≡ true → IsStill before.history after.history
+  pub writes : writes_in after.calls ≡ writes_in before.calls

@@ -16,6 +16,10 @@ use Rattle.reel_disk.specs.declared.disk.Place.{Place}
 use Rattle.reel_disk.specs.declared.disk.Place.TheVariants.{Whole, Range}
 use Rattle.reel_disk.specs.Disk.{AgreesOutside, Files, History, IsFirm, IsImage, IsStill, IsLoose, Moment, file_of as place_file, loose_of, moment_of, view_of, with_file}
 use Rattle.reel_disk.specs.Runs.{Extends, LeavesOnly, Spares, Surely}
+use Rattle.reel_disk.specs.Call.{Call, Wrote, Synced, writes_in}
+use Rattle.reel_disk.specs.declared.disk.Did.TheVariants.{Done, Failed}
+use Rattle.std.specs.Prelude.{Result, Ok, Err}
+use Rattle.resume_ledger.specs.Calls.{Puts}
 use Rattle.reel_disk.proofs.Moments.{extends_along, passes_extends}
 use Rattle.reel_disk.proofs.Sparing.{spares_along, still_spares}
 use Rattle.resume_ledger.specs.Steps.{IsFirmly, IsPut}
@@ -26,7 +30,7 @@ use Rattle.resume_ledger.specs.Look.{ViewState}
 use Rattle.resume_ledger.proofs.Versions.{acks_as, fit_as}
 use Rattle.reel_writer.specs.Reel.{HasAcked, IsSoundReel, frames_of}
 use Rattle.reel_qc.specs.inside.Boxes.{AreCells, HasDrawn, HasPictures, IsDrawn, pictured_line}
-use Rattle.reel_qc.specs.Sheet.{box_colour, cell_frames, cell_height, cell_width, line_colours, picture_at, sheet_colours, sheet_height, sheet_rows, sheet_width, toned, toned_bytes}
+use Rattle.reel_qc.specs.Sheet.{WritesSheet, box_colour, cell_frames, cell_height, cell_width, line_colours, picture_at, sheet_colours, sheet_height, sheet_rows, sheet_width, toned, toned_bytes}
 use Rattle.reel_qc.specs.Tones.{IsToneTable}
 use Rattle.reel_qc.specs.declared.boxes.Boxes.{Boxes}
 use Rattle.reel_qc.proofs.Drawn.{drawn_along, drawn_none}
@@ -260,3 +264,13 @@ sheet_firmly old mid new bytes exact still is firmly = record {
   firm = firmly.firm;
   others = λ q was. firmly.others q (subst (λ (m : Moment). IsFirm m.loose q) (sym still.same) was);
 }
+
+-- the calls of the write, behind others that only read
+pub sheet_written : {A B : Type 0} (result : Result A B) (bytes : List ℕ) (old mid new : List Call) → writes_in mid ≡ writes_in old
+    → Puts (Wrote Sheet bytes) Sheet result mid new → WritesSheet (writes_in old) (writes_in new)
+sheet_written (Ok done) bytes old mid new none calls =
+    inr (bytes, inr (Done, ap writes_in calls ∙ ap (λ (writes : List Call). Synced Sheet Done ∷ Wrote Sheet bytes Done ∷ writes) none))
+sheet_written (Err fault) bytes old mid new none (inl calls) =
+    inr (bytes, inl (ap writes_in calls ∙ ap (λ (writes : List Call). Wrote Sheet bytes Failed ∷ writes) none))
+sheet_written (Err fault) bytes old mid new none (inr calls) =
+    inr (bytes, inr (Failed, ap writes_in calls ∙ ap (λ (writes : List Call). Synced Sheet Failed ∷ Wrote Sheet bytes Done ∷ writes) none))

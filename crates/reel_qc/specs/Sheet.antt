@@ -7,8 +7,9 @@
 --     sheet_file tone job view files      the file: its header (SMPTE 268M), then its words
 --     sheet_peak tone job view files      the greatest code of the sheet
 --     HasWrittenSheet tone job view old new      the file is written, of what the folder held before
+--     WritesSheet old new      which writes a sheet makes, whatever the disk tells: none, or the sheet's file, and then its sync
 -- Colours are lists of codes by channel: red, green, blue. A cell has one pixel for each box of 16 by 16 of its frame.
-use Rattle.std.specs.Prelude.{ℕ, ◌+◌, ◌-◌, ◌*◌, ◌/◌, ◌%◌, ◌&&◌, ◌==◌, max, false, nat_lt, if◌then◌else◌, List, [], ◌∷◌, ◌++◌, length, map, take, slice_index, slice_index_or, slice_get, Option, Some, None}
+use Rattle.std.specs.Prelude.{◌≡◌, ◌⊎◌, ℕ, ◌+◌, ◌-◌, ◌*◌, ◌/◌, ◌%◌, ◌&&◌, ◌==◌, max, false, nat_lt, if◌then◌else◌, List, [], ◌∷◌, ◌++◌, length, map, take, slice_index, slice_index_or, slice_get, Option, Some, None}
 use Rattle.std.specs.List.{filter, flat_map, fold, range_with_len, sum_by}
 use Rattle.byteorder.specs.Endian.{big_bytes}
 use Rattle.cf_base.specs.declared.event.EventRec.{EventRec}
@@ -19,7 +20,10 @@ use Rattle.dpx_pack.specs.Pixels.{colour_word}
 use Rattle.record_timeline.specs.Accepted.{first_frame}
 use Rattle.conform_job.specs.Job.{JobData, file_of}
 use Rattle.frame_render.specs.Frame.{black_of, pixel_count}
+use Rattle.reel_disk.specs.Call.{Call, Wrote, Synced}
 use Rattle.reel_disk.specs.Disk.{Files, History, view_of}
+use Rattle.reel_disk.specs.declared.disk.Did.{Did}
+use Rattle.reel_disk.specs.declared.disk.Did.TheVariants.{Done, Failed}
 use Rattle.resume_ledger.specs.Look.{ViewState}
 use Rattle.resume_ledger.specs.Steps.{IsFirmly}
 use Rattle.cf_base.specs.declared.file.FileId.TheVariants as file
@@ -135,3 +139,9 @@ sheet_peak tone job view files = fold max 0 (flat_map (toned tone) (sheet_colour
 -- The sheet is on the disk, and a crash keeps it so.
 abbrev pub HasWrittenSheet : List ℕ → JobData → ViewState → History → History → Type 0
 HasWrittenSheet tone job view old new = IsFirmly old new file.Sheet (Some (sheet_file tone job view (view_of old)))
+
+-- the writes and the syncs before a sheet is made, and those behind it
+abbrev pub WritesSheet : (old new : List Call) → Type 0
+WritesSheet old new = (new ≡ old)
+    ⊎ ((bytes : List ℕ) × ((new ≡ Wrote file.Sheet bytes Failed ∷ old)
+    ⊎ ((did : Did) × (new ≡ Synced file.Sheet did ∷ Wrote file.Sheet bytes Done ∷ old))))

@@ -1,10 +1,10 @@
 //! The cells of the sheet: which record frames they show, and the sums over the frames' files.
 ghost use Rattle.std.specs.Prelude.{◌≡◌, ◌≢◌, ◌+◌, ◌-◌, ◌*◌, ◌<◌, ◌≤◌, All, true, length, slice_get, IfOk, IfSome, IsErrOf, Err};
 ghost use Rattle.cf_base.specs.declared.event.EventRec.{EventRec};
-ghost use Rattle.reel_disk.specs.State.{LeavesDisk};
+ghost use Rattle.reel_disk.specs.State.{LeavesDisk, OnlyReads};
 ghost use Rattle.frame_render.specs.Frame.{pixel_count};
 ghost use Rattle.record_timeline.specs.Accepted.{first_frame, frame_count};
-ghost use Rattle.reel_disk.specs.Disk.{view_of, IsStill};
+ghost use Rattle.reel_disk.specs.Disk.{view_of};
 ghost use Rattle.reel_writer.specs.Reel.{frames_of};
 ghost use Rattle.reel_qc.specs.inside.Boxes.{HasPicture, IsCell, HasRow};
 ghost use Rattle.reel_qc.specs.Sheet.{cell_frames, cell_picture, first_frames, frames_in, most_cells, place_picture, whole_picture};
@@ -85,7 +85,7 @@ pub(crate) fn load_row<D: Disk>(
     ensures cells { IfOk result (λ cells. length cells.items ≡ 8) }
     ensures pictures { IfOk result (λ cells. HasRow job.now view.now D.tells (D.state disk.old).history row cells.items) }
     ensures piece { length buffers.new.piece.items ≡ 65536 }
-    ensures still { D.tells ≡ true → IsStill (D.state disk.old).history (D.state disk.new).history }
+    ensures reads { OnlyReads D.tells (D.state disk.old) (D.state disk.new) }
     ensures disk { LeavesDisk (IsErrOf result SheetFault.DiskFault) (D.state disk.old) (D.state disk.new) }
 {
     let mut cells = Vec::new(alloc);
@@ -124,7 +124,7 @@ fn load_cell<D: Disk>(
     ensures cell { IfOk result
         (IsCell job.now (D.tells ≡ true) (place_picture job.now view.now (view_of (D.state disk.old).history) frame)) }
     ensures piece { length buffers.new.piece.items ≡ 65536 }
-    ensures still { D.tells ≡ true → IsStill (D.state disk.old).history (D.state disk.new).history }
+    ensures reads { OnlyReads D.tells (D.state disk.old) (D.state disk.new) }
     ensures disk { LeavesDisk (IsErrOf result SheetFault.DiskFault) (D.state disk.old) (D.state disk.new) }
 {
     match frame {
@@ -147,7 +147,7 @@ fn load_frame<D: Disk>(
     requires piece { length buffers.old.piece.items ≡ 65536 }
     ensures cell { IfOk result (IsCell job.now (D.tells ≡ true) (cell_picture job.now view.now (view_of (D.state disk.old).history) i)) }
     ensures piece { length buffers.new.piece.items ≡ 65536 }
-    ensures still { D.tells ≡ true → IsStill (D.state disk.old).history (D.state disk.new).history }
+    ensures reads { OnlyReads D.tells (D.state disk.old) (D.state disk.new) }
     ensures disk { LeavesDisk (IsErrOf result SheetFault.DiskFault) (D.state disk.old) (D.state disk.new) }
 {
     if !view.is_acked(i) {

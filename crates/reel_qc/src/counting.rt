@@ -1,8 +1,8 @@
 //! The counts of several probes over the words of a frame's file.
 ghost use Rattle.std.specs.Prelude.{◌≡◌, ◌≢◌, ◌<◌, ◌≤◌, true, length, map, OnOk, IfOk, IsErrOf, Err};
-ghost use Rattle.reel_disk.specs.State.{LeavesDisk};
+ghost use Rattle.reel_disk.specs.State.{LeavesDisk, OnlyReads};
 ghost use Rattle.conform_job.specs.Job.{file_of};
-ghost use Rattle.reel_disk.specs.Disk.{view_of, IsStill};
+ghost use Rattle.reel_disk.specs.Disk.{view_of};
 ghost use Rattle.reel_writer.specs.Reel.{frames_of};
 ghost use Rattle.reel_qc.specs.inside.Table.{AddsCounts, HasCounted};
 ghost use Rattle.reel_qc.specs.Words.{frame_words, words_in};
@@ -35,7 +35,7 @@ pub(crate) fn count_frame<D: Disk, C: Counter>(
         (frame_words job.now (view_of (D.state disk.old).history (file_of job.now i))) counts.items) }
     ensures piece { length buffers.new.piece.items ≡ 65536 }
     ensures room { length buffers.new.words.items ≡ length buffers.old.words.items }
-    ensures still { D.tells ≡ true → IsStill (D.state disk.old).history (D.state disk.new).history }
+    ensures reads { OnlyReads D.tells (D.state disk.old) (D.state disk.new) }
     ensures disk { LeavesDisk (IsErrOf result QcFault.DiskFault) (D.state disk.old) (D.state disk.new) }
 {
     let Ok(mut counts) = vec![in alloc; 0u64; probes.len()] else {
@@ -78,7 +78,7 @@ fn count_file<D: Disk, C: Counter>(
     requires counts { length counts.old ≡ length probes.now }
     ensures added { OnOk result (AddsCounts (map (λ p. p.kind) probes.now) (D.tells ≡ true)
         (words_in 0 most (view_of (D.state disk.old).history id)) most counts.old counts.new) }
-    ensures still { D.tells ≡ true → IsStill (D.state disk.old).history (D.state disk.new).history }
+    ensures reads { OnlyReads D.tells (D.state disk.old) (D.state disk.new) }
     ensures disk { LeavesDisk (IsErrOf result QcFault.DiskFault) (D.state disk.old) (D.state disk.new) }
 {
     let mut done = 0;
@@ -122,7 +122,7 @@ fn count_part<D: Disk, C: Counter>(
     requires counts { length counts.old ≡ length probes.now }
     ensures added { OnOk result (AddsCounts (map (λ p. p.kind) probes.now) (D.tells ≡ true)
         (words_in first (length words.old) (view_of (D.state disk.old).history id)) (length words.old) counts.old counts.new) }
-    ensures still { D.tells ≡ true → IsStill (D.state disk.old).history (D.state disk.new).history }
+    ensures reads { OnlyReads D.tells (D.state disk.old) (D.state disk.new) }
     ensures disk { LeavesDisk (IsErrOf result QcFault.DiskFault) (D.state disk.old) (D.state disk.new) }
 {
     let found = match read_words(disk, id, first, piece, words) {

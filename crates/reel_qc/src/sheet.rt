@@ -1,14 +1,15 @@
 //! The contact sheet, as a file of the reel folder.
 ghost use Rattle.std.specs.Prelude.{◌≡◌, ◌≢◌, ◌+◌, ◌*◌, ◌/◌, ◌<◌, ◌≤◌, All, ℕ, true, length, OnOk, IfOk, IsErrOf, Err};
 ghost use Rattle.cf_base.specs.declared.file.FileId.TheVariants.{Sheet};
-ghost use Rattle.reel_disk.specs.State.{LeavesDisk};
+ghost use Rattle.reel_disk.specs.State.{LeavesDisk, OnlyReads};
 ghost use Rattle.dpx_header.specs.Writing.{IsOutHead, header_of};
-ghost use Rattle.reel_disk.specs.Disk.{view_of, IsStill};
+ghost use Rattle.reel_disk.specs.Call.{writes_in};
+ghost use Rattle.reel_disk.specs.Disk.{view_of};
 ghost use Rattle.reel_disk.specs.Runs.{Extends, Spares, StaysSo};
 ghost use Rattle.reel_writer.specs.Reel.{frames_of, HasAcked, IsSoundReel};
 ghost use Rattle.scan_source.specs.World.{World};
 ghost use Rattle.reel_qc.specs.inside.Boxes.{DrawsRow, DrawsSheet};
-ghost use Rattle.reel_qc.specs.Sheet.{cell_frames, cell_height, sheet_file, sheet_head, sheet_peak, sheet_rows, HasWrittenSheet};
+ghost use Rattle.reel_qc.specs.Sheet.{cell_frames, cell_height, sheet_file, sheet_head, sheet_peak, sheet_rows, HasWrittenSheet, WritesSheet};
 
 use crate::boxes::boxes_of;
 use crate::cells::{cell_frames, load_row};
@@ -71,8 +72,9 @@ pub fn make_sheet<D: Disk>(
         → StaysSo (D.state disk.old).history (D.state disk.new).history (IsSoundReel job.now world) }
     ensures kept { D.tells ≡ true → (i : ℕ) → StaysSo (D.state disk.old).history (D.state disk.new).history (HasAcked job.now i) }
 
-    // Where memory was missing, nothing was written.
-    ensures still { result ≡ Err SheetFault.NoMemory → D.tells ≡ true → IsStill (D.state disk.old).history (D.state disk.new).history }
+    // Whatever the disk tells, nothing but the sheet is written and synced, and where memory was missing nothing is.
+    ensures writes { WritesSheet (writes_in (D.state disk.old).calls) (writes_in (D.state disk.new).calls) }
+    ensures reads { result ≡ Err SheetFault.NoMemory → OnlyReads D.tells (D.state disk.old) (D.state disk.new) }
     ensures disk { LeavesDisk (IsErrOf result SheetFault.DiskFault) (D.state disk.old) (D.state disk.new) }
 {
     let sheet = match sheet_of(alloc, disk, job, view, tone) {
@@ -107,7 +109,7 @@ fn sheet_of<D: Disk>(
     ensures peak { IfOk result (λ sheet. D.tells ≡ true
         → sheet.done.peak ≡ sheet_peak tone.now.table job.now view.now (view_of (D.state disk.old).history)) }
     ensures code { IfOk result (λ sheet. sheet.done.peak ≤ 1023) }
-    ensures still { D.tells ≡ true → IsStill (D.state disk.old).history (D.state disk.new).history }
+    ensures reads { OnlyReads D.tells (D.state disk.old) (D.state disk.new) }
     ensures disk { LeavesDisk (IsErrOf result SheetFault.DiskFault) (D.state disk.old) (D.state disk.new) }
 {
     job.recall();
@@ -142,7 +144,7 @@ fn draw_sheet<D: Disk>(
     requires within { All (λ i. i < frames_of job.now) frames.now }
     requires some { 0 < length frames.now }
     ensures drawn { IfOk result (λ drawing. DrawsSheet tone.now.table job.now view.now D.tells (D.state disk.old).history drawing) }
-    ensures still { D.tells ≡ true → IsStill (D.state disk.old).history (D.state disk.new).history }
+    ensures reads { OnlyReads D.tells (D.state disk.old) (D.state disk.new) }
     ensures disk { LeavesDisk (IsErrOf result SheetFault.DiskFault) (D.state disk.old) (D.state disk.new) }
 {
     let rows = rows_of(job, frames);
@@ -253,7 +255,7 @@ fn draw_row<D: Disk>(
     requires piece { length buffers.old.piece.items ≡ 65536 }
     ensures drawn { OnOk result (DrawsRow tone.now.table job.now view.now D.tells (D.state disk.old).history row drawing.old drawing.new) }
     ensures piece { length buffers.new.piece.items ≡ 65536 }
-    ensures still { D.tells ≡ true → IsStill (D.state disk.old).history (D.state disk.new).history }
+    ensures reads { OnlyReads D.tells (D.state disk.old) (D.state disk.new) }
     ensures disk { LeavesDisk (IsErrOf result SheetFault.DiskFault) (D.state disk.old) (D.state disk.new) }
 {
     job.recall();

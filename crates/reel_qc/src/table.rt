@@ -1,8 +1,8 @@
 //! The quality table, as text.
 ghost use Rattle.std.specs.Prelude.{◌≡◌, ◌≢◌, ◌∷◌, [], ◌++◌, ◌<◌, ◌≤◌, true, length, map, codes, decimal, OnOk, IfOk, IsErrOf, Err};
-ghost use Rattle.reel_disk.specs.State.{LeavesDisk};
+ghost use Rattle.reel_disk.specs.State.{LeavesDisk, OnlyReads};
 ghost use Rattle.printed_text.specs.Text.{spaced_line};
-ghost use Rattle.reel_disk.specs.Disk.{view_of, IsStill};
+ghost use Rattle.reel_disk.specs.Disk.{view_of};
 ghost use Rattle.reel_writer.specs.Reel.{frames_of};
 ghost use Rattle.reel_qc.specs.Table.{IsTable, kind_word, quality_table, IsDefinedWhereSound};
 ghost use Rattle.reel_qc.specs.inside.Table.{AddsRow, AddsRows};
@@ -51,8 +51,8 @@ pub fn quality_table<D: Disk, C: Counter>(
     // Which frames have a line is known over every disk.
     ensures known { IfOk result (λ text. IsTable (map (λ p. p.kind) probes.now) view.now text.items) }
 
-    // What the disk holds stays as it is, at every moment and whatever the answer is.
-    ensures still { D.tells ≡ true → IsStill (D.state disk.old).history (D.state disk.new).history }
+    // It only reads: what the disk tells stays at every moment, and no write and no sync is made, whatever the answer is.
+    ensures reads { OnlyReads D.tells (D.state disk.old) (D.state disk.new) }
     ensures disk { LeavesDisk (IsErrOf result QcFault.DiskFault) (D.state disk.old) (D.state disk.new) }
 {
     let room = counter.most_words().min(pixels_of(job));
@@ -150,7 +150,7 @@ fn put_rows<D: Disk, C: Counter>(
     requires few { length buffers.old.words.items ≤ 16777216 }
     ensures rows { IfOk result
         (AddsRows (map (λ p. p.kind) probes.now) job.now view.now D.tells (D.state disk.old).history text.old text.new) }
-    ensures still { D.tells ≡ true → IsStill (D.state disk.old).history (D.state disk.new).history }
+    ensures reads { OnlyReads D.tells (D.state disk.old) (D.state disk.new) }
     ensures disk { LeavesDisk (IsErrOf result QcFault.DiskFault) (D.state disk.old) (D.state disk.new) }
 {
     let mut frames = 0;
@@ -186,7 +186,7 @@ fn put_frame<D: Disk, C: Counter>(
     ensures few { IfOk result (λ more. more ≤ 1) }
     ensures piece { length buffers.new.piece.items ≡ 65536 }
     ensures room { length buffers.new.words.items ≡ length buffers.old.words.items }
-    ensures still { D.tells ≡ true → IsStill (D.state disk.old).history (D.state disk.new).history }
+    ensures reads { OnlyReads D.tells (D.state disk.old) (D.state disk.new) }
     ensures disk { LeavesDisk (IsErrOf result QcFault.DiskFault) (D.state disk.old) (D.state disk.new) }
 {
     if !view.is_acked(i) {

@@ -1,8 +1,8 @@
 //! The words of a frame's file.
 ghost use Rattle.std.specs.Prelude.{◌≡◌, ◌≢◌, ◌*◌, ◌<◌, ◌≤◌, ◌^◌, ℕ, true, length, drop, slice_index, take, Some, OnOk, IfOk, IsErrOf, Err};
-ghost use Rattle.reel_disk.specs.State.{LeavesDisk};
+ghost use Rattle.reel_disk.specs.State.{LeavesDisk, OnlyReads};
 ghost use Rattle.conform_job.specs.Job.{file_of};
-ghost use Rattle.reel_disk.specs.Disk.{view_of, IsStill};
+ghost use Rattle.reel_disk.specs.Disk.{view_of};
 ghost use Rattle.reel_writer.specs.Reel.{frames_of};
 ghost use Rattle.frame_render.specs.Frame.{pixel_count};
 ghost use Rattle.reel_qc.specs.Words.{frame_words, words_in, words_from};
@@ -94,7 +94,7 @@ pub(crate) fn read_frame<D: Disk>(
     ensures size { OnOk result (length buffers.new.words.items ≤ 16777216) }
     ensures most { OnOk result (length buffers.new.words.items ≤ pixel_count job.now) }
     ensures piece { length buffers.new.piece.items ≡ 65536 }
-    ensures still { D.tells ≡ true → IsStill (D.state disk.old).history (D.state disk.new).history }
+    ensures reads { OnlyReads D.tells (D.state disk.old) (D.state disk.new) }
     ensures disk { LeavesDisk (IsErrOf result QcFault.DiskFault) (D.state disk.old) (D.state disk.new) }
 {
     // The frame before may have been short.
@@ -133,7 +133,7 @@ pub(crate) fn read_words<D: Disk>(
     ensures small { (k : ℕ) → slice_index words.new k < 2 ^ 32 }
     ensures size { length words.new ≡ length words.old }
     ensures piece { length piece.new ≡ 65536 }
-    ensures still { D.tells ≡ true → IsStill (D.state disk.old).history (D.state disk.new).history }
+    ensures reads { OnlyReads D.tells (D.state disk.old) (D.state disk.new) }
     ensures disk { LeavesDisk (IsErrOf result QcFault.DiskFault) (D.state disk.old) (D.state disk.new) }
 {
     let most = words.len();
@@ -167,7 +167,7 @@ fn read_piece<D: Disk>(
     ensures few { IfOk result (λ count. count ≤ length words.old) }
     ensures size { length words.new ≡ length words.old }
     ensures bytes { length bytes.new ≡ length bytes.old }
-    ensures still { D.tells ≡ true → IsStill (D.state disk.old).history (D.state disk.new).history }
+    ensures reads { OnlyReads D.tells (D.state disk.old) (D.state disk.new) }
     ensures disk { LeavesDisk (IsErrOf result QcFault.DiskFault) (D.state disk.old) (D.state disk.new) }
 {
     match disk.read(id, 2048 + 4 * first as u64, bytes) {

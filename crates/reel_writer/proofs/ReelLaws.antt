@@ -9,6 +9,7 @@ use Rattle.conform_job.specs.Cuts.{record_reel}
 use Rattle.conform_job.specs.Job.{JobData, file_of}
 use Rattle.conform_job.specs.Refusals as sources
 use Rattle.frame_render.specs.Frame.{frame_file, frame_size}
+use Rattle.reel_disk.specs.Call.{Call}
 use Rattle.reel_disk.specs.Disk.{Files, Moment, History, moment_of, view_of}
 use Rattle.reel_disk.specs.Runs.{LeavesOnly, Surely}
 use Rattle.reel_disk.proofs.Moments.{extends_itself, extends_along, leaves_start, leaves_along, keeps_start, keeps_along}
@@ -17,6 +18,7 @@ use Rattle.resume_ledger.specs.Sound.{file_at as listed_at, IsReel, IsFrameFile,
 use Rattle.resume_ledger.specs.Attach.{HasAttached}
 use Rattle.resume_ledger.specs.declared.attach.OpenFault.{OpenFault}
 use Rattle.resume_ledger.proofs.LawProofs.{sound_has_files}
+use Rattle.reel_writer.specs.Calls.{Opens}
 use Rattle.reel_writer.specs.Reel.{frames_of, reel_of, HasAcked, HasFrameFiles, KeepsReel, IsSoundReel, IsReelRun}
 use Rattle.reel_writer.specs.inside.Reel.{HasFrame, IsFinishing}
 
@@ -143,3 +145,9 @@ finishing_of job digest count i index file bytes old new same_digest same_count 
 pub acked_of : (job : JobData) (digest : List ℕ) (count i index : ℕ) (moment : Moment) → digest ≡ job.parts.digest → count ≡ frames_of job → i ≡ index → Surely moment (Acks digest count i) → Surely moment (HasAcked job index)
 acked_of job digest count i index moment same_digest same_count same_index acks =
     subst (λ (d : List ℕ). Surely moment (Acks d (frames_of job) index)) same_digest (subst (λ n. Surely moment (Acks digest n index)) same_count (subst (λ n. Surely moment (Acks digest count n)) same_index acks))
+
+-- the calls of an opening, for the same job by another name
+pub opens_for : (job named : JobData) (size : ℕ) (result : Result LedgerState OpenFault) (old new : List Call) → job ≡ named → size ≡ frame_size job
+    → Opens job size result old new → Opens named (frame_size named) result old new
+opens_for job named size result old new is size_is calls =
+    subst (λ (j : JobData). Opens j (frame_size j) result old new) is (subst (λ n. Opens job n result old new) size_is calls)

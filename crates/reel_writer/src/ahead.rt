@@ -1,10 +1,10 @@
 //! Files of a reel's frames that are read ahead of a check, so that several are hashed side by side.
 ghost use Rattle.std.specs.Prelude.{◌≡◌, ◌<◌, true, length, All, OnOk, IfSome, IsErr};
 ghost use Rattle.conform_job.specs.Job.{JobData, file_of};
-ghost use Rattle.reel_disk.specs.Disk.{Files, view_of, IsStill};
+ghost use Rattle.reel_disk.specs.Disk.{Files, view_of};
 ghost use Rattle.resume_ledger.specs.Hash.{digest_of_file};
 ghost use Rattle.reel_writer.specs.inside.Ahead.{HasDigest, HasFile};
-ghost use Rattle.reel_disk.specs.State.{LeavesDisk};
+ghost use Rattle.reel_disk.specs.State.{LeavesDisk, OnlyReads};
 ghost use Rattle.reel_writer.specs.Reel.{frames_of};
 
 use crate::whole::read_whole;
@@ -27,7 +27,7 @@ pub(crate) fn fill_rooms<D: Disk, H: Hasher>(
     requires size { length view.now.gates ≡ frames_of job.now }
     ensures digests { OnOk result (D.tells ≡ true
         → All (HasDigest job.now (view_of (D.state disk.old).history)) rooms.new) }
-    ensures still { D.tells ≡ true → IsStill (D.state disk.old).history (D.state disk.new).history }
+    ensures reads { OnlyReads D.tells (D.state disk.old) (D.state disk.new) }
     ensures disk { LeavesDisk (IsErr result) (D.state disk.old) (D.state disk.new) }
 {
     match read_ahead(disk, job, view, from, rooms) {
@@ -50,7 +50,7 @@ fn read_ahead<D: Disk>(
     requires size { length view.now.gates ≡ frames_of job.now }
     ensures files { OnOk result (D.tells ≡ true
         → All (HasFile job.now (view_of (D.state disk.old).history)) rooms.new) }
-    ensures still { D.tells ≡ true → IsStill (D.state disk.old).history (D.state disk.new).history }
+    ensures reads { OnlyReads D.tells (D.state disk.old) (D.state disk.new) }
     ensures disk { LeavesDisk (IsErr result) (D.state disk.old) (D.state disk.new) }
 {
     let mut next = from;
@@ -75,7 +75,7 @@ fn read_next<D: Disk>(
     requires size { length view.now.gates ≡ frames_of job.now }
     ensures file { OnOk result (D.tells ≡ true
         → HasFile job.now (view_of (D.state disk.old).history) room.new) }
-    ensures still { D.tells ≡ true → IsStill (D.state disk.old).history (D.state disk.new).history }
+    ensures reads { OnlyReads D.tells (D.state disk.old) (D.state disk.new) }
     ensures disk { LeavesDisk (IsErr result) (D.state disk.old) (D.state disk.new) }
 {
     room.frame = None;

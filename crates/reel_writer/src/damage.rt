@@ -1,10 +1,10 @@
 //! A check of a reel's files against the ledger's records.
 ghost use Rattle.std.specs.Prelude.{◌≡◌, ◌<◌, true, length, All, Err, IfOk, OnOk, IsErr};
-ghost use Rattle.reel_disk.specs.Disk.{view_of, IsStill};
+ghost use Rattle.reel_disk.specs.Disk.{view_of};
 ghost use Rattle.conform_job.specs.Job.{file_of};
 ghost use Rattle.resume_ledger.specs.Hash.{digest_of_file};
 ghost use Rattle.reel_writer.specs.inside.Ahead.{HasDigest};
-ghost use Rattle.reel_disk.specs.State.{LeavesDisk};
+ghost use Rattle.reel_disk.specs.State.{LeavesDisk, OnlyReads};
 ghost use Rattle.reel_writer.specs.Reel.{frames_of};
 ghost use Rattle.reel_writer.specs.Damage.{HasChecked, IsCheckFor, IsIntactWhereSound};
 ghost use Rattle.reel_writer.specs.inside.Damage.{HasCheckedOne, IsCheckOneFor};
@@ -55,8 +55,8 @@ pub fn check<D: Disk, H: Hasher>(
     ensures intact { D.tells ≡ true
         → IsIntactWhereSound job.now view.now (view_of (D.state disk.old).history) }
 
-    // What the disk holds stays as it is, at every moment and whatever the answer is.
-    ensures still { D.tells ≡ true → IsStill (D.state disk.old).history (D.state disk.new).history }
+    // It only reads: what the disk tells stays at every moment, and no write and no sync is made, whatever the answer is.
+    ensures reads { OnlyReads D.tells (D.state disk.old) (D.state disk.new) }
 
     // The number of records, and which frame is damaged, are known over every disk.
     ensures known { IsCheckFor job.now view.now result }
@@ -88,7 +88,7 @@ fn check_all<D: Disk, H: Hasher>(
     requires piece { length piece.old ≡ 65536 }
     ensures answer { D.tells ≡ true
         → HasChecked job.now view.now (view_of (D.state disk.old).history) result }
-    ensures still { D.tells ≡ true → IsStill (D.state disk.old).history (D.state disk.new).history }
+    ensures reads { OnlyReads D.tells (D.state disk.old) (D.state disk.new) }
     ensures known { IsCheckFor job.now view.now result }
     ensures disk { LeavesDisk (result ≡ Err CheckFault.DiskFault) (D.state disk.old) (D.state disk.new) }
 {
@@ -119,7 +119,7 @@ fn check_one<D: Disk, H: Hasher>(
     requires piece { length piece.old ≡ 65536 }
     ensures answer { D.tells ≡ true
         → HasCheckedOne job.now view.now (view_of (D.state disk.old).history) i result }
-    ensures still { D.tells ≡ true → IsStill (D.state disk.old).history (D.state disk.new).history }
+    ensures reads { OnlyReads D.tells (D.state disk.old) (D.state disk.new) }
     ensures known { IsCheckOneFor view.now i result }
     ensures rooms { OnOk result (D.tells ≡ true
         → All (HasDigest job.now (view_of (D.state disk.old).history)) rooms.new) }
@@ -161,7 +161,7 @@ fn digest_of<D: Disk, H: Hasher>(
     requires piece { length piece.old ≡ 65536 }
     ensures digest { IfOk result (λ digest. D.tells ≡ true
         → digest ≡ digest_of_file (view_of (D.state disk.old).history (file_of job.now i))) }
-    ensures still { D.tells ≡ true → IsStill (D.state disk.old).history (D.state disk.new).history }
+    ensures reads { OnlyReads D.tells (D.state disk.old) (D.state disk.new) }
     ensures rooms { OnOk result (D.tells ≡ true
         → All (HasDigest job.now (view_of (D.state disk.old).history)) rooms.new) }
     ensures piece { length piece.new ≡ 65536 }

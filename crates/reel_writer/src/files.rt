@@ -9,6 +9,7 @@ ghost use Rattle.reel_disk.specs.Runs.{Narrows, Spares};
 ghost use Rattle.resume_ledger.specs.Ledger.{IsInForce, IsLedgerFile, IsWrittenLedgerFile};
 ghost use Rattle.resume_ledger.specs.Sound.{file_at, IsOpeningRun, AddsNone, WritesOnly};
 ghost use Rattle.resume_ledger.specs.Attach.{IsAnswerTo};
+ghost use Rattle.reel_writer.specs.Calls.{Opens};
 ghost use Rattle.reel_writer.specs.Reel.{frames_of, HasBegun};
 
 use cf_base::FileId;
@@ -54,6 +55,7 @@ pub(crate) fn attach_for<D: Disk>(
     ensures spares { D.tells ≡ true
         → Spares (D.state disk.old).history (D.state disk.new).history IsLedgerFile }
     ensures known { IsAnswerTo job.now.parts.digest (frames_of job.now) result }
+    ensures calls { Opens job.now size result (D.state disk.old).calls (D.state disk.new).calls }
     ensures disk { LeavesDisk (IsErrOf result OpenFault.DiskFault) (D.state disk.old) (D.state disk.new) }
 {
     let Ok(files) = files_of(alloc, job) else {

@@ -9,7 +9,7 @@ ghost use Rattle.scan_source.specs.World.{World};
 ghost use Rattle.resume_ledger.specs.Ledger.{IsInForce, IsLedgerFile, IsWrittenLedgerFile};
 ghost use Rattle.resume_ledger.specs.Sound.{AddsNone, AddsAtMost, WritesOnly};
 ghost use Rattle.resume_ledger.specs.Attach.{IsAnswerTo};
-ghost use Rattle.reel_writer.specs.Calls.{Finishes};
+ghost use Rattle.reel_writer.specs.Calls.{Finishes, Opens};
 ghost use Rattle.reel_writer.specs.Reel.{frames_of, HasAcked, HasFrameFiles, HasStored, IsSoundReel, IsReelRun, KeepsReel, IsWrittenFile, HasBegun};
 ghost use Rattle.reel_writer.specs.View.{ReelView, IsReelOf, IsOpening, after_finish, after_fault, ledger_in, disk_in};
 
@@ -98,6 +98,8 @@ impl<D: Disk, N: Work> Reel<D, N> {
         ensures known { IsAnswerTo N.job.parts.digest (frames_of N.job) (ledger_in result) }
         ensures opening { IfOk result IsOpening }
 
+        // So are the calls that it makes, and no others.
+        ensures calls { Opens N.job (frame_size N.job) (ledger_in result) (D.state disk).calls (D.state (disk_in result)).calls }
         ensures disk { LeavesDisk (IsErrOf (ledger_in result) OpenFault.DiskFault) (D.state disk) (D.state (disk_in result)) }
     {
         let size = frame_len(job);

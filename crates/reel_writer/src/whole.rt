@@ -1,8 +1,8 @@
 //! A file of the folder that is read whole.
 ghost use Rattle.std.specs.Prelude.{◌≡◌, ◌↔◌, true, length, IfOk, IsErr, Some};
-ghost use Rattle.reel_disk.specs.Disk.{view_of, IsStill};
+ghost use Rattle.reel_disk.specs.Disk.{view_of};
 ghost use Rattle.resume_ledger.specs.Sound.{HasSize};
-ghost use Rattle.reel_disk.specs.State.{LeavesDisk};
+ghost use Rattle.reel_disk.specs.State.{LeavesDisk, OnlyReads};
 
 use cf_base::FileId;
 use reel_disk::{Disk, DiskFault, Got, Length};
@@ -16,7 +16,7 @@ pub fn read_whole<D: Disk>(disk: &mut D, id: FileId, into: &mut [u8]) -> Result<
     ensures bytes { IfOk result (λ is. is ≡ true → D.tells ≡ true
         → view_of (D.state disk.old).history id ≡ Some into.new) }
     ensures room { length into.new ≡ length into.old }
-    ensures still { D.tells ≡ true → IsStill (D.state disk.old).history (D.state disk.new).history }
+    ensures reads { OnlyReads D.tells (D.state disk.old) (D.state disk.new) }
     ensures disk { LeavesDisk (IsErr result) (D.state disk.old) (D.state disk.new) }
 {
     let len = match disk.length(id) {

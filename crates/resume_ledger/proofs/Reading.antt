@@ -1,12 +1,16 @@
 -- Calls that sync the ledger's files and read them.
-use Rattle.std.proofs.Common.{◌≡◌, inl, inr, ℕ, ◌<◌, ◌≤◌, List, refl, sym, ◌∙◌, ap, subst, arith}
+use Rattle.std.proofs.Common.{◌≡◌, inl, inr, ℕ, ◌<◌, ◌≤◌, Bool, true, List, ◌∷◌, refl, sym, ◌∙◌, ap, subst, arith}
 use Rattle.std.proofs.lemmas.Bool.{cases_lt}
 use Rattle.cf_base.specs.declared.file.FileId.{FileId}
 use Rattle.reel_disk.specs.declared.disk.Place.{Place}
 use Rattle.reel_disk.specs.declared.disk.Did.{Did}
+use Rattle.reel_disk.specs.declared.disk.Got.{Got}
+use Rattle.reel_disk.specs.declared.disk.Length.{Length}
 use Rattle.reel_disk.specs.declared.disk.Did.TheVariants.{Done, Failed}
 use Rattle.reel_disk.specs.Disk.{Files, Moment, History, moment_of, view_of, loose_of, IsImage, IsFirm, IsLoose, IsStill, HasSynced}
 use Rattle.reel_disk.specs.Runs.{Extends, Narrows, Spares}
+use Rattle.reel_disk.specs.Call.{Measured, Read, writes_in}
+use Rattle.reel_disk.specs.State.{DiskState, OnlyReads}
 use Rattle.reel_disk.proofs.Calls.{sync_narrows, still_narrows, narrows_along, narrows_leaves, narrows_keeps}
 use Rattle.reel_disk.proofs.Images.{firm_image, view_is_image}
 use Rattle.reel_disk.proofs.Moments.{extends_itself, extends_along, leaves_along, keeps_along, when}
@@ -54,6 +58,30 @@ still_along old mid new first second = record {
         | inr last ↦ second.passes.kept m last ∙ ap mid.past (omega (arith, late, last)) ∙ first.same
       ]
     ]
+
+-- the same, and what is written meanwhile: nothing
+pub still_itself : (h : History) → IsStill h h
+still_itself h = record {
+  passes = record { later = omega arith; kept = λ m le. refl; inside = λ m from to. absurd (omega (arith, from, to)) };
+  same = refl;
+}
+
+pub reads_none : {tells : Bool} {a : DiskState} → OnlyReads tells a a
+reads_none {a = a} = record { still = λ told. still_itself a.history; writes = refl }
+
+pub measured_once : {tells : Bool} {a b : DiskState} {id : FileId} {len : Length} → (tells ≡ true → IsStill a.history b.history)
+    → b.calls ≡ Measured id len ∷ a.calls → OnlyReads tells a b
+measured_once still call = record { still = still; writes = ap writes_in call }
+
+pub read_once : {tells : Bool} {a b : DiskState} {id : FileId} {start : ℕ} {into : List ℕ} {got : Got} → (tells ≡ true → IsStill a.history b.history)
+    → b.calls ≡ Read id start into got ∷ a.calls → OnlyReads tells a b
+read_once still call = record { still = still; writes = ap writes_in call }
+
+pub reads_along : {tells : Bool} {a b c : DiskState} → OnlyReads tells a b → OnlyReads tells b c → OnlyReads tells a c
+reads_along {a = a} {b = b} {c = c} first second = record {
+  still = λ told. still_along a.history b.history c.history (first.still told) (second.still told);
+  writes = second.writes ∙ first.writes;
+}
 
 module _ (Mine : FileId → Type 0) where
   -- what is spared is not written

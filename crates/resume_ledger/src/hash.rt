@@ -1,7 +1,7 @@
 //! The SHA-256 of a file of a reel folder, read in pieces.
-ghost use Rattle.std.specs.Prelude.{◌≡◌, true, length, IfOk, IsErr, OnErr, OnOk};
-ghost use Rattle.reel_disk.specs.State.{LeavesDisk};
-ghost use Rattle.reel_disk.specs.Disk.{view_of, IsStill};
+ghost use Rattle.std.specs.Prelude.{◌≡◌, true, length, IfOk, IsErr, OnErr};
+ghost use Rattle.reel_disk.specs.State.{LeavesDisk, OnlyReads};
+ghost use Rattle.reel_disk.specs.Disk.{view_of};
 ghost use Rattle.resume_ledger.specs.Sound.{HasSize};
 ghost use Rattle.resume_ledger.specs.Hash.{IsHashOf, digest_of_file};
 ghost use Rattle.resume_ledger.specs.Calls.{Hashes, ReadsHash};
@@ -22,7 +22,7 @@ pub fn hash_of_file<D: Disk>(
     piece: &mut [u8],
 ) -> Result<Option<[u8; 32]>, DiskFault>
     requires piece { length piece.old ≡ 65536 }
-    ensures still { D.tells ≡ true → IsStill (D.state disk.old).history (D.state disk.new).history }
+    ensures reads { OnlyReads D.tells (D.state disk.old) (D.state disk.new) }
     ensures hash { IfOk result (λ hash. D.tells ≡ true → IsHashOf (view_of (D.state disk.old).history id) size hash) }
     ensures piece { length piece.new ≡ 65536 }
     ensures calls { IfOk result (λ hash. Hashes id size hash (D.state disk.old).calls (D.state disk.new).calls) }
@@ -46,7 +46,7 @@ pub fn digest_of_file<D: Disk>(
     piece: &mut [u8],
 ) -> Result<[u8; 32], DiskFault>
     requires piece { length piece.old ≡ 65536 }
-    ensures still { D.tells ≡ true → IsStill (D.state disk.old).history (D.state disk.new).history }
+    ensures reads { OnlyReads D.tells (D.state disk.old) (D.state disk.new) }
     ensures digest { IfOk result (λ digest. D.tells ≡ true → digest ≡ digest_of_file (view_of (D.state disk.old).history id)) }
     ensures piece { length piece.new ≡ 65536 }
     ensures calls { IfOk result (λ digest. Digests id digest (D.state disk.old).calls (D.state disk.new).calls) }
@@ -74,7 +74,7 @@ fn read_pieces<D: Disk>(
 ) -> Result<Option<[u8; 32]>, DiskFault>
     requires piece { length piece.old ≡ 65536 }
     requires there { D.tells ≡ true → HasSize size (view_of (D.state disk.old).history id) }
-    ensures still { D.tells ≡ true → IsStill (D.state disk.old).history (D.state disk.new).history }
+    ensures reads { OnlyReads D.tells (D.state disk.old) (D.state disk.new) }
     ensures hash { IfOk result (λ hash. D.tells ≡ true → IsHashOf (view_of (D.state disk.old).history id) size hash) }
     ensures piece { length piece.new ≡ 65536 }
     ensures calls { IfOk result (λ hash. ReadsHash id size hash (D.state disk.old).calls (D.state disk.new).calls) }

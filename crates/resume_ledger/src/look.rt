@@ -1,7 +1,7 @@
 //! A look at a reel's folder that leaves it as it is.
 ghost use Rattle.std.specs.Prelude.{◌≡◌, ◌≢◌, ◌<◌, ◌≤◌, true, false, length, slice_index_or, count_by, IsErrOf, Err};
-ghost use Rattle.reel_disk.specs.State.{LeavesDisk};
-ghost use Rattle.reel_disk.specs.Disk.{view_of, IsStill};
+ghost use Rattle.reel_disk.specs.State.{LeavesDisk, OnlyReads};
+ghost use Rattle.reel_disk.specs.Disk.{view_of};
 ghost use Rattle.resume_ledger.specs.Body.{layout_of};
 ghost use Rattle.resume_ledger.specs.Ledger.{IsInForce};
 ghost use Rattle.resume_ledger.specs.Steps.{records_in};
@@ -93,8 +93,8 @@ impl Ledger {
 
         ensures answer { D.tells ≡ true → HasLooked digest count (D.state disk.old).history (D.state disk.new).history result }
 
-        // What the disk holds stays as it is, at every moment and whatever the answer is.
-        ensures still { D.tells ≡ true → IsStill (D.state disk.old).history (D.state disk.new).history }
+        // It only reads: what the disk tells stays at every moment, and no write and no sync is made, whatever the answer is.
+        ensures reads { OnlyReads D.tells (D.state disk.old) (D.state disk.new) }
 
         // The job's digest and the number of frames are known over every disk.
         ensures known { IsLookFor digest count result }
@@ -123,8 +123,8 @@ impl Ledger {
 
         ensures answer { D.tells ≡ true → HasPeeked digest count (D.state disk.old).history (D.state disk.new).history result }
 
-        // What the disk holds stays as it is, at every moment and whatever the answer is.
-        ensures still { D.tells ≡ true → IsStill (D.state disk.old).history (D.state disk.new).history }
+        // It only reads: what the disk tells stays at every moment, and no write and no sync is made, whatever the answer is.
+        ensures reads { OnlyReads D.tells (D.state disk.old) (D.state disk.new) }
 
         // The job's digest and the size of the ledger are known over every disk.
         ensures known { IsPeekFor digest count result }
@@ -149,7 +149,7 @@ fn look_sealed<D: Disk>(
     requires most { count ≤ 262144 }
     requires sealed { D.tells ≡ true → IsInForce version (view_of (D.state disk.old).history) }
     ensures answer { D.tells ≡ true → HasLooked digest count (D.state disk.old).history (D.state disk.new).history result }
-    ensures still { D.tells ≡ true → IsStill (D.state disk.old).history (D.state disk.new).history }
+    ensures reads { OnlyReads D.tells (D.state disk.old) (D.state disk.new) }
     ensures known { IsLookFor digest count result }
     ensures calls { LooksSealed version digest count result (D.state disk.old).calls (D.state disk.new).calls }
     ensures disk { LeavesDisk (IsErrOf result OpenFault.DiskFault) (D.state disk.old) (D.state disk.new) }

@@ -1,7 +1,7 @@
 //! Opening a folder that is not sealed by version 2: an unsealed one, or one of version 1, which is taken over.
 ghost use Rattle.std.specs.Prelude.{◌≡◌, ◌≢◌, ◌+◌, ◌*◌, ◌<◌, ◌≤◌, ℕ, true, length, slice_index, OnOk, IsErr, IsErrOf, Err, None, IfOk, OnErr};
-ghost use Rattle.reel_disk.specs.State.{LeavesDisk};
-ghost use Rattle.reel_disk.specs.Disk.{view_of, moment_of, loose_of, IsFirm, IsStill};
+ghost use Rattle.reel_disk.specs.State.{LeavesDisk, OnlyReads};
+ghost use Rattle.reel_disk.specs.Disk.{view_of, moment_of, loose_of, IsFirm};
 ghost use Rattle.resume_ledger.specs.Body.{closed_body};
 ghost use Rattle.resume_ledger.specs.Ledger.{IsInForce};
 ghost use Rattle.resume_ledger.specs.Sound.{IsFrameFile, file_at};
@@ -164,7 +164,7 @@ fn record_one<D: Disk>(
     requires piece { length piece.old ≡ 65536 }
     requires within { 64 + 33 * (i + 1) ≤ length body.old }
     requires closed { slice_index body.old (64 + 33 * i) ≢ 65 }
-    ensures still { D.tells ≡ true → IsStill (D.state disk.old).history (D.state disk.new).history }
+    ensures reads { OnlyReads D.tells (D.state disk.old) (D.state disk.new) }
     ensures recorded { OnOk result (D.tells ≡ true → IsRecorded was_open (view_of (D.state disk.old).history id) size body.new i) }
     ensures others { OthersKept body.old body.new i }
     ensures piece { length piece.new ≡ 65536 }
@@ -199,7 +199,7 @@ fn record_all<D: Disk>(
     requires gates { length gates.now ≡ length files.now }
     requires body { length body.old ≡ 64 + 33 * length files.now }
     requires closed { (k : ℕ) → k < length files.now → slice_index body.old (64 + 33 * k) ≢ 65 }
-    ensures still { D.tells ≡ true → IsStill (D.state disk.old).history (D.state disk.new).history }
+    ensures reads { OnlyReads D.tells (D.state disk.old) (D.state disk.new) }
     ensures size { length body.new ≡ length body.old }
     ensures recorded { OnOk result (D.tells ≡ true → AreNoted gates.now files.now size (D.state disk.old).history body.old body.new) }
     ensures calls { OnOk result

@@ -1,7 +1,7 @@
 //! Reading the files of a ledger.
 ghost use Rattle.std.specs.Prelude.{◌≡◌, ◌≢◌, ◌↔◌, ◌≤◌, true, IfOk, OnOk, IsErr, IsErrOf, Err, ◌∷◌, None};
-ghost use Rattle.reel_disk.specs.State.{LeavesDisk};
-ghost use Rattle.reel_disk.specs.Disk.{view_of, loose_of, IsFirm, IsStill};
+ghost use Rattle.reel_disk.specs.State.{LeavesDisk, OnlyReads};
+ghost use Rattle.reel_disk.specs.Disk.{view_of, loose_of, IsFirm};
 ghost use Rattle.resume_ledger.specs.Body.{layout_of};
 ghost use Rattle.resume_ledger.specs.Ledger.{HasSeal, IsInForce};
 ghost use Rattle.resume_ledger.specs.Attach.{IsAnswerTo};
@@ -15,7 +15,7 @@ use std::alloc::Global;
 
 /// Whether a read finds the seal of a version.
 fn has_seal<D: Disk>(disk: &mut D, version: Version) -> Result<bool, DiskFault>
-    ensures still { D.tells ≡ true → IsStill (D.state disk.old).history (D.state disk.new).history }
+    ensures reads { OnlyReads D.tells (D.state disk.old) (D.state disk.new) }
     ensures sealed { IfOk result (λ sealed. D.tells ≡ true → (sealed ≡ true ↔ HasSeal version (view_of (D.state disk.old).history))) }
     ensures calls { SeeksSeal version result (D.state disk.old).calls (D.state disk.new).calls }
     ensures absent { D.tells ≡ true → view_of (D.state disk.old).history (layout_of version).seal ≡ None
@@ -38,7 +38,7 @@ fn has_seal<D: Disk>(disk: &mut D, version: Version) -> Result<bool, DiskFault>
 
 /// The version in force, as a read finds it.
 pub(crate) fn in_force<D: Disk>(disk: &mut D) -> Result<Option<Version>, DiskFault>
-    ensures still { D.tells ≡ true → IsStill (D.state disk.old).history (D.state disk.new).history }
+    ensures reads { OnlyReads D.tells (D.state disk.old) (D.state disk.new) }
     ensures version { IfOk result (λ version. D.tells ≡ true → IsVersionOf (view_of (D.state disk.old).history) version) }
     ensures calls { SeeksVersion result (D.state disk.old).calls (D.state disk.new).calls }
     ensures disk { LeavesDisk (IsErr result) (D.state disk.old) (D.state disk.new) }
@@ -77,7 +77,7 @@ pub(crate) fn load_body<D: Disk>(
     disk: &mut D,
     version: Version,
 ) -> Result<Vec<u8>, OpenFault>
-    ensures still { D.tells ≡ true → IsStill (D.state disk.old).history (D.state disk.new).history }
+    ensures reads { OnlyReads D.tells (D.state disk.old) (D.state disk.new) }
     ensures body { D.tells ≡ true → HasBody (layout_of version) (view_of (D.state disk.old).history (layout_of version).body) result }
     ensures known { HasRead (layout_of version) result }
     ensures calls { LoadsBody version result (D.state disk.old).calls (D.state disk.new).calls }

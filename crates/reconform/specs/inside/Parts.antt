@@ -10,9 +10,9 @@ use Rattle.std.specs.Prelude.{◌≡◌, ℕ, Bool, true, false, List, length, O
 use Rattle.std.specs.BTreeMap.{BTreeMap}
 use Rattle.scan_source.specs.World.{World}
 use Rattle.conform_job.specs.Job.{JobData}
-use Rattle.reel_disk.specs.Disk.{Files, view_of, IsStill}
+use Rattle.reel_disk.specs.Disk.{Files, view_of}
 use Rattle.reel_disk.specs.Runs.{Spares}
-use Rattle.reel_disk.specs.State.{DiskState}
+use Rattle.reel_disk.specs.State.{DiskState, OnlyReads}
 use Rattle.reel_disk.specs.declared.disk.DiskFault.{DiskFault}
 use Rattle.resume_ledger.specs.Look.{ViewState, IsViewOf}
 use Rattle.resume_ledger.specs.Sound.{WritesOnly}
@@ -68,19 +68,20 @@ pub record HasServed {D E : Type 0} (new old : JobData) (told : Option World)
   pub stays : IsSameReel reel reel_after
   pub stays_open : OnOk result (reel_after.ledger.closed ≡ false)
   pub part : IsPart new told reel_tells reel.ledger.gates (reel_state reel.disk) (reel_state reel_after.disk)
-  pub still : tells ≡ true → IsStill (state disk).history (state disk_after).history
+  pub reads : OnlyReads tells (state disk) (state disk_after)
   pub disks : LeavesBoth (IsErr result) (state disk) (state disk_after) (reel_state reel.disk) (reel_state reel_after.disk)
 
 -- Each frame that isn't acknowledged and has an intact donor is taken over, and nothing else of the reel is changed; the old
 -- folder is only read. It ends before where memory or a disk fails.
-pub record HasAdopted {D E : Type 0} (new old : JobData) (told : Option World) (tells : Bool) (state : D → DiskState) (reel_tells : Bool) (reel_state : E → DiskState)
+pub record HasAdopted {D E : Type 0} (new old : JobData) (told : Option World)
+    (tells : Bool) (state : D → DiskState) (reel_tells : Bool) (reel_state : E → DiskState)
     (view : ViewState) (result : Result (Unit {0}) AdoptFault) (disk disk_after : D) (reel reel_after : ReelView E) : Type 0 where
   pub served : OnOk result (tells ≡ true → IsReelServed new old view (view_of (state disk).history) reel reel_after)
   pub stays : IsSameReel reel reel_after
   pub stays_open : OnOk result (reel_after.ledger.closed ≡ false)
   pub end : IfErr result IsStop
   pub part : IsPart new told reel_tells reel.ledger.gates (reel_state reel.disk) (reel_state reel_after.disk)
-  pub still : tells ≡ true → IsStill (state disk).history (state disk_after).history
+  pub reads : OnlyReads tells (state disk) (state disk_after)
 
 -- What an adoption does to the new folder: a crash at any moment leaves only frames acknowledged that are the reel's, and no
 -- acknowledgement is lost where each frame that version 1 acknowledged had a file of a frame's length, as sound files have. No

@@ -21,9 +21,8 @@ pub returns-in-Ok-clause-went : goal.returns-in-Ok-clause-went
 returns-in-Ok-clause-went g c =
     let adopted = c.in-Ok.ensures in
     let by = went_on g.N.Work.job g.O.Work.job g.N.Work.files (g.S.Scans.state c.args.scan.now).world c.requires.files g.D.Disk.tells
-    (g.D.Disk.state c.args.old.now).history (g.D.Disk.state c.adopt.new.old).history (g.D.Disk.state c.args.disk.now).history (g.D.Disk.state c.adopt.new.disk).history (g.D.Disk.state c.run_rest.new.disk).history
-    (g.D.Disk.state c.args.old.now).faults (g.D.Disk.state c.adopt.new.old).faults (g.D.Disk.state c.args.disk.now).faults (g.D.Disk.state c.adopt.new.disk).faults (g.D.Disk.state c.run_rest.new.disk).faults
-    adopted.sound_has adopted.still adopted.run adopted.spares adopted.writes c.in-Ok.done adopted.answer adopted.sealed
+    (g.D.Disk.state c.args.old.now) (g.D.Disk.state c.adopt.new.old) (g.D.Disk.state c.args.disk.now) (g.D.Disk.state c.adopt.new.disk) (g.D.Disk.state c.run_rest.new.disk)
+    adopted.sound_has adopted.reads adopted.run adopted.spares adopted.writes c.in-Ok.done adopted.answer adopted.sealed
     (g.S.Scans.state c.args.scan.now).loads (g.S.Scans.state c.run_rest.new.scan).loads in
     match_each _ _ _ _ _ c.run_rest.ensures.ran (λ text rest. by _ _ (rest_of c.requires.job rest)) (λ outcome rest. by _ _ (rest_of c.requires.job rest))
 
@@ -31,9 +30,8 @@ pub returns-in-Ok-clause-promise : goal.returns-in-Ok-clause-promise
 returns-in-Ok-clause-promise g c told =
     let adopted = c.in-Ok.ensures in
     let by = promised_on g.N.Work.job g.O.Work.job g.N.Work.files (g.S.Scans.state c.args.scan.now).world c.requires.files g.D.Disk.tells
-    (g.D.Disk.state c.args.old.now).history (g.D.Disk.state c.adopt.new.old).history (g.D.Disk.state c.args.disk.now).history (g.D.Disk.state c.adopt.new.disk).history (g.D.Disk.state c.run_rest.new.disk).history
-    (g.D.Disk.state c.args.old.now).faults (g.D.Disk.state c.adopt.new.old).faults (g.D.Disk.state c.args.disk.now).faults (g.D.Disk.state c.adopt.new.disk).faults (g.D.Disk.state c.run_rest.new.disk).faults
-    adopted.sound_has adopted.still adopted.run adopted.spares adopted.writes c.in-Ok.done adopted.answer adopted.sealed
+    (g.D.Disk.state c.args.old.now) (g.D.Disk.state c.adopt.new.old) (g.D.Disk.state c.args.disk.now) (g.D.Disk.state c.adopt.new.disk) (g.D.Disk.state c.run_rest.new.disk)
+    adopted.sound_has adopted.reads adopted.run adopted.spares adopted.writes c.in-Ok.done adopted.answer adopted.sealed
     (g.S.Scans.state c.args.scan.now).loads (g.S.Scans.state c.run_rest.new.scan).loads in
     match_each _ _ _ _ _ c.run_rest.ensures.ran (λ text rest. by _ _ (rest_of c.requires.job rest) told) (λ outcome rest. by _ _ (rest_of c.requires.job rest) told)
 
@@ -59,18 +57,16 @@ pub returns-in-Err-clause-went : goal.returns-in-Err-clause-went
 returns-in-Err-clause-went g c =
     let adopted = c.in-Err.ensures in
     went_no_further g.N.Work.job g.O.Work.job g.N.Work.files (g.S.Scans.state c.args.scan.now).world c.requires.files g.D.Disk.tells
-    (g.D.Disk.state c.args.old.now).history (g.D.Disk.state c.adopt.new.old).history (g.D.Disk.state c.args.disk.now).history (g.D.Disk.state c.adopt.new.disk).history (g.D.Disk.state c.adopt.new.disk).history
-    (g.D.Disk.state c.args.old.now).faults (g.D.Disk.state c.adopt.new.old).faults (g.D.Disk.state c.args.disk.now).faults (g.D.Disk.state c.adopt.new.disk).faults (g.D.Disk.state c.adopt.new.disk).faults
-    adopted.sound_has adopted.still adopted.run adopted.spares adopted.writes c.in-Err.fault adopted.answer
+    (g.D.Disk.state c.args.old.now) (g.D.Disk.state c.adopt.new.old) (g.D.Disk.state c.args.disk.now) (g.D.Disk.state c.adopt.new.disk) (g.D.Disk.state c.adopt.new.disk)
+    adopted.sound_has adopted.reads adopted.run adopted.spares adopted.writes c.in-Err.fault adopted.answer
     (λ of_old. ap (λ (d : _). folder_state g.D.Disk.tells (g.D.Disk.state d)) (adopted.untouched of_old)) _ _ _ c.outcome_of_fault.ensures
 
 pub returns-in-Err-clause-promise : goal.returns-in-Err-clause-promise
 returns-in-Err-clause-promise g c told =
     let adopted = c.in-Err.ensures in
     promised_no_further g.N.Work.job g.O.Work.job g.N.Work.files (g.S.Scans.state c.args.scan.now).world c.requires.files g.D.Disk.tells
-    (g.D.Disk.state c.args.old.now).history (g.D.Disk.state c.adopt.new.old).history (g.D.Disk.state c.args.disk.now).history (g.D.Disk.state c.adopt.new.disk).history (g.D.Disk.state c.adopt.new.disk).history
-    (g.D.Disk.state c.args.old.now).faults (g.D.Disk.state c.adopt.new.old).faults (g.D.Disk.state c.args.disk.now).faults (g.D.Disk.state c.adopt.new.disk).faults (g.D.Disk.state c.adopt.new.disk).faults
-    adopted.sound_has adopted.still adopted.run adopted.spares adopted.writes c.in-Err.fault adopted.answer
+    (g.D.Disk.state c.args.old.now) (g.D.Disk.state c.adopt.new.old) (g.D.Disk.state c.args.disk.now) (g.D.Disk.state c.adopt.new.disk) (g.D.Disk.state c.adopt.new.disk)
+    adopted.sound_has adopted.reads adopted.run adopted.spares adopted.writes c.in-Err.fault adopted.answer
     (λ of_old. ap (λ (d : _). folder_state g.D.Disk.tells (g.D.Disk.state d)) (adopted.untouched of_old)) (g.S.Scans.state c.args.scan.now).loads _ g.N.Work.job.parts.digest c.outcome_of_fault.ensures told
 
 pub returns-in-Err-clause-kind : goal.returns-in-Err-clause-kind

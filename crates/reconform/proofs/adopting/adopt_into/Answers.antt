@@ -8,7 +8,7 @@ use Rattle.reel_disk.proofs.Sparing.{spares_itself}
 use Rattle.resume_ledger.specs.Attach.{IsRefused, IsRefusalFor}
 use Rattle.resume_ledger.specs.declared.attach.OpenFault.TheVariants as cause
 use Rattle.resume_ledger.specs.Look.{IsViewOf}
-use Rattle.resume_ledger.proofs.Reading.{spares_writes, still_along}
+use Rattle.resume_ledger.proofs.Reading.{spares_writes, reads_along}
 use Rattle.frame_render.proofs.Sizes.{length-frame_file}
 use Rattle.reel_writer.specs.Changes.{IsOwnFile, MayWrite}
 use Rattle.reel_writer.specs.Reel.{frames_of}
@@ -43,7 +43,7 @@ adopt_owned-requires-clause-looked g c =
     let h = (g.D.Disk.state c.args.old.now).history in
     let digest = c.digest.ensures ∙ ap (λ (job : JobData). job.parts.digest) c.requires.old_job in
     let count = c.count.ensures.count ∙ ap (λ (t : RecordReel). frame_count t.events) c.timeline.ensures ∙ ap frames_of c.requires.old_job in
-    looked_along g.N.Work.job g.O.Work.job g.D.Disk.tells h (g.D.Disk.state c.look.new.disk).history c.in-Ok.ensures.still g.N.Work.files c.in-Ok.view
+    looked_along g.N.Work.job g.O.Work.job g.D.Disk.tells h (g.D.Disk.state c.look.new.disk).history c.in-Ok.ensures.reads.still g.N.Work.files c.in-Ok.view
     (record {
       can_serve = c.requires.can_serve;
       viewed = λ told. subst (λ n. IsViewOf g.O.Work.job.parts.digest n (view_of h) c.in-Ok.view) count (subst (λ (d : List ℕ). IsViewOf d c.count.result (view_of h) c.in-Ok.view) digest (c.in-Ok.ensures.answer told));
@@ -52,14 +52,14 @@ adopt_owned-requires-clause-looked g c =
 
 pub returns-in-Ok-clause-answer : goal.returns-in-Ok-clause-answer
 returns-in-Ok-clause-answer g c =
-    answered_along g.N.Work.job g.O.Work.job g.E.Disk.tells (g.D.Disk.state c.args.old.now).history (g.D.Disk.state c.look.new.disk).history (g.D.Disk.state c.adopt_owned.new.old).history (λ told. c.in-Ok.ensures.still (c.requires.tells ∙ told))
+    answered_along g.N.Work.job g.O.Work.job g.E.Disk.tells (g.D.Disk.state c.args.old.now).history (g.D.Disk.state c.look.new.disk).history (g.D.Disk.state c.adopt_owned.new.old).history (λ told. c.in-Ok.ensures.reads.still (c.requires.tells ∙ told))
     (g.E.Disk.state c.args.disk).history (g.E.Disk.state c.adopt_owned.result.1).history c.adopt_owned.result.0 c.adopt_owned.ensures.not_old c.adopt_owned.ensures.answer
 
 pub returns-in-Ok-clause-untouched : goal.returns-in-Ok-clause-untouched
 returns-in-Ok-clause-untouched g c = never_touched c.adopt_owned.result.0 _ c.adopt_owned.ensures.not_old
 
-pub returns-in-Ok-clause-still : goal.returns-in-Ok-clause-still
-returns-in-Ok-clause-still g c told = still_along _ _ _ (c.in-Ok.ensures.still told) (c.adopt_owned.ensures.still told)
+pub returns-in-Ok-clause-reads : goal.returns-in-Ok-clause-reads
+returns-in-Ok-clause-reads g c = reads_along c.in-Ok.ensures.reads c.adopt_owned.ensures.reads
 
 pub returns-in-Ok-clause-disks : goal.returns-in-Ok-clause-disks
 returns-in-Ok-clause-disks g c =

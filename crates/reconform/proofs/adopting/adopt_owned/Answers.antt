@@ -5,7 +5,7 @@ use Rattle.reel_disk.proofs.Leaving.{disk_as}
 use Rattle.reel_disk.proofs.Sparing.{spares_along, spares_wider}
 use Rattle.resume_ledger.specs.Ledger.{IsLedgerFile, IsWrittenLedgerFile}
 use Rattle.resume_ledger.specs.declared.attach.OpenFault.TheVariants as cause
-use Rattle.resume_ledger.proofs.Reading.{spares_writes, writes_along}
+use Rattle.resume_ledger.proofs.Reading.{spares_writes, writes_along, reads_none}
 use Rattle.reel_writer.specs.Changes.{IsOwnFile, MayWrite}
 use Rattle.reel_writer.specs.inside.Changes.{IsRunFile}
 use Rattle.reel_writer.proofs.ReelLaws.{reel_run_along}
@@ -14,7 +14,7 @@ use Rattle.reconform.specs.declared.adopting.AdoptFault.{AdoptFault}
 use Rattle.reconform.specs.Adopt.{IsOfOld, IsWhyUnadopted}
 use Rattle.reconform.specs.inside.Adopt.{by_new}
 use Rattle.reconform.proofs.Answering.{err_is, never_old, never_opened, new_disk, new_refused, opened_answer}
-use Rattle.reconform.proofs.Going.{both_behind, new_asked, still_itself}
+use Rattle.reconform.proofs.Going.{both_behind, new_asked}
 use Rattle.reconform.proofs.adopting.adopt_owned.Goals as goal
 
 pub returns-in-Ok-clause-answer : goal.returns-in-Ok-clause-answer
@@ -58,8 +58,8 @@ returns-in-Ok-clause-disks g c =
     both_behind (λ is. is) (λ is. is) refl (c.in-Ok.ensures.disk.counts.steady (λ same. cc)) refl c.in-Ok.ensures.disk.lent
     c.adopt_opened.ensures.disks
 
-pub returns-in-Err-clause-still : goal.returns-in-Err-clause-still
-returns-in-Err-clause-still g c told = still_itself (g.D.Disk.state c.args.old.now).history
+pub returns-in-Err-clause-reads : goal.returns-in-Err-clause-reads
+returns-in-Err-clause-reads g c = reads_none
 
 pub returns-in-Err-clause-disks : goal.returns-in-Err-clause-disks
 returns-in-Err-clause-disks g c =

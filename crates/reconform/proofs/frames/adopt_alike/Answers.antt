@@ -1,5 +1,6 @@
 use Rattle.std.proofs.Common.{rules}
-use Rattle.reconform.proofs.Going.{both_itself, part_itself, still_itself}
+use Rattle.resume_ledger.proofs.Reading.{reads_none}
+use Rattle.reconform.proofs.Going.{both_itself, part_itself}
 use Rattle.reconform.proofs.Serving.{adopted_none, same_itself}
 use Rattle.reconform.proofs.frames.adopt_alike.Goals as goal
 
@@ -19,7 +20,7 @@ returns-clause-adopted g c = record {
   stays_open = c.requires.is_open;
   end = tt;
   part = part_itself;
-  still = λ told. still_itself (g.D.Disk.state c.args.old.now).history;
+  reads = reads_none;
 }
 
 pub returns-in-Err-clause-adopted : goal.returns-in-Err-clause-adopted

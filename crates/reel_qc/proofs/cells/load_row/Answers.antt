@@ -2,7 +2,7 @@
 use Rattle.std.proofs.Common.{rules, ◌≡◌, ◌∙◌, ◌<◌, ◌+◌, ◌*◌, ℕ, List, [], ◌∷◌, length, ap, arith, subst, sym, true, Option, length-append}
 use Rattle.std.specs.Prelude.{IfSome, slice_get}
 use Rattle.reel_disk.specs.Disk.{Files, view_of}
-use Rattle.resume_ledger.proofs.Reading.{still_along, still_view}
+use Rattle.resume_ledger.proofs.Reading.{still_view, reads_along}
 use Rattle.reel_writer.specs.Reel.{frames_of}
 use Rattle.reel_qc.specs.inside.Boxes.{IsCell}
 use Rattle.reel_qc.specs.Sheet.{picture_at, place_picture}
@@ -23,10 +23,10 @@ loop-c-preserved g c =
     let exact : ℕ → Option (List ℕ) = λ k. picture_at job view files (c.args.row * 8 + k) in
     let frame = c.frame_at-frame.ensures ∙ ap (λ (l : List ℕ). slice_get l (c.args.row * 8 + c.loop-c.c)) c.requires.frames in
     let here = cell_as job (g.D.Disk.tells ≡ true) _ (exact c.loop-c.c) _
-    (λ told. ap (λ (f : Files). place_picture job view f c.frame_at-frame.result) (still_view _ _ (before.still told)) ∙ ap (place_picture job view files) frame) c.in-Ok.ensures.cell in
+    (λ told. ap (λ (f : Files). place_picture job view f c.frame_at-frame.result) (still_view _ _ (before.reads.still told)) ∙ ap (place_picture job view files) frame) c.in-Ok.ensures.cell in
     let long = ap length c.in-Ok-push.ensures.items ∙ length-append c.loop-c.cells.items (c.in-Ok.cell ∷ []) in
     record {
-      still = λ told. still_along _ _ _ (before.still told) (c.in-Ok.ensures.still told);
+      reads = reads_along before.reads c.in-Ok.ensures.reads;
       pictures = pictures_more job (g.D.Disk.tells ≡ true) exact c.loop-c.cells.items _ c.in-Ok.cell c.in-Ok-push.ensures.items before.pictures
           (subst (λ n. IsCell job (g.D.Disk.tells ≡ true) (exact n) c.in-Ok.cell) (sym before.size) here);
       size = omega (arith, long, before.size);

@@ -1,5 +1,6 @@
 use Rattle.std.proofs.Common.{◌≡◌, ◌+◌, ◌*◌, length, true}
-use Rattle.reel_disk.specs.Disk.{view_of, IsStill}
+use Rattle.reel_disk.specs.Disk.{view_of}
+use Rattle.reel_disk.specs.State.{OnlyReads}
 use Rattle.reel_qc.specs.inside.Boxes.{HasPictures}
 use Rattle.reel_qc.specs.Sheet.{picture_at}
 use Rattle.reel_qc.proofs.cells.load_row.Given as goal
@@ -7,7 +8,7 @@ use Rattle.reel_qc.proofs.cells.load_row.Given as goal
 -- the cells before c
 abbrev pub invariant-loop-c : goal.invariant-loop-c
 invariant-loop-c g l = record {
-  still : g.D.Disk.tells ≡ true → IsStill (g.D.Disk.state l.fn.disk).history (g.D.Disk.state l.disk).history;
+  reads : OnlyReads g.D.Disk.tells (g.D.Disk.state l.fn.disk) (g.D.Disk.state l.disk);
   pictures : HasPictures l.job (g.D.Disk.tells ≡ true) (λ c. picture_at l.job l.view (view_of (g.D.Disk.state l.fn.disk).history) (l.row * 8 + c)) l.cells.items;
   size : length l.cells.items ≡ l.c;
   piece : length l.buffers.piece.items ≡ 65536;

@@ -1,5 +1,6 @@
 use Rattle.std.proofs.Common.{◌≡◌, ◌-◌, ◌≤◌, map, true}
-use Rattle.reel_disk.specs.Disk.{view_of, IsStill}
+use Rattle.reel_disk.specs.Disk.{view_of}
+use Rattle.reel_disk.specs.State.{OnlyReads}
 use Rattle.reel_qc.specs.inside.Table.{AddsCounts}
 use Rattle.reel_qc.specs.Words.{words_in}
 use Rattle.reel_qc.proofs.counting.count_file.Given as goal
@@ -7,7 +8,7 @@ use Rattle.reel_qc.proofs.counting.count_file.Given as goal
 -- the words up to there are counted
 abbrev pub invariant-loop-done : goal.invariant-loop-done
 invariant-loop-done g l = record {
-  still : g.D.Disk.tells ≡ true → IsStill (g.D.Disk.state l.fn.disk).history (g.D.Disk.state l.disk).history;
+  reads : OnlyReads g.D.Disk.tells (g.D.Disk.state l.fn.disk) (g.D.Disk.state l.disk);
   counted : AddsCounts (map (λ p. p.kind) l.probes) (g.D.Disk.tells ≡ true) (words_in 0 l.done (view_of (g.D.Disk.state l.fn.disk).history l.id)) l.done l.fn.counts l.counts;
   within : l.done ≤ l.most;
   same : (g.D.Disk.state l.disk).loans ≡ (g.D.Disk.state l.fn.disk).loans;

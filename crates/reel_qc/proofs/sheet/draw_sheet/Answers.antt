@@ -2,14 +2,14 @@
 use Rattle.std.proofs.Common.{rules, ◌≡◌, ◌∙◌, arith, true}
 use Rattle.dpx_header.specs.Writing.{header_of}
 use Rattle.reel_disk.specs.Disk.{view_of}
-use Rattle.resume_ledger.proofs.Reading.{still_along, still_view}
+use Rattle.resume_ledger.proofs.Reading.{still_view, reads_none, reads_along}
 use Rattle.reel_qc.specs.Sheet.{sheet_head}
 use Rattle.reel_qc.proofs.SheetLaws.{rows_begin, rows_more, rows_whole}
 use Rattle.reel_qc.proofs.sheet.draw_sheet.Goals as goal
 
 pub loop-row-init : goal.loop-row-init
 loop-row-init g c = record {
-  still = search rules;
+  reads = reads_none;
   drawn = rows_begin c.args.tone.now.table c.args.job.now (g.D.Disk.tells ≡ true) c.args.view.now (view_of (g.D.Disk.state c.args.disk.now).history) (header_of (sheet_head c.args.job.now)) _ _ c.in-Ok.ensures.header c.in-Ok.ensures.greatest;
   piece = search rules;
   same = search rules;
@@ -20,9 +20,9 @@ pub loop-row-preserved : goal.loop-row-preserved
 loop-row-preserved g c =
     let before = c.loop-row.invariant in
     record {
-      still = λ told. still_along _ _ _ (before.still told) (c.draw_row.ensures.still told);
+      reads = reads_along before.reads c.draw_row.ensures.reads;
       drawn = rows_more c.args.tone.now.table c.args.job.now (g.D.Disk.tells ≡ true) c.args.view.now (view_of (g.D.Disk.state c.args.disk.now).history) c.loop-row.row _ _ _ _ _ _ _
-          (λ told. still_view _ _ (before.still told)) before.drawn c.in-Ok-draw_row.ensures.drawn;
+          (λ told. still_view _ _ (before.reads.still told)) before.drawn c.in-Ok-draw_row.ensures.drawn;
       piece = search rules;
       same = c.draw_row.ensures.disk.lent ∙ before.same;
       faults = search rules;
@@ -33,5 +33,5 @@ returns-clause-drawn g c =
     rows_whole c.args.tone.now.table c.args.job.now (g.D.Disk.tells ≡ true) c.args.view.now (view_of (g.D.Disk.state c.args.disk.now).history) c.loop-row.row _ _ _ _
     (omega (arith, c.loop-row-test.false, c.loop-row.auto.row-end) ∙ c.rows_of-rows.ensures.rows) c.loop-row.invariant.drawn
 
-pub returns-in-Err-clause-still : goal.returns-in-Err-clause-still
-returns-in-Err-clause-still g c told = still_along _ _ _ (c.loop-row.invariant.still told) (c.in-Err.ensures.still told)
+pub returns-in-Err-clause-reads : goal.returns-in-Err-clause-reads
+returns-in-Err-clause-reads g c = reads_along c.loop-row.invariant.reads c.in-Err.ensures.reads

@@ -1,7 +1,8 @@
 use Rattle.std.proofs.Common.{◌≡◌, ◌*◌, length, true, flat_map}
 use Rattle.std.specs.List.{range_with_len}
 use Rattle.dpx_header.specs.Writing.{header_of}
-use Rattle.reel_disk.specs.Disk.{view_of, IsStill}
+use Rattle.reel_disk.specs.Disk.{view_of}
+use Rattle.reel_disk.specs.State.{OnlyReads}
 use Rattle.reel_qc.specs.inside.Boxes.{HasDrawn}
 use Rattle.reel_qc.specs.Sheet.{cell_height, line_colours, sheet_head}
 use Rattle.reel_qc.proofs.sheet.draw_sheet.Given as goal
@@ -9,7 +10,7 @@ use Rattle.reel_qc.proofs.sheet.draw_sheet.Given as goal
 -- the rows above are drawn
 abbrev pub invariant-loop-row : goal.invariant-loop-row
 invariant-loop-row g l = record {
-  still : g.D.Disk.tells ≡ true → IsStill (g.D.Disk.state l.fn.disk).history (g.D.Disk.state l.disk).history;
+  reads : OnlyReads g.D.Disk.tells (g.D.Disk.state l.fn.disk) (g.D.Disk.state l.disk);
   drawn : HasDrawn l.tone.table (g.D.Disk.tells ≡ true) (flat_map (line_colours l.job l.view (view_of (g.D.Disk.state l.fn.disk).history)) (range_with_len 0 (l.row * cell_height l.job)))
       (header_of (sheet_head l.job)) l.drawing.bytes.items 0 l.drawing.greatest;
   piece : length l.buffers.piece.items ≡ 65536;

@@ -1,7 +1,7 @@
 -- One frame after another.
 use Rattle.std.proofs.Common.{rules, map, subst, sym, arith, true, ◌≡◌, ◌+◌, ◌∙◌}
 use Rattle.reel_disk.specs.Disk.{view_of}
-use Rattle.resume_ledger.proofs.Reading.{still_along, still_view}
+use Rattle.resume_ledger.proofs.Reading.{still_view, reads_along}
 use Rattle.reel_qc.specs.inside.Table.{HasRows}
 use Rattle.reel_qc.proofs.Lines.{acked_more, rows_along, rows_as}
 use Rattle.reel_qc.proofs.table.put_rows.Goals as goal
@@ -10,9 +10,9 @@ pub loop-i-preserved : goal.loop-i-preserved
 loop-i-preserved g c =
     let before = c.loop-i.invariant in
     let files = view_of (g.D.Disk.state c.args.disk.now).history in
-    let here = rows_as _ c.args.job.now (g.D.Disk.tells ≡ true) files _ _ _ _ _ (λ told. still_view _ _ (before.still told)) c.in-Ok.ensures.rows in
+    let here = rows_as _ c.args.job.now (g.D.Disk.tells ≡ true) files _ _ _ _ _ (λ told. still_view _ _ (before.reads.still told)) c.in-Ok.ensures.rows in
     record {
-      still = λ told. still_along _ _ _ (before.still told) (c.in-Ok.ensures.still told);
+      reads = reads_along before.reads c.in-Ok.ensures.reads;
       rows = subst (λ frames. HasRows (map (λ p. p.kind) c.args.probes.now) c.args.job.now (g.D.Disk.tells ≡ true) files frames c.args.text.now.items c.put_frame.new.text.items (c.loop-i.frames + c.in-Ok.more))
           (sym (acked_more c.args.view.now c.loop-i.i)) (rows_along _ c.args.job.now (g.D.Disk.tells ≡ true) files _ _ _ _ _ _ _ before.rows here);
       few = omega (arith, before.few, c.in-Ok.ensures.few);

@@ -1,6 +1,7 @@
 use Rattle.std.proofs.Common.{◌≡◌, ◌≤◌, length, map, true}
 use Rattle.std.specs.List.{range_with_len}
-use Rattle.reel_disk.specs.Disk.{view_of, IsStill}
+use Rattle.reel_disk.specs.Disk.{view_of}
+use Rattle.reel_disk.specs.State.{OnlyReads}
 use Rattle.reel_qc.specs.Table.{acked_of}
 use Rattle.reel_qc.specs.inside.Table.{HasRows}
 use Rattle.reel_qc.proofs.table.put_rows.Given as goal
@@ -8,7 +9,7 @@ use Rattle.reel_qc.proofs.table.put_rows.Given as goal
 -- the lines of the frames below i
 abbrev pub invariant-loop-i : goal.invariant-loop-i
 invariant-loop-i g l = record {
-  still : g.D.Disk.tells ≡ true → IsStill (g.D.Disk.state l.fn.disk).history (g.D.Disk.state l.disk).history;
+  reads : OnlyReads g.D.Disk.tells (g.D.Disk.state l.fn.disk) (g.D.Disk.state l.disk);
   rows : HasRows (map (λ p. p.kind) l.probes) l.job (g.D.Disk.tells ≡ true) (view_of (g.D.Disk.state l.fn.disk).history) (acked_of l.view (range_with_len 0 l.i)) l.fn.text.items l.text.items l.frames;
   few : l.frames ≤ l.i;
   piece : length l.buffers.piece.items ≡ 65536;

@@ -2,14 +2,14 @@
 use Rattle.std.proofs.Common.{rules, ◌≡◌, ◌∙◌, ◌+◌, ◌-◌, ◌≤◌, ap, arith, length, take, drop, w32}
 use Rattle.std.proofs.Math.Facts.{Fits-lt-pow}
 use Rattle.reel_disk.specs.Disk.{view_of}
-use Rattle.resume_ledger.proofs.Reading.{still_along, still_view}
+use Rattle.resume_ledger.proofs.Reading.{still_view, reads_none, reads_along}
 use Rattle.reel_qc.specs.Words.{words_in}
 use Rattle.reel_qc.proofs.Reading.{found_more, none_read, part_size}
 use Rattle.reel_qc.proofs.words.read_words.Goals as goal
 
 pub loop-done-init : goal.loop-done-init
 loop-done-init g c = record {
-  still = search rules;
+  reads = reads_none;
   words = λ told. none_read c.args.first (view_of (g.D.Disk.state c.args.disk.now).history c.args.id);
   few = omega arith;
   small = λ k. Fits-lt-pow {w = w32} (c.type_inv.words k);
@@ -26,12 +26,12 @@ loop-done-preserved g c =
     let size : length (take (c.loop-done.found + c.min-count.result - c.loop-done.found) (drop c.loop-done.found c.loop-done.words)) ≡ c.min-count.result =
     part_size c.loop-done.found c.min-count.result c.loop-done.words inside in
     record {
-      still = λ told. still_along _ _ _ (inv.still told) (c.in-Ok.ensures.still told);
+      reads = reads_along inv.reads c.in-Ok.ensures.reads;
       words = λ told.
           found_more c.args.first c.loop-done.done c.min-count.result c.loop-done.found c.in-Ok.more (view_of (g.D.Disk.state c.args.disk.now).history c.args.id)
           (view_of (g.D.Disk.state c.loop-done.disk).history c.args.id) c.loop-done.words c.read_piece.new.words
           inside (c.in-Ok.ensures.size ∙ size) (omega (arith, c.in-Ok.ensures.few, size))
-          (ap (λ view. view c.args.id) (still_view _ _ (inv.still told))) (inv.words told)
+          (ap (λ view. view c.args.id) (still_view _ _ (inv.reads.still told))) (inv.words told)
           (c.in-Ok.ensures.words told ∙ ap (λ n. words_in (c.args.first + c.loop-done.done) n (view_of (g.D.Disk.state c.loop-done.disk).history c.args.id)) size);
       few = omega (arith, inv.few, c.in-Ok.ensures.few, size);
       small = λ k. Fits-lt-pow {w = w32} (c.type_inv.words k);

@@ -1,7 +1,8 @@
 use Rattle.std.proofs.Common.{◌≡◌, ◌≤◌, length, map, true}
 use Rattle.std.specs.Prelude.{All, count_by, is_some}
 use Rattle.std.specs.List.{range_with_len}
-use Rattle.reel_disk.specs.Disk.{view_of, IsStill}
+use Rattle.reel_disk.specs.Disk.{view_of}
+use Rattle.reel_disk.specs.State.{OnlyReads}
 use Rattle.resume_ledger.specs.Look.{hash_at}
 use Rattle.reel_writer.specs.inside.Ahead.{HasDigest}
 use Rattle.reel_writer.specs.Damage.{AreIntact}
@@ -10,7 +11,7 @@ use Rattle.reel_writer.proofs.damage.check_all.Given as goal
 -- the frames below i are intact, and their records are counted
 abbrev pub invariant-loop-i : goal.invariant-loop-i
 invariant-loop-i g l = record {
-  still : g.D.Disk.tells ≡ true → IsStill (g.D.Disk.state l.fn.disk).history (g.D.Disk.state l.disk).history;
+  reads : OnlyReads g.D.Disk.tells (g.D.Disk.state l.fn.disk) (g.D.Disk.state l.disk);
   intact : g.D.Disk.tells ≡ true → AreIntact l.job l.view (view_of (g.D.Disk.state l.fn.disk).history) l.i;
   counted : l.records ≡ count_by is_some (map (hash_at l.view) (range_with_len 0 l.i));
   few : l.records ≤ l.i;

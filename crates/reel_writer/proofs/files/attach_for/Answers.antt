@@ -1,8 +1,9 @@
-use Rattle.std.proofs.Common.{◌≡◌, ◌<◌, ◌∙◌, ℕ, List, length, ap, subst}
+use Rattle.std.proofs.Common.{◌≡◌, ◌<◌, ◌∙◌, ℕ, List, length, ap, inl, subst}
 use Rattle.cf_base.specs.declared.file.FileId.{FileId}
 use Rattle.conform_job.specs.Job.{file_of}
 use Rattle.resume_ledger.specs.Sound.{file_at, IsOpeningRun, AddsNone}
 use Rattle.resume_ledger.specs.Attach.{HasAttached}
+use Rattle.resume_ledger.specs.OpeningCalls.{Attaches}
 use Rattle.resume_ledger.proofs.Reading.{reading_itself, reading_part}
 use Rattle.reel_writer.specs.Reel.{frames_of}
 use Rattle.reel_writer.proofs.ReelLaws.{job_run, job_attached, job_frames}
@@ -41,3 +42,9 @@ returns-clause-adds_none g c told =
     let long : length c.deref.result.now ≡ frames_of c.args.job.now = ap length c.deref.ensures.value ∙ c.in-Ok.ensures.size in
     subst (λ n. AddsNone c.args.job.now.parts.digest n (g.D.Disk.state c.args.disk.now).history (g.D.Disk.state c.attach.new.disk).history) long
     (subst (λ (d : List ℕ). AddsNone d (length c.deref.result.now) (g.D.Disk.state c.args.disk.now).history (g.D.Disk.state c.attach.new.disk).history) c.digest.ensures (c.attach.ensures.adds_none told))
+
+pub returns-clause-calls : goal.returns-clause-calls
+returns-clause-calls g c =
+    let long : length c.deref.result.now ≡ frames_of c.args.job.now = ap length c.deref.ensures.value ∙ c.in-Ok.ensures.size in
+    let each : (i : ℕ) → i < frames_of c.args.job.now → file_at c.deref.result.now i ≡ file_of c.args.job.now i = λ i lt. ap (λ (l : List FileId). file_at l i) c.deref.ensures.value ∙ c.in-Ok.ensures.each i lt in
+    inl (c.deref.result.now, (long, each), subst (λ (d : List ℕ). Attaches d c.deref.result.now c.args.size c.attach.result (g.D.Disk.state c.args.disk.now).calls (g.D.Disk.state c.attach.new.disk).calls) c.digest.ensures c.attach.ensures.calls)

@@ -8,15 +8,15 @@ use Rattle.reel_disk.specs.Call.{Call, Read}
 use Rattle.reel_disk.specs.declared.disk.Got.TheVariants.{Bytes, Failed}
 use Rattle.resume_ledger.specs.Calls.{bytes_of, reads_of}
 use Rattle.resume_ledger.proofs.Pieces.{piece_more}
-use Rattle.resume_ledger.proofs.Reading.{still_along}
+use Rattle.resume_ledger.proofs.Reading.{read_once, reads_along}
 use Rattle.resume_ledger.proofs.hash.read_pieces.Goals as goal
 
 pub loop-at-preserved : goal.loop-at-preserved
 loop-at-preserved g c = record {
-  still = λ told. still_along _ _ _ (c.loop-at.invariant.still told) (c.in-Bytes.ensures.time told);
+  reads = reads_along c.loop-at.invariant.reads (read_once c.in-Bytes.ensures.time c.in-Bytes.ensures.call);
   hashed = λ told bytes is long.
       let before = c.loop-at.invariant.hashed told bytes is long in
-      let view = c.loop-at.invariant.still told in
+      let view = c.loop-at.invariant.reads.still told in
       let now : view_of (g.D.Disk.state c.loop-at.disk).history c.args.id ≡ Some bytes = ap (λ m. m.view c.args.id) view.same ∙ is in
       let more = piece_more (view_of (g.D.Disk.state c.loop-at.disk).history c.args.id) c.loop-at.at c.in-Bytes.n c.read.new.into bytes now (omega (arith, before.0, long)) (c.in-Bytes.ensures.answer told) in
       let sum : c.saturating_add-at.result ≡ c.loop-at.at + c.in-Bytes.n = c.saturating_add-at.ensures ∙ omega (arith, more.0, long, c.ranges.size.fits) in

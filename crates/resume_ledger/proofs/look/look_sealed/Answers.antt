@@ -10,7 +10,7 @@ use Rattle.resume_ledger.proofs.Reading.{still_unwritten}
 use Rattle.resume_ledger.proofs.look.look_sealed.Goals as goal
 
 pub returns-in-Err-clause-answer : goal.returns-in-Err-clause-answer
-returns-in-Err-clause-answer g c told = unread _ _ c.args.version _ _ (c.requires.sealed told) c.in-Err.fault (λ other. still_unwritten _ _ (c.load_body.ensures.still told)) (c.in-Err.ensures.body told)
+returns-in-Err-clause-answer g c told = unread _ _ c.args.version _ _ (c.requires.sealed told) c.in-Err.fault (λ other. still_unwritten _ _ (c.load_body.ensures.reads.still told)) (c.in-Err.ensures.body told)
 
 pub returns-in-Ok-judge-clause-answer : goal.returns-in-Ok-judge-clause-answer
 returns-in-Ok-judge-clause-answer g c told =
@@ -22,7 +22,7 @@ returns-in-Ok-judge-clause-answer g c told =
 
 pub returns-in-Err-judge-clause-answer : goal.returns-in-Err-judge-clause-answer
 returns-in-Err-judge-clause-answer g c told =
-    refused _ _ c.args.version _ _ (c.requires.sealed told) c.deref.result.now c.in-Err-judge.fault (still_unwritten _ _ (c.load_body.ensures.still told)) (c.in-Ok.ensures.body told ∙ ap Some (sym c.deref.ensures.value)) c.in-Err-judge.ensures
+    refused _ _ c.args.version _ _ (c.requires.sealed told) c.deref.result.now c.in-Err-judge.fault (still_unwritten _ _ (c.load_body.ensures.reads.still told)) (c.in-Ok.ensures.body told ∙ ap Some (sym c.deref.ensures.value)) c.in-Err-judge.ensures
 
 -- the bytes that were judged are those that were read
 pub returns-in-Ok-judge-clause-calls : goal.returns-in-Ok-judge-clause-calls

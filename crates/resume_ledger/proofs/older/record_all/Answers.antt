@@ -4,7 +4,7 @@ use Rattle.reel_disk.specs.Disk.{Moment, view_of}
 use Rattle.resume_ledger.specs.Sound.{file_at}
 use Rattle.resume_ledger.specs.OpeningCalls.{TakesFrames}
 use Rattle.resume_ledger.specs.inside.Steps.{IsRecorded}
-use Rattle.resume_ledger.proofs.Reading.{still_along}
+use Rattle.resume_ledger.proofs.Reading.{reads_along}
 use Rattle.resume_ledger.proofs.Recording.{recorded_on}
 use Rattle.resume_ledger.proofs.older.record_all.Goals as goal
 
@@ -13,14 +13,14 @@ loop-i-preserved g c =
     let kept = c.loop-i.invariant in
     let others = c.in-Ok.ensures.others in
     record {
-      still = λ told. still_along _ _ _ (kept.still told) (c.in-Ok.ensures.still told);
+      reads = reads_along kept.reads c.in-Ok.ensures.reads;
       size = others.size ∙ kept.size;
       head = others.head ∙ kept.head;
       done = λ told k lt.
           let Recorded : ℕ → Type 0 = λ n. IsRecorded (get_or c.args.gates.now n false) (view_of (g.D.Disk.state c.args.disk.now).history (file_at c.args.files.now n)) c.args.size c.record_one.new.body n in
           elim (cases_eq k c.loop-i.i) [
             | inl is ↦
-                let here : Recorded c.loop-i.i = subst (λ (m : Moment). IsRecorded (get_or c.args.gates.now c.loop-i.i false) (m.view (file_at c.args.files.now c.loop-i.i)) c.args.size c.record_one.new.body c.loop-i.i) (kept.still told).same (c.in-Ok.ensures.recorded told) in
+                let here : Recorded c.loop-i.i = subst (λ (m : Moment). IsRecorded (get_or c.args.gates.now c.loop-i.i false) (m.view (file_at c.args.files.now c.loop-i.i)) c.args.size c.record_one.new.body c.loop-i.i) (kept.reads.still told).same (c.in-Ok.ensures.recorded told) in
                 subst Recorded (sym is) here
             | inr other ↦ recorded_on _ _ _ c.loop-i.body c.record_one.new.body c.loop-i.i k others other (kept.done told k (let le = lt in omega (arith, le, other)))
           ];

@@ -17,7 +17,7 @@ record_all-requires-clause-closed g c =
 
 -- the frames are recorded
 pub returns-in-Ok-record_all-clause-reading : goal.returns-in-Ok-record_all-clause-reading
-returns-in-Ok-record_all-clause-reading g c told = reading_along _ _ _ (c.acked_before.ensures.reading told) (still_reading _ _ (c.record_all.ensures.still told))
+returns-in-Ok-record_all-clause-reading g c told = reading_along _ _ _ (c.acked_before.ensures.reading told) (still_reading _ _ (c.record_all.ensures.reads.still told))
 
 pub returns-in-Ok-record_all-clause-body : goal.returns-in-Ok-record_all-clause-body
 returns-in-Ok-record_all-clause-body g c told =
@@ -28,7 +28,7 @@ returns-in-Ok-record_all-clause-body g c told =
     take_at c.record_all.new.body (drop (length c.record_all.new.body) c.args.body.items) c.args.body.len full in
     subst (IsReadyFor c.args.digest (length c.args.files.now) (file_at c.args.files.now) c.args.size (g.D.Disk.state c.args.disk.now).history (g.D.Disk.state c.record_all.new.disk).history) (sym same)
     (taken_ready c.args.digest (length c.args.files.now) (file_at c.args.files.now) c.args.size (g.D.Disk.state c.args.disk.now).history long c.requires.most (g.D.Disk.state c.acked_before.new.disk).history (g.D.Disk.state c.record_all.new.disk).history
-    (c.requires.sealed told) (c.requires.firm told) (c.requires.firm_first told) c.deref.result.now (subst (λ (l : List Bool). IsAckedFirmly c.args.digest (length c.args.files.now) (g.D.Disk.state c.args.disk.now).history (g.D.Disk.state c.acked_before.new.disk).history l) (sym c.deref.ensures.value) (c.in-Ok.ensures.acked told)) (c.record_all.ensures.still told)
+    (c.requires.sealed told) (c.requires.firm told) (c.requires.firm_first told) c.deref.result.now (subst (λ (l : List Bool). IsAckedFirmly c.args.digest (length c.args.files.now) (g.D.Disk.state c.args.disk.now).history (g.D.Disk.state c.acked_before.new.disk).history l) (sym c.deref.ensures.value) (c.in-Ok.ensures.acked told)) (c.record_all.ensures.reads.still told)
     c.record_all.new.body c.deref_mut-2.result.now (c.deref_mut-2.ensures.value ∙ c.requires.closed) c.record_all.ensures.size (c.in-Ok-record_all.ensures.recorded told))
 
 pub returns-in-Ok-record_all-clause-disk : goal.returns-in-Ok-record_all-clause-disk
@@ -36,7 +36,7 @@ returns-in-Ok-record_all-clause-disk g c = disk_then (λ is. cc) c.in-Ok.ensures
 
 -- the disk failed
 pub returns-clause-reading : goal.returns-clause-reading
-returns-clause-reading g c told = reading_along _ _ _ (c.acked_before.ensures.reading told) (still_reading _ _ (c.record_all.ensures.still told))
+returns-clause-reading g c told = reading_along _ _ _ (c.acked_before.ensures.reading told) (still_reading _ _ (c.record_all.ensures.reads.still told))
 
 pub returns-clause-disk : goal.returns-clause-disk
 returns-clause-disk g c = disk_then (λ is. cc) c.in-Ok.ensures.disk (disk_as (λ _. refl) (λ _. refl) c.in-Err-record_all.ensures.disk)

@@ -14,7 +14,7 @@ returns-in-Err-clause-done g c = record {
   stays = same_itself c.args.reel.now;
   stays_open = tt;
   part = part_itself;
-  still = c.in-Err.ensures.still;
+  reads = c.in-Err.ensures.reads;
   disks = old_asked c.in-Err.ensures.disk;
 }
 
@@ -28,7 +28,7 @@ returns-clause-done g c =
       stays = same_itself c.args.reel.now;
       stays_open = c.requires.is_open;
       part = part_itself;
-      still = c.in-Ok.ensures.still;
+      reads = c.in-Ok.ensures.reads;
       disks = old_asked c.in-Ok.ensures.disk;
     }
 
@@ -47,7 +47,7 @@ returns-then-served-clause-done g c =
       stays = done.stays;
       stays_open = done.stays_open;
       part = done.part;
-      still = c.in-Ok.ensures.still;
+      reads = c.in-Ok.ensures.reads;
       disks = both_behind (λ is. is) (λ is. is) (c.in-Ok.ensures.disk.counts.steady (λ is. cc)) refl c.in-Ok.ensures.disk.lent refl
           (new_asked done.disk);
     }

@@ -1,10 +1,10 @@
 use Rattle.std.proofs.Common.{rules, ◌≡◌, refl, sym, ap, ◌∙◌, subst, arith}
 use Rattle.reel_disk.specs.Disk.{Moment, view_of}
-use Rattle.resume_ledger.proofs.Reading.{still_along}
+use Rattle.resume_ledger.proofs.Reading.{reads_none, reads_along}
 use Rattle.reel_writer.specs.Reel.{frames_of}
 use Rattle.reconform.specs.inside.Adopt.{AreServed, IsServed}
 use Rattle.reconform.proofs.Dressing.{finish_along}
-use Rattle.reconform.proofs.Going.{both_behind, both_itself, looked_along, part_along, part_itself, still_itself}
+use Rattle.reconform.proofs.Going.{both_behind, both_itself, looked_along, part_along, part_itself}
 use Rattle.reconform.proofs.Serving.{same_along, same_itself, served_first, served_more}
 use Rattle.reconform.proofs.takeover.Takeover.adopt_each.Goals as goal
 
@@ -18,7 +18,7 @@ loop-i-init g c = record {
   rooms = c.requires.rooms;
   some = c.requires.some;
   part = part_itself;
-  still = λ told. still_itself (g.D.Disk.state c.args.old.now).history;
+  reads = reads_none;
   faults_old = refl;
   faults = refl;
   same_old = refl;
@@ -29,14 +29,14 @@ pub adopt_frame-requires-clause-can : goal.adopt_frame-requires-clause-can
 adopt_frame-requires-clause-can g c = record {
   new_is = c.requires.can.new_is;
   old_is = c.requires.can.old_is;
-  looked = looked_along g.N.Work.job g.O.Work.job g.D.Disk.tells (g.D.Disk.state c.args.old.now).history (g.D.Disk.state c.loop-i.old).history c.loop-i.invariant.still g.N.Work.files c.args.self.now.view.now c.requires.can.looked;
+  looked = looked_along g.N.Work.job g.O.Work.job g.D.Disk.tells (g.D.Disk.state c.args.old.now).history (g.D.Disk.state c.loop-i.old).history c.loop-i.invariant.reads.still g.N.Work.files c.args.self.now.view.now c.requires.can.looked;
   donors = c.requires.can.donors;
 }
 
 pub adopt_frame-requires-clause-rooms : goal.adopt_frame-requires-clause-rooms
 adopt_frame-requires-clause-rooms g c =
     finish_along g.N.Work.job g.O.Work.job g.N.Work.files g.D.Disk.tells c.args.self.now.view.now (view_of (g.D.Disk.state c.args.old.now).history) (view_of (g.D.Disk.state c.loop-i.old).history)
-    (λ told. ap (λ (m : Moment). m.view) (sym (c.loop-i.invariant.still told).same)) c.loop-i.rooms c.loop-i.invariant.rooms
+    (λ told. ap (λ (m : Moment). m.view) (sym (c.loop-i.invariant.reads.still told).same)) c.loop-i.rooms c.loop-i.invariant.rooms
 
 pub adopt_frame-requires-clause-size : goal.adopt_frame-requires-clause-size
 adopt_frame-requires-clause-size g c = c.loop-i.invariant.stays.size ∙ c.requires.size
@@ -49,14 +49,14 @@ loop-i-preserved g c =
       within = let lt = c.loop-i-test.true in let all = inv.ending in omega (arith, lt, all);
       ending = inv.ending;
       served = λ told. served_more g.N.Work.job g.O.Work.job c.args.self.now.view.now (view_of (g.D.Disk.state c.args.old.now).history) c.loop-i.i c.args.reel.now.ledger.gates c.loop-i.reel.ledger.gates c.adopt_frame.new.reel.ledger.gates (inv.served told)
-          (subst (λ (m : Moment). IsServed g.N.Work.job g.O.Work.job c.args.self.now.view.now m.view c.loop-i.i c.loop-i.reel.ledger.gates c.adopt_frame.new.reel.ledger.gates) (inv.still told).same (step.served told));
+          (subst (λ (m : Moment). IsServed g.N.Work.job g.O.Work.job c.args.self.now.view.now m.view c.loop-i.i c.loop-i.reel.ledger.gates c.adopt_frame.new.reel.ledger.gates) (inv.reads.still told).same (step.served told));
       stays = same_along _ _ _ inv.stays step.stays;
       is_open = step.stays_open;
       rooms = finish_along g.N.Work.job g.O.Work.job g.N.Work.files g.D.Disk.tells c.args.self.now.view.now (view_of (g.D.Disk.state c.loop-i.old).history) (view_of (g.D.Disk.state c.args.old.now).history)
-          (λ told. ap (λ (m : Moment). m.view) (inv.still told).same) c.adopt_frame.new.rooms c.in-Ok.ensures.rooms;
+          (λ told. ap (λ (m : Moment). m.view) (inv.reads.still told).same) c.adopt_frame.new.rooms c.in-Ok.ensures.rooms;
       some = search rules;
       part = part_along inv.stays.grows inv.part step.part;
-      still = λ told. still_along _ _ _ (inv.still told) (step.still told);
+      reads = reads_along inv.reads step.reads;
       faults_old = step.disks.old_steady (λ is. cc) ∙ inv.faults_old;
       faults = step.disks.steady (λ is. cc) ∙ inv.faults;
       same_old = step.disks.old_lent ∙ inv.same_old;
@@ -74,7 +74,7 @@ returns-in-Err-clause-adopted g c =
       stays_open = tt;
       end = search rules;
       part = part_along inv.stays.grows inv.part step.part;
-      still = λ told. still_along _ _ _ (inv.still told) (step.still told);
+      reads = reads_along inv.reads step.reads;
     }
 
 pub returns-in-Err-clause-disks : goal.returns-in-Err-clause-disks
@@ -96,7 +96,7 @@ returns-clause-adopted g c =
       stays_open = inv.is_open;
       end = tt;
       part = inv.part;
-      still = inv.still;
+      reads = inv.reads;
     }
 
 pub returns-clause-disks : goal.returns-clause-disks

@@ -1,6 +1,7 @@
 use Rattle.std.proofs.Common.{◌≡◌, ◌<◌, ◌≤◌, length, true, false}
 use Rattle.std.specs.Prelude.{All}
-use Rattle.reel_disk.specs.Disk.{view_of, IsStill}
+use Rattle.reel_disk.specs.Disk.{view_of}
+use Rattle.reel_disk.specs.State.{OnlyReads}
 use Rattle.reel_writer.specs.Reel.{frames_of}
 use Rattle.reconform.specs.inside.Adopt.{AreServed, IsSameReel}
 use Rattle.reconform.specs.inside.Ahead.{CanFinish}
@@ -18,7 +19,7 @@ invariant-loop-i g l = record {
   rooms : All (CanFinish g.N.Work.job g.O.Work.job g.N.Work.files g.D.Disk.tells l.fn.self.view.now (view_of (g.D.Disk.state l.fn.old).history)) l.rooms;
   some : 0 < length l.rooms;
   part : IsPart g.N.Work.job g.N.Work.files g.E.Disk.tells l.fn.reel.ledger.gates (g.E.Disk.state l.fn.reel.disk) (g.E.Disk.state l.reel.disk);
-  still : g.D.Disk.tells ≡ true → IsStill (g.D.Disk.state l.fn.old).history (g.D.Disk.state l.old).history;
+  reads : OnlyReads g.D.Disk.tells (g.D.Disk.state l.fn.old) (g.D.Disk.state l.old);
   faults_old : (g.D.Disk.state l.old).faults ≡ (g.D.Disk.state l.fn.old).faults;
   faults : (g.E.Disk.state l.reel.disk).faults ≡ (g.E.Disk.state l.fn.reel.disk).faults;
   same_old : (g.D.Disk.state l.old).loans ≡ (g.D.Disk.state l.fn.old).loans;

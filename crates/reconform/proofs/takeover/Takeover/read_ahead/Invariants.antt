@@ -1,14 +1,15 @@
-use Rattle.std.proofs.Common.{◌≡◌, ℕ, ◌<◌, ◌≤◌, true, length, get_or}
+use Rattle.std.proofs.Common.{◌≡◌, ℕ, ◌<◌, ◌≤◌, length, get_or}
 use Rattle.frame_hash.specs.declared.Room.{Room}
 use Rattle.frame_render.specs.Frame.{frame_size}
-use Rattle.reel_disk.specs.Disk.{view_of, IsStill}
+use Rattle.reel_disk.specs.Disk.{view_of}
+use Rattle.reel_disk.specs.State.{OnlyReads}
 use Rattle.reconform.specs.inside.Ahead.{HoldsDonor}
 use Rattle.reconform.proofs.takeover.Takeover.read_ahead.Given as goal
 
 -- the rooms so far hold donors' files, and the others are as long
 abbrev pub invariant-loop-n : goal.invariant-loop-n
 invariant-loop-n g l = record {
-  still : g.D.Disk.tells ≡ true → IsStill (g.D.Disk.state l.fn.old).history (g.D.Disk.state l.old).history;
+  reads : OnlyReads g.D.Disk.tells (g.D.Disk.state l.fn.old) (g.D.Disk.state l.old);
   read : (k : ℕ) (d : Room) → k < l.n → HoldsDonor g.N.Work.job g.O.Work.job g.D.Disk.tells (view_of (g.D.Disk.state l.fn.old).history) l.self.donors.now.by_plan (get_or l.rooms k d);
   size : (k : ℕ) (d : Room) → k < length l.rooms → length (get_or l.rooms k d).bytes.items ≡ frame_size g.N.Work.job;
   count : length l.rooms ≡ length l.fn.rooms;

@@ -1,10 +1,11 @@
 use Rattle.std.proofs.Common.{◌≡◌, List, ℕ, Bool, Option, true, subst, sym, arith}
+use Rattle.resume_ledger.proofs.Reading.{reads_none}
 use Rattle.std.specs.Prelude.{IfSome}
 use Rattle.reel_disk.specs.Disk.{view_of}
 use Rattle.reconform.specs.inside.Adopt.{IsServed}
 use Rattle.reconform.specs.Donor.{HasIntactDonor}
 use Rattle.reconform.proofs.Dressing.{freed}
-use Rattle.reconform.proofs.Going.{new_asked, still_itself}
+use Rattle.reconform.proofs.Going.{new_asked}
 use Rattle.reconform.proofs.Serving.{on_ok, served_set}
 use Rattle.reconform.proofs.takeover.Takeover.serve.Goals as goal
 
@@ -27,7 +28,7 @@ returns-in-Some-clause-done g c =
       stays = done.stays;
       stays_open = done.stays_open;
       part = done.part;
-      still = λ told. still_itself (g.D.Disk.state c.args.old.now).history;
+      reads = reads_none;
       disks = new_asked done.disk;
     }
 

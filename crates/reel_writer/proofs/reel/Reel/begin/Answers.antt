@@ -1,5 +1,5 @@
 use Rattle.std.proofs.Common.{◌≡◌, ◌≤◌, ◌∙◌, ℕ, length, ap, subst, arith}
-use Rattle.std.specs.Prelude.{vec_capacity}
+use Rattle.std.specs.Prelude.{Ok, Err, vec_capacity}
 use Rattle.reel_disk.specs.Disk.{moment_of}
 use Rattle.resume_ledger.specs.Ledger.{Agrees}
 use Rattle.conform_job.specs.Job.{JobData, file_of}
@@ -7,8 +7,9 @@ use Rattle.conform_job.specs.Refusals as sources
 use Rattle.frame_render.specs.Frame.{frame_file, frame_size}
 use Rattle.resume_ledger.specs.Sound.{IsOpeningRun, AddsNone}
 use Rattle.resume_ledger.proofs.Reading.{reading_itself, reading_part}
+use Rattle.reel_writer.specs.Calls.{Opens}
 use Rattle.reel_writer.specs.Reel.{frames_of}
-use Rattle.reel_writer.proofs.ReelLaws.{reel_run_itself, opened_run, sound_has}
+use Rattle.reel_writer.proofs.ReelLaws.{reel_run_itself, opened_run, opens_for, sound_has}
 use Rattle.reel_writer.proofs.reel.Reel.begin.Goals as goal
 
 -- no memory
@@ -37,7 +38,17 @@ returns-in-Ok-attach_for-clause-run g c told =
 pub returns-in-Ok-attach_for-clause-adds_none : goal.returns-in-Ok-attach_for-clause-adds_none
 returns-in-Ok-attach_for-clause-adds_none g c told = subst (λ (j : JobData). AddsNone j.parts.digest (frames_of j) (g.D.Disk.state c.args.disk).history (g.D.Disk.state c.attach_for.new.disk).history) c.requires.job (c.attach_for.ensures.adds_none told)
 
+pub returns-in-Ok-attach_for-clause-calls : goal.returns-in-Ok-attach_for-clause-calls
+returns-in-Ok-attach_for-clause-calls g c =
+    subst (λ b. Opens g.N.Work.job (frame_size g.N.Work.job) (Ok (record { digest = c.in-Ok-attach_for.ledger.digest; gates = c.in-Ok-attach_for.ledger.gates; closed = b }))
+    (g.D.Disk.state c.args.disk).calls (g.D.Disk.state c.attach_for.new.disk).calls) c.in-Ok-attach_for.ensures.known.is_open
+    (opens_for c.args.job.now g.N.Work.job _ (Ok c.in-Ok-attach_for.ledger) _ _ c.requires.job c.frame_len-size.ensures.size c.in-Ok-attach_for.ensures.calls)
+
 -- or not
+pub returns-in-Err-clause-calls : goal.returns-in-Err-clause-calls
+returns-in-Err-clause-calls g c =
+    opens_for c.args.job.now g.N.Work.job _ (Err c.in-Err.fault) _ _ c.requires.job c.frame_len-size.ensures.size c.in-Err.ensures.calls
+
 pub returns-in-Err-clause-run : goal.returns-in-Err-clause-run
 returns-in-Err-clause-run g c told =
     opened_run g.N.Work.job g.N.Work.files (g.D.Disk.state c.args.disk).history (g.D.Disk.state c.attach_for.new.disk).history

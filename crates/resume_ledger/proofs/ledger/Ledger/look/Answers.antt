@@ -6,7 +6,7 @@ use Rattle.resume_ledger.proofs.ledger.Ledger.look.Goals as goal
 
 pub returns-in-Ok-Some-clause-answer : goal.returns-in-Ok-Some-clause-answer
 returns-in-Ok-Some-clause-answer g c told =
-    looked_along c.args.digest c.args.count (g.D.Disk.state c.args.disk.now).history (g.D.Disk.state c.in_force.new.disk).history (g.D.Disk.state c.look_sealed.new.disk).history (c.in_force.ensures.still told) c.look_sealed.result (c.look_sealed.ensures.answer told)
+    looked_along c.args.digest c.args.count (g.D.Disk.state c.args.disk.now).history (g.D.Disk.state c.in_force.new.disk).history (g.D.Disk.state c.look_sealed.new.disk).history (c.in_force.ensures.reads.still told) c.look_sealed.result (c.look_sealed.ensures.answer told)
 
 -- no version counts
 pub returns-in-Ok-clause-answer : goal.returns-in-Ok-clause-answer
