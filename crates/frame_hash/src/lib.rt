@@ -1,16 +1,19 @@
 //! The SHA-256 of several files side by side.
 //!
-//! Whoever reads files puts them into rooms, and a hasher makes the digests of all: on the thread that asks, or on one for each
-//! processor. The digests are the same.
+//! Whoever reads files puts them into rooms, where they are hashed part by part, while other files are read or written: on the
+//! thread that asks, or on one for each processor. The digests are the same.
 #![tactic(auto)]
 
-ghost use Rattle.std.specs.Prelude.{◌≤◌, All, IfOk};
-ghost use Rattle.frame_hash.specs.Rooms.{IsFree, IsHashed, AreHashed};
+ghost use Rattle.std.specs.Prelude.{◌≡◌, ◌≤◌, ◌↔◌, true, length, All, IfOk};
+ghost use Rattle.std.specs.Thread.{IsSync};
+ghost use Rattle.sha2.specs.Sha256.{sha256};
+ghost use Rattle.frame_hash.specs.Rooms.{IsFree, IsFresh, IsBegun, IsHashedOn, AreHashedOn};
 
 use rayon::prelude::*;
 use sha2::{Digest, Sha256};
 use std::alloc::{AllocError, Global};
-use std::thread::Threads;
+use std::mem::replace;
+use std::thread::{Threads, join_mut};
 
 /// Room for the file of one frame, and for its SHA-256 (FIPS 180-4).
 #[derive(Drop)]
@@ -18,8 +21,9 @@ pub struct Room {
     /// The frame whose file lies here; None where the room is free.
     pub frame: Option<u32>,
     pub bytes: Vec<u8>,
-    /// The digest of the bytes, once they are hashed.
-    pub digest: [u8; 32],
+    /// How many bytes are hashed, and what was fed with them.
+    pub done: usize,
+    pub hasher: Sha256,
 }
 
 impl Room {
@@ -30,17 +34,51 @@ impl Room {
         Ok(Room {
             frame: None,
             bytes: vec![in alloc; 0u8; size]?,
-            digest: [0; 32],
+            done: 0,
+            hasher: Sha256::new(),
         })
     }
 
-    /// Makes the digest of the file that lies here.
-    fn hash(&mut self)
-        ensures { IsHashed self.old self.new }
+    /// Nothing is hashed any more of what lies here.
+    pub fn begin(&mut self)
+        ensures frame { self.new.frame ≡ self.old.frame }
+        ensures bytes { self.new.bytes ≡ self.old.bytes }
+        ensures fresh { IsFresh self.new }
+    {
+        self.done = 0;
+        self.hasher = Sha256::new();
+    }
+
+    /// Hashes so many bytes more of the file that lies here, or what is left of it.
+    pub fn hash_part(&mut self, size: usize)
+        ensures { IsHashedOn size self.old self.new }
     {
         if self.frame.is_some() {
-            self.digest = Sha256::digest(&self.bytes);
+            let begin = self.done.min(self.bytes.len());
+            let end = self.bytes.len().min(begin.saturating_add(size));
+            self.hasher.update(&self.bytes[begin..end]);
+            self.done = end;
         }
+    }
+
+    /// Whether all is hashed that lies here.
+    pub fn is_hashed(&self) -> bool
+        ensures { (result ≡ true) ↔ (length self.now.bytes.items ≤ self.now.done) }
+    {
+        self.bytes.len() <= self.done
+    }
+
+    /// The digest of what lies here; what is left of it is hashed now. Then nothing is hashed of it.
+    pub fn digest(&mut self) -> [u8; 32]
+        ensures digest { IsBegun self.old → result ≡ sha256 self.old.bytes.items }
+        ensures frame { self.new.frame ≡ self.old.frame }
+        ensures bytes { self.new.bytes ≡ self.old.bytes }
+        ensures fresh { IsFresh self.new }
+    {
+        let begin = self.done.min(self.bytes.len());
+        self.hasher.update(&self.bytes[begin..]);
+        self.done = 0;
+        replace(&mut self.hasher, Sha256::new()).finalize()
     }
 }
 
@@ -60,7 +98,7 @@ pub fn rooms_of(alloc: Global, count: usize, size: usize) -> Vec<Room>
     rooms
 }
 
-/// A way to make the digests of several files.
+/// A way to hash several files.
 pub trait Hasher {
     /// What has to hold of whatever it works with.
     ghost can_hash: { Type 0 };
@@ -69,32 +107,60 @@ pub trait Hasher {
     fn rooms(&self) -> usize
         ensures few { result ≤ 16 };
 
-    /// Makes the digest of each room that isn't free. Takes no memory.
-    fn hash(&self, rooms: &mut [Room])
+    /// Hashes so many bytes more of the file in each room, and meanwhile does some other work, such as to read the next file. Takes
+    /// no memory.
+    fn hash_beside<F: FnMut() -> A, A>(&self, rooms: &mut [Room], size: usize, work: &mut F) -> A
         requires can_hash { can_hash }
-        ensures hashed { AreHashed rooms.old rooms.new };
+        requires work { F.pre work.old }
+        ensures hashed { AreHashedOn size rooms.old rooms.new }
+        ensures worked { F.step work.old result work.new };
 }
 
-/// Makes the digests one after another, on the thread that asks.
-pub fn hash_each(rooms: &mut [Room])
-    ensures hashed { AreHashed rooms.old rooms.new }
+/// Does the work, and then hashes so many bytes more of each file, one after another, on the thread that asks.
+pub fn hash_behind<F: FnMut() -> A, A>(rooms: &mut [Room], size: usize, work: &mut F) -> A
+    requires work { F.pre work.old }
+    ensures hashed { AreHashedOn size rooms.old rooms.new }
+    ensures worked { F.step work.old result work.new }
 {
+    let done = work();
     for i in 0..rooms.len() {
-        rooms[i].hash();
+        rooms[i].hash_part(size);
     }
+    done
 }
 
-/// Makes the digests side by side, on a thread for each processor.
-pub fn hash_forked<R: Threads + Sync>(rt: &R, rooms: &mut [Room])
-    ensures hashed { AreHashed rooms.old rooms.new }
+/// Hashes so many bytes more of each file, side by side, on a thread for each processor, and does the work on this one.
+pub fn hash_forked<R: Threads + Sync, F: FnMut() -> A, A>(
+    rt: &R,
+    rooms: &mut [Room],
+    size: usize,
+    work: &mut F,
+) -> A
+    requires work { F.pre work.old }
+    ensures hashed { AreHashedOn size rooms.old rooms.new }
+    ensures worked { F.step work.old result work.new }
+{
+    let mut hash = ||
+        requires { IsSync R.row }
+        ensures { AreHashedOn size rooms.entry.now rooms.exit.now }
+    {
+        hash_each(rt, rooms, size);
+    };
+    let ((), done) = join_mut(rt, &mut hash, work);
+    done
+}
+
+/// Hashes so many bytes more of each file, side by side, on a thread for each processor.
+fn hash_each<R: Threads + Sync>(rt: &R, rooms: &mut [Room], size: usize)
+    ensures { AreHashedOn size rooms.old rooms.new }
 {
     par_for_each_mut(
         rt,
         rooms,
         |_: usize, room: &mut Room|
-            ensures { IsHashed room.old room.new }
+            ensures { IsHashedOn size room.old room.new }
         {
-            room.hash();
+            room.hash_part(size);
         },
     );
 }

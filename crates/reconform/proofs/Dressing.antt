@@ -1,5 +1,5 @@
 -- What is made of a donor's file that was read ahead.
-use Rattle.std.proofs.Common.{◌≡◌, inl, inr, ℕ, ◌+◌, ◌*◌, ◌<◌, Bool, true, List, get_or, set, length, drop, refl, sym, ap, ◌∙◌, subst, arith, Option}
+use Rattle.std.proofs.Common.{◌≡◌, inl, inr, ℕ, ◌+◌, ◌*◌, ◌<◌, Bool, true, List, get_or, set, length, drop, take, refl, sym, ap, ◌∙◌, subst, arith, Option}
 use Rattle.std.specs.Prelude.{All, Some, None, IfSome}
 use Rattle.std.specs.BTreeMap.{BTreeMap}
 use Rattle.std.proofs.lemmas.Bool.{cases_eq}
@@ -8,13 +8,14 @@ use Rattle.std.proofs.lemmas.List.Elements.{All-set}
 use Rattle.sha2.specs.Sha256.{sha256}
 use Rattle.scan_source.specs.World.{World, file_at}
 use Rattle.frame_hash.specs.declared.Room.{Room}
-use Rattle.frame_hash.specs.Rooms.{IsFree, AreHashed}
+use Rattle.frame_hash.specs.Rooms.{IsFree, IsFresh, IsBegun, IsHashedOn, AreHashedOn}
+use Rattle.sha2.specs.Hashers.{Holds256}
 use Rattle.conform_job.specs.Job.{JobData, file_of}
 use Rattle.frame_render.specs.Frame.{IsFileOf, frame_file, frame_size}
 use Rattle.reel_disk.specs.Disk.{Files}
 use Rattle.resume_ledger.specs.Look.{ViewState, hash_at}
 use Rattle.reel_writer.specs.Reel.{frames_of}
-use Rattle.reconform.specs.inside.Ahead.{IsKept, HoldsFrame, CanFinish}
+use Rattle.reconform.specs.inside.Ahead.{IsKept, HoldsDonor, HoldsFrame, CanFinish}
 use Rattle.reconform.specs.Donor.{HasIntactDonor, IsOfHash}
 use Rattle.reconform.specs.inside.Donor.{IsLeast, donor_in}
 use Rattle.reconform.specs.inside.Parts.{HasDonors, WasLookedAt}
@@ -55,16 +56,23 @@ module _ (new old : JobData) (told : Option World) (tells : Bool) (files : Files
 pub sizes_alike : (new old : JobData) → AreAlike new old → frame_size new ≡ frame_size old
 sizes_alike new old alike = ap (λ n. 2048 + 4 * n) (λ t. alike.width t * alike.height t)
 
+-- where nothing is hashed, whatever lies there
+pub fresh_begun : (room : Room) → IsFresh room → IsBegun room
+fresh_begun room fresh = record {
+  within = let none = fresh.none in omega (arith, none);
+  holds = subst (λ n. Holds256 room.hasher (take n room.bytes.items)) (sym fresh.none) fresh.holds;
+}
+
 -- a free room can be finished, as there is nothing in it
 pub free_can_finish : (new old : JobData) (told : Option World) (tells : Bool) (view : ViewState) (files : Files) (room : Room) → IsFree (frame_size new) room → CanFinish new old told tells view files room
 free_can_finish new old told tells view files room free = record {
   holds = record {
-    size = free.1;
-    within = subst (λ frame. IfSome frame (λ i. i < frames_of new)) (sym free.0) tt;
-    donor = subst (λ frame. IfSome frame (λ i. tells ≡ true → HasIntactDonor new old view files i)) (sym free.0) tt;
-    file = subst (λ frame. IfSome frame (λ i. IsFileOf new told i room.bytes.items)) (sym free.0) tt;
+    size = free.size;
+    within = subst (λ frame. IfSome frame (λ i. i < frames_of new)) (sym free.none) tt;
+    donor = subst (λ frame. IfSome frame (λ i. tells ≡ true → HasIntactDonor new old view files i)) (sym free.none) tt;
+    file = subst (λ frame. IfSome frame (λ i. IsFileOf new told i room.bytes.items)) (sym free.none) tt;
   };
-  digest = subst (λ frame. IfSome frame (λ i. room.digest ≡ sha256 room.bytes.items)) (sym free.0) tt;
+  begun = fresh_begun room free.fresh;
 }
 
 -- one room more has a property
@@ -75,23 +83,52 @@ more_rooms P rooms n room lt before here k d within = elim (cases_eq k n) [
   | inr other ↦ subst P (sym (get_or-set_other rooms n k room d other)) (before k d (omega (arith, within, other)))
 ]
 
--- rooms as they were read, and hashed
-module _ (new old : JobData) (told : Option World) (tells : Bool) (view : ViewState) (files : Files) where
-  pub hashed_frames : (before after : List Room) → AreHashed before after → All (HoldsFrame new old told tells view files) before → All (CanFinish new old told tells view files) after
-  hashed_frames before after hashed frames k d within =
-      let lt : k < length before = let count = hashed.count in omega (arith, count, within) in
-      let is = hashed.each k d lt in
-      let was = frames k d lt in
-      record {
-        holds = record {
-          size = ap length is.bytes ∙ was.size;
-          within = subst (λ frame. IfSome frame (λ i. i < frames_of new)) (sym is.frame) was.within;
-          donor = subst (λ frame. IfSome frame (λ i. tells ≡ true → HasIntactDonor new old view files i)) (sym is.frame) was.donor;
-          file = subst (λ (room : Option ℕ × List ℕ). IfSome room.0 (λ i. IsFileOf new told i room.1)) (λ t. (sym is.frame t, sym is.bytes t)) was.file;
-        };
-        digest = subst (λ (room : Option ℕ × List ℕ). IfSome room.0 (λ i. (get_or after k d).digest ≡ sha256 room.1)) (λ t. (sym is.frame t, sym is.bytes t)) is.digest;
-      }
+-- no donor's file lies in a free room
+pub free_donor : (new old : JobData) (tells : Bool) (files : Files) (by_plan : BTreeMap FramePlan ℕ) (room : Room) → IsFree (frame_size new) room → HoldsDonor new old tells files by_plan room
+free_donor new old tells files by_plan room free = record {
+  size = free.size;
+  within = subst (λ frame. IfSome frame (λ i. i < frames_of new)) (sym free.none) tt;
+  file = subst (λ frame. IfSome frame (λ i. tells ≡ true → IfSome (donor_in by_plan (plan_at new i)) (λ j. files (file_of old j) ≡ Some room.bytes.items))) (sym free.none) tt;
+  begun = fresh_begun room free.fresh;
+}
 
+-- a file stays as it was while it is hashed
+module _ (size : ℕ) (before after : Room) (is : IsHashedOn size before after) where
+  same_room : (P : Option ℕ → List ℕ → Type 0) → P before.frame before.bytes.items → P after.frame after.bytes.items
+  same_room P h = subst (λ (room : Option ℕ × List ℕ). P room.0 room.1) (λ t. (sym is.frame t, sym is.bytes t)) h
+
+  donor_on : (new old : JobData) (tells : Bool) (files : Files) (by_plan : BTreeMap FramePlan ℕ) → HoldsDonor new old tells files by_plan before → HoldsDonor new old tells files by_plan after
+  donor_on new old tells files by_plan holds = record {
+    size = ap length is.bytes ∙ holds.size;
+    within = same_room (λ frame bytes. IfSome frame (λ i. i < frames_of new)) holds.within;
+    file = same_room (λ frame bytes. IfSome frame (λ i. tells ≡ true → IfSome (donor_in by_plan (plan_at new i)) (λ j. files (file_of old j) ≡ Some bytes))) holds.file;
+    begun = is.begun holds.begun;
+  }
+
+  finish_on : (new old : JobData) (told : Option World) (tells : Bool) (view : ViewState) (files : Files) → CanFinish new old told tells view files before → CanFinish new old told tells view files after
+  finish_on new old told tells view files can = record {
+    holds = record {
+      size = ap length is.bytes ∙ can.holds.size;
+      within = same_room (λ frame bytes. IfSome frame (λ i. i < frames_of new)) can.holds.within;
+      donor = same_room (λ frame bytes. IfSome frame (λ i. tells ≡ true → HasIntactDonor new old view files i)) can.holds.donor;
+      file = same_room (λ frame bytes. IfSome frame (λ i. IsFileOf new told i bytes)) can.holds.file;
+    };
+    begun = is.begun can.begun;
+  }
+
+module _ (size : ℕ) (before after : List Room) (on : AreHashedOn size before after) where
+  pub donors_on : (new old : JobData) (tells : Bool) (files : Files) (by_plan : BTreeMap FramePlan ℕ) → All (HoldsDonor new old tells files by_plan) before → All (HoldsDonor new old tells files by_plan) after
+  donors_on new old tells files by_plan are k d within =
+      let lt : k < length before = let count = on.count in omega (arith, count, within) in
+      donor_on size (get_or before k d) (get_or after k d) (on.each k d lt) new old tells files by_plan (are k d lt)
+
+  pub ready_on : (new old : JobData) (told : Option World) (tells : Bool) (view : ViewState) (files : Files) → All (CanFinish new old told tells view files) before → All (CanFinish new old told tells view files) after
+  ready_on new old told tells view files are k d within =
+      let lt : k < length before = let count = on.count in omega (arith, count, within) in
+      finish_on size (get_or before k d) (get_or after k d) (on.each k d lt) new old told tells view files (are k d lt)
+
+-- rooms that can be finished
+module _ (new old : JobData) (told : Option World) (tells : Bool) (view : ViewState) (files : Files) where
   -- one room is free now
   pub freed : (rooms : List Room) (n : ℕ) (room : Room) → IsFree (frame_size new) room → All (CanFinish new old told tells view files) rooms → All (CanFinish new old told tells view files) (set rooms n room)
   freed rooms n room free all = All-set (CanFinish new old told tells view files) rooms n room (free_can_finish new old told tells view files room free) all
@@ -106,9 +143,22 @@ module _ (new old : JobData) (told : Option World) (tells : Bool) (view : ViewSt
       donor = along (get_or rooms k d).frame was.holds.donor;
       file = was.holds.file;
     };
-    digest = was.digest;
+    begun = was.begun;
   }
     where
       along : (frame : Option ℕ) → IfSome frame (λ i. tells ≡ true → HasIntactDonor new old view files i) → IfSome frame (λ i. tells ≡ true → HasIntactDonor new old view then i)
       along None donor = tt
       along (Some i) donor = λ is. subst (λ all. HasIntactDonor new old view all i) (same is) (donor is)
+
+  pub donors_along : (by_plan : BTreeMap FramePlan ℕ) (rooms : List Room) → All (HoldsDonor new old tells files by_plan) rooms → All (HoldsDonor new old tells then by_plan) rooms
+  donors_along by_plan rooms holds k d within = let was = holds k d within in record {
+    size = was.size;
+    within = was.within;
+    file = along (get_or rooms k d).frame (get_or rooms k d).bytes.items was.file;
+    begun = was.begun;
+  }
+    where
+      along : (frame : Option ℕ) (bytes : List ℕ) → IfSome frame (λ i. tells ≡ true → IfSome (donor_in by_plan (plan_at new i)) (λ j. files (file_of old j) ≡ Some bytes))
+          → IfSome frame (λ i. tells ≡ true → IfSome (donor_in by_plan (plan_at new i)) (λ j. then (file_of old j) ≡ Some bytes))
+      along None bytes read = tt
+      along (Some i) bytes read = λ is. subst (λ (all : Files). IfSome (donor_in by_plan (plan_at new i)) (λ j. all (file_of old j) ≡ Some bytes)) (same is) (read is)

@@ -5,4 +5,5 @@ mod Going
 pub mod Painting
 mod PlanOrder
 mod Planning
+mod Ranges
 mod Serving

@@ -12,7 +12,7 @@ ghost use Rattle.reconform.specs.Adopt.{CanServe, HasAnswered, IsOfOld, LeavesBo
 ghost use Rattle.reconform.specs.inside.Adopt.{AsOpenedFor, by_new, by_old};
 ghost use Rattle.reconform.specs.inside.Parts.{IsPart, IsSafeAdoption, WasLookedAt};
 
-use crate::frames::adopt_alike;
+use crate::whole::adopt_alike;
 use conform_job::{Job, Work};
 use frame_hash::Hasher;
 use reel_disk::Disk;

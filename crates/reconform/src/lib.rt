@@ -9,6 +9,7 @@ mod frames;
 mod intact;
 mod plan;
 mod takeover;
+mod whole;
 
 pub use adopting::{AdoptFault, Adopted, adopt};
 pub use plan::{FramePlan, PlanSide, are_alike, plan_at, plan_laws};

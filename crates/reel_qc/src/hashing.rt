@@ -1,6 +1,6 @@
 //! The digests of several files, by what counts.
 use crate::counter::{Forked, OneThread};
-use frame_hash::{Hasher, Room, hash_each, hash_forked};
+use frame_hash::{Hasher, Room, hash_behind, hash_forked};
 use rayon::current_num_threads;
 use std::thread::Threads;
 
@@ -15,8 +15,8 @@ impl Hasher for OneThread {
         0
     }
 
-    fn hash(&self, rooms: &mut [Room]) {
-        hash_each(rooms);
+    fn hash_beside<F: FnMut() -> A, A>(&self, rooms: &mut [Room], size: usize, work: &mut F) -> A {
+        hash_behind(rooms, size, work)
     }
 }
 
@@ -30,7 +30,7 @@ impl<R: Threads + Sync> Hasher for Forked<'_, R> {
         current_num_threads(self.rt).min(MOST_ROOMS)
     }
 
-    fn hash(&self, rooms: &mut [Room]) {
-        hash_forked(self.rt, rooms);
+    fn hash_beside<F: FnMut() -> A, A>(&self, rooms: &mut [Room], size: usize, work: &mut F) -> A {
+        hash_forked(self.rt, rooms, size, work)
     }
 }

@@ -1,66 +1,200 @@
-//! Files of a reel's frames that are read ahead of a check, so that several are hashed side by side.
-ghost use Rattle.std.specs.Prelude.{◌≡◌, ◌<◌, true, length, All, OnOk, IfSome, IsErr};
+//! Files of a reel's frames that are read ahead of a check: while one is read, those before it are hashed side by side.
+ghost use Rattle.std.specs.Prelude.{◌≡◌, ◌<◌, true, length, All, OnOk, IfOk, IfSome, IsErr};
 ghost use Rattle.conform_job.specs.Job.{JobData, file_of};
 ghost use Rattle.reel_disk.specs.Disk.{Files, view_of};
 ghost use Rattle.resume_ledger.specs.Hash.{digest_of_file};
-ghost use Rattle.reel_writer.specs.inside.Ahead.{HasDigest, HasFile};
+ghost use Rattle.reel_writer.specs.inside.Ahead.{AreRead, IsRead};
 ghost use Rattle.reel_disk.specs.State.{LeavesDisk, OnlyReads};
 ghost use Rattle.reel_writer.specs.Reel.{frames_of};
 
 use crate::whole::read_whole;
 use conform_job::Job;
-use frame_hash::{Hasher, Room};
+use frame_hash::{Hasher, Room, rooms_of};
 use reel_disk::{Disk, DiskFault};
 use resume_ledger::LedgerView;
+use std::alloc::Global;
+use std::mem::swap;
 
-/// Reads the files of the frames from `from` on that have a record, one into each room, and hashes them. A file of another
-/// length than a frame's ends it: the rooms that are left are free then.
-pub(crate) fn fill_rooms<D: Disk, H: Hasher>(
+/// How many times as fast a file that lies in memory is read as it is hashed, about.
+const READS_FASTER: usize = 12;
+
+/// Rooms for files that are read ahead, and where the next one is looked for.
+#[derive(Drop)]
+pub(crate) struct Ahead {
+    /// The next file is read into the first.
+    rooms: Vec<Room>,
+    next: u32,
+}
+
+impl Ahead {
+    /// So many rooms for files of one size, or as many as memory is left for.
+    pub(crate) fn new(alloc: Global, count: usize, size: usize) -> Ahead
+        ensures free { (job : JobData) (files : Files) → AreRead job files result.rooms.items }
+    {
+        Ahead {
+            rooms: rooms_of(alloc, count, size),
+            next: 0,
+        }
+    }
+
+    /// The SHA-256 of the file of frame `i`, if it is read ahead.
+    pub(crate) fn digest_of<D: Disk, H: Hasher>(
+        &mut self,
+        disk: &mut D,
+        job: &Job,
+        view: &LedgerView,
+        hasher: &H,
+        i: u32,
+    ) -> Result<Option<[u8; 32]>, DiskFault>
+        requires can_hash { H.can_hash }
+        requires size { length view.now.gates ≡ frames_of job.now }
+        requires rooms { D.tells ≡ true → AreRead job.now (view_of (D.state disk.old).history) self.old.rooms.items }
+        ensures digest { IfOk result (λ found. IfSome found (λ digest. D.tells ≡ true
+            → digest ≡ digest_of_file (view_of (D.state disk.old).history (file_of job.now i)))) }
+        ensures rooms { OnOk result (D.tells ≡ true
+            → AreRead job.now (view_of (D.state disk.old).history) self.new.rooms.items) }
+        ensures reads { OnlyReads D.tells (D.state disk.old) (D.state disk.new) }
+        ensures disk { LeavesDisk (IsErr result) (D.state disk.old) (D.state disk.new) }
+    {
+        // One room after the other gets a file, and then each step hashes a part of it.
+        for _ in 0..=self.rooms.len() {
+            if let Some(digest) = take_digest(&mut self.rooms, i) {
+                return Ok(Some(digest));
+            }
+            match read_beside(disk, job, view, hasher, self.next, &mut self.rooms) {
+                Ok(next) => self.next = next,
+                Err(DiskFault) => return Err(DiskFault),
+            }
+        }
+        Ok(None)
+    }
+}
+
+/// The digest of the file of frame `i`, if it lies in a room and all of it is hashed. The room is free then.
+fn take_digest(rooms: &mut [Room], i: u32) -> Option<[u8; 32]>
+    ensures digest { (job : JobData) (files : Files) → AreRead job files rooms.old
+        → IfSome result (λ digest. digest ≡ digest_of_file (files (file_of job i))) }
+    ensures rooms { (job : JobData) (files : Files) → AreRead job files rooms.old → AreRead job files rooms.new }
+{
+    for n in 0..rooms.len() {
+        if rooms[n].frame == Some(i) && rooms[n].is_hashed() {
+            rooms[n].frame = None;
+            return Some(rooms[n].digest());
+        }
+    }
+    None
+}
+
+/// Reads the file of the first frame from `from` on that has a record into the first room, and meanwhile hashes a part of each of
+/// those in other rooms: where the next file is looked for.
+fn read_beside<D: Disk, H: Hasher>(
     disk: &mut D,
     job: &Job,
     view: &LedgerView,
     hasher: &H,
     from: u32,
     rooms: &mut [Room],
-) -> Result<(), DiskFault>
+) -> Result<u32, DiskFault>
     requires can_hash { H.can_hash }
     requires size { length view.now.gates ≡ frames_of job.now }
-    ensures digests { OnOk result (D.tells ≡ true
-        → All (HasDigest job.now (view_of (D.state disk.old).history)) rooms.new) }
+    requires rooms { D.tells ≡ true → AreRead job.now (view_of (D.state disk.old).history) rooms.old }
+    ensures rooms { OnOk result (D.tells ≡ true → AreRead job.now (view_of (D.state disk.old).history) rooms.new) }
     ensures reads { OnlyReads D.tells (D.state disk.old) (D.state disk.new) }
     ensures disk { LeavesDisk (IsErr result) (D.state disk.old) (D.state disk.new) }
 {
-    match read_ahead(disk, job, view, from, rooms) {
-        Ok(()) => {
-            hasher.hash(rooms);
-            Ok(())
-        }
-        Err(DiskFault) => Err(DiskFault),
+    match rooms.split_first_mut() {
+        Some((first, others)) => read_into(disk, job, view, hasher, from, first, others),
+        None => Ok(from),
     }
 }
 
-/// Reads the files of the frames from `from` on that have a record, one into each room.
-fn read_ahead<D: Disk>(
+/// The same, where the first room is apart from the others.
+fn read_into<D: Disk, H: Hasher>(
+    disk: &mut D,
+    job: &Job,
+    view: &LedgerView,
+    hasher: &H,
+    from: u32,
+    first: &mut Room,
+    others: &mut [Room],
+) -> Result<u32, DiskFault>
+    requires can_hash { H.can_hash }
+    requires size { length view.now.gates ≡ frames_of job.now }
+    requires first { D.tells ≡ true → IsRead job.now (view_of (D.state disk.old).history) first.old }
+    requires others { D.tells ≡ true → AreRead job.now (view_of (D.state disk.old).history) others.old }
+    ensures first { OnOk result (D.tells ≡ true → IsRead job.now (view_of (D.state disk.old).history) first.new) }
+    ensures others { D.tells ≡ true → AreRead job.now (view_of (D.state disk.old).history) others.new }
+    ensures count { length others.new ≡ length others.old }
+    ensures reads { OnlyReads D.tells (D.state disk.old) (D.state disk.new) }
+    ensures disk { LeavesDisk (IsErr result) (D.state disk.old) (D.state disk.new) }
+{
+    make_way(first, others);
+    let (own, each) = parts_of(first.bytes.len(), others.len().saturating_add(1));
+    let mut read = || -> Result<u32, DiskFault>
+        requires { (length view.now.gates ≡ frames_of job.now)
+            × (D.tells ≡ true → IsRead job.now (view_of (D.state disk.now).history) first.now) }
+        ensures room { OnOk result (D.tells ≡ true
+            → IsRead job.entry.now (view_of (D.state disk.entry.now).history) first.exit.now) }
+        ensures reads { OnlyReads D.tells (D.state disk.entry.now) (D.state disk.exit.now) }
+        ensures disk { LeavesDisk (IsErr result) (D.state disk.entry.now) (D.state disk.exit.now) }
+    { read_on(disk, job, view, from, first, own) };
+    hasher.hash_beside(others, each, &mut read)
+}
+
+/// If a file lies in the first room, it goes to one that is free, if there is one.
+fn make_way(first: &mut Room, others: &mut [Room])
+    ensures first { (job : JobData) (files : Files) → IsRead job files first.old → AreRead job files others.old
+        → IsRead job files first.new }
+    ensures others { (job : JobData) (files : Files) → IsRead job files first.old → AreRead job files others.old
+        → AreRead job files others.new }
+    ensures count { length others.new ≡ length others.old }
+{
+    if first.frame.is_none() {
+        return;
+    }
+    for n in 0..others.len() {
+        if others[n].frame.is_none() {
+            swap(first, &mut others[n]);
+            return;
+        }
+    }
+}
+
+/// How many bytes of a file are hashed in the step that reads it, and how many in each further step, so that each of so many
+/// threads has as much to do as the others.
+fn parts_of(len: usize, threads: usize) -> (usize, usize) {
+    let own = (len / threads.saturating_mul(READS_FASTER).max(1)).saturating_mul(
+        (READS_FASTER + 1).saturating_sub(threads),
+    );
+    let others = threads.saturating_sub(1).max(1);
+    (own, len.saturating_sub(own).div_ceil(others))
+}
+
+/// Reads the next file into a room, if that is free, and begins to hash it; else it hashes so many bytes more of the one that lies
+/// there. Where the next file is looked for.
+fn read_on<D: Disk>(
     disk: &mut D,
     job: &Job,
     view: &LedgerView,
     from: u32,
-    rooms: &mut [Room],
-) -> Result<(), DiskFault>
+    room: &mut Room,
+    size: usize,
+) -> Result<u32, DiskFault>
     requires size { length view.now.gates ≡ frames_of job.now }
-    ensures files { OnOk result (D.tells ≡ true
-        → All (HasFile job.now (view_of (D.state disk.old).history)) rooms.new) }
+    requires room { D.tells ≡ true → IsRead job.now (view_of (D.state disk.old).history) room.old }
+    ensures room { OnOk result (D.tells ≡ true → IsRead job.now (view_of (D.state disk.old).history) room.new) }
     ensures reads { OnlyReads D.tells (D.state disk.old) (D.state disk.new) }
     ensures disk { LeavesDisk (IsErr result) (D.state disk.old) (D.state disk.new) }
 {
     let mut next = from;
-    for n in 0..rooms.len() {
-        match read_next(disk, job, view, next, &mut rooms[n]) {
+    if room.frame.is_none() {
+        match read_next(disk, job, view, from, room) {
             Ok(behind) => next = behind,
             Err(DiskFault) => return Err(DiskFault),
         }
     }
-    Ok(())
+    room.hash_part(size);
+    Ok(next)
 }
 
 /// Reads the file of the first frame from `from` on that has a record into a room, if the file is as long as the room: where
@@ -73,8 +207,8 @@ fn read_next<D: Disk>(
     room: &mut Room,
 ) -> Result<u32, DiskFault>
     requires size { length view.now.gates ≡ frames_of job.now }
-    ensures file { OnOk result (D.tells ≡ true
-        → HasFile job.now (view_of (D.state disk.old).history) room.new) }
+    ensures room { OnOk result (D.tells ≡ true
+        → IsRead job.now (view_of (D.state disk.old).history) room.new) }
     ensures reads { OnlyReads D.tells (D.state disk.old) (D.state disk.new) }
     ensures disk { LeavesDisk (IsErr result) (D.state disk.old) (D.state disk.new) }
 {
@@ -84,6 +218,7 @@ fn read_next<D: Disk>(
         Some(i) => match read_whole(disk, job.file_of(i), &mut room.bytes) {
             Ok(true) => {
                 room.frame = Some(i);
+                room.begin();
                 Ok(i + 1)
             }
             Ok(false) => Ok(end),
@@ -101,19 +236,6 @@ fn next_recorded(job: &Job, view: &LedgerView, from: u32) -> Option<u32>
     for i in from..job.count() {
         if view.hash_of(i).is_some() {
             return Some(i);
-        }
-    }
-    None
-}
-
-/// The digest of a frame's file, where it was read ahead.
-pub(crate) fn digest_in(rooms: &[Room], i: u32) -> Option<[u8; 32]>
-    ensures digest { (job : JobData) (files : Files) → All (HasDigest job files) rooms.now
-        → IfSome result (λ digest. digest ≡ digest_of_file (files (file_of job i))) }
-{
-    for n in 0..rooms.len() {
-        if rooms[n].frame == Some(i) {
-            return Some(rooms[n].digest);
         }
     }
     None

@@ -1,18 +1,18 @@
 //! A check of a reel's files against the ledger's records.
-ghost use Rattle.std.specs.Prelude.{◌≡◌, ◌<◌, true, length, All, Err, IfOk, OnOk, IsErr};
+ghost use Rattle.std.specs.Prelude.{◌≡◌, ◌<◌, true, length, Err, IfOk, OnOk, IsErr};
 ghost use Rattle.reel_disk.specs.Disk.{view_of};
 ghost use Rattle.conform_job.specs.Job.{file_of};
 ghost use Rattle.resume_ledger.specs.Hash.{digest_of_file};
-ghost use Rattle.reel_writer.specs.inside.Ahead.{HasDigest};
+ghost use Rattle.reel_writer.specs.inside.Ahead.{AreRead};
 ghost use Rattle.reel_disk.specs.State.{LeavesDisk, OnlyReads};
 ghost use Rattle.reel_writer.specs.Reel.{frames_of};
 ghost use Rattle.reel_writer.specs.Damage.{HasChecked, IsCheckFor, IsIntactWhereSound};
 ghost use Rattle.reel_writer.specs.inside.Damage.{HasCheckedOne, IsCheckOneFor};
 
-use crate::ahead::{digest_in, fill_rooms};
+use crate::ahead::Ahead;
 use crate::files::frame_len;
 use conform_job::Job;
-use frame_hash::{Hasher, Room, rooms_of};
+use frame_hash::Hasher;
 use reel_disk::{Disk, DiskFault};
 use resume_ledger::{LedgerView, digest_of_file};
 use std::alloc::Global;
@@ -65,12 +65,12 @@ pub fn check<D: Disk, H: Hasher>(
     let Ok(mut piece) = vec![in alloc; 0u8; 65536] else {
         return Err(CheckFault::NoMemory);
     };
-    let mut rooms = rooms_of(
+    let mut ahead = Ahead::new(
         alloc,
         hasher.rooms().min(view.acked() as usize),
         frame_len(job) as usize,
     );
-    check_all(disk, job, view, hasher, &mut rooms, &mut piece)
+    check_all(disk, job, view, hasher, &mut ahead, &mut piece)
 }
 
 /// Checks all frames.
@@ -79,12 +79,12 @@ fn check_all<D: Disk, H: Hasher>(
     job: &Job,
     view: &LedgerView,
     hasher: &H,
-    rooms: &mut [Room],
+    ahead: &mut Ahead,
     piece: &mut [u8],
 ) -> Result<u32, CheckFault>
     requires can_hash { H.can_hash }
     requires size { length view.now.gates ≡ frames_of job.now }
-    requires rooms { D.tells ≡ true → All (HasDigest job.now (view_of (D.state disk.old).history)) rooms.old }
+    requires ahead { D.tells ≡ true → AreRead job.now (view_of (D.state disk.old).history) ahead.old.rooms.items }
     requires piece { length piece.old ≡ 65536 }
     ensures answer { D.tells ≡ true
         → HasChecked job.now view.now (view_of (D.state disk.old).history) result }
@@ -94,7 +94,7 @@ fn check_all<D: Disk, H: Hasher>(
 {
     let mut records = 0;
     for i in 0..job.count() {
-        match check_one(disk, job, view, hasher, i, rooms, piece) {
+        match check_one(disk, job, view, hasher, i, ahead, piece) {
             Ok(more) => records += more,
             Err(fault) => return Err(fault),
         }
@@ -109,27 +109,27 @@ fn check_one<D: Disk, H: Hasher>(
     view: &LedgerView,
     hasher: &H,
     i: u32,
-    rooms: &mut [Room],
+    ahead: &mut Ahead,
     piece: &mut [u8],
 ) -> Result<u32, CheckFault>
     requires can_hash { H.can_hash }
     requires size { length view.now.gates ≡ frames_of job.now }
     requires within { i < frames_of job.now }
-    requires rooms { D.tells ≡ true → All (HasDigest job.now (view_of (D.state disk.old).history)) rooms.old }
+    requires ahead { D.tells ≡ true → AreRead job.now (view_of (D.state disk.old).history) ahead.old.rooms.items }
     requires piece { length piece.old ≡ 65536 }
     ensures answer { D.tells ≡ true
         → HasCheckedOne job.now view.now (view_of (D.state disk.old).history) i result }
     ensures reads { OnlyReads D.tells (D.state disk.old) (D.state disk.new) }
     ensures known { IsCheckOneFor view.now i result }
-    ensures rooms { OnOk result (D.tells ≡ true
-        → All (HasDigest job.now (view_of (D.state disk.old).history)) rooms.new) }
+    ensures ahead { OnOk result (D.tells ≡ true
+        → AreRead job.now (view_of (D.state disk.old).history) ahead.new.rooms.items) }
     ensures piece { length piece.new ≡ 65536 }
     ensures disk { LeavesDisk (result ≡ Err CheckFault.DiskFault) (D.state disk.old) (D.state disk.new) }
 {
     let Some(kept) = view.hash_of(i) else {
         return Ok(0);
     };
-    let found = match digest_of(disk, job, view, hasher, i, rooms, piece) {
+    let found = match digest_of(disk, job, view, hasher, i, ahead, piece) {
         Ok(found) => found,
         Err(DiskFault) => return Err(CheckFault::DiskFault),
     };
@@ -144,37 +144,32 @@ fn check_one<D: Disk, H: Hasher>(
     }
 }
 
-/// The SHA-256 of the file of frame `i`. Where it wasn't read ahead, it is read now, and with it those behind it.
+/// The SHA-256 of the file of frame `i`. If it isn't read ahead, it is hashed piece by piece.
 fn digest_of<D: Disk, H: Hasher>(
     disk: &mut D,
     job: &Job,
     view: &LedgerView,
     hasher: &H,
     i: u32,
-    rooms: &mut [Room],
+    ahead: &mut Ahead,
     piece: &mut [u8],
 ) -> Result<[u8; 32], DiskFault>
     requires can_hash { H.can_hash }
     requires size { length view.now.gates ≡ frames_of job.now }
     requires within { i < frames_of job.now }
-    requires rooms { D.tells ≡ true → All (HasDigest job.now (view_of (D.state disk.old).history)) rooms.old }
+    requires ahead { D.tells ≡ true → AreRead job.now (view_of (D.state disk.old).history) ahead.old.rooms.items }
     requires piece { length piece.old ≡ 65536 }
     ensures digest { IfOk result (λ digest. D.tells ≡ true
         → digest ≡ digest_of_file (view_of (D.state disk.old).history (file_of job.now i))) }
     ensures reads { OnlyReads D.tells (D.state disk.old) (D.state disk.new) }
-    ensures rooms { OnOk result (D.tells ≡ true
-        → All (HasDigest job.now (view_of (D.state disk.old).history)) rooms.new) }
+    ensures ahead { OnOk result (D.tells ≡ true
+        → AreRead job.now (view_of (D.state disk.old).history) ahead.new.rooms.items) }
     ensures piece { length piece.new ≡ 65536 }
     ensures disk { LeavesDisk (IsErr result) (D.state disk.old) (D.state disk.new) }
 {
-    if let Some(digest) = digest_in(rooms, i) {
-        return Ok(digest);
-    }
-    if let Err(DiskFault) = fill_rooms(disk, job, view, hasher, i, rooms) {
-        return Err(DiskFault);
-    }
-    match digest_in(rooms, i) {
-        Some(digest) => Ok(digest),
-        None => digest_of_file(disk, job.file_of(i), piece),
+    match ahead.digest_of(disk, job, view, hasher, i) {
+        Ok(Some(digest)) => Ok(digest),
+        Ok(None) => digest_of_file(disk, job.file_of(i), piece),
+        Err(DiskFault) => Err(DiskFault),
     }
 }

@@ -1,7 +1,7 @@
 //! Adoptions over disks in memory: stops at each call of the new folder, and what is done behind them, and an old folder that
 //! fails.
 use cf_base::FileId;
-use frame_hash::{Hasher, Room, hash_each};
+use frame_hash::{Hasher, Room, hash_behind};
 use reconform::{AdoptFault, Adopted, adopt};
 use reel_disk::{Disk, Got, MemoryDisk};
 use station::RunEnd;
@@ -26,8 +26,8 @@ impl Hasher for ThreeRooms {
         3
     }
 
-    fn hash(&self, rooms: &mut [Room]) {
-        hash_each(rooms);
+    fn hash_beside<F: FnMut() -> A, A>(&self, rooms: &mut [Room], size: usize, work: &mut F) -> A {
+        hash_behind(rooms, size, work)
     }
 }
 

@@ -2,11 +2,11 @@
 --     HoldsDonor     if a frame's room isn't free, the file of the frame's donor lies there
 --     IsKept         the frame has a donor, and a digest that is the donor's where the old folder keeps one
 --     HoldsFrame     if it isn't free, the frame's own file lies there, made of an intact donor's
---     CanFinish      the same, and its digest is made
+--     CanFinish      the same, and its first bytes are hashed
 --     AreReady       all of some rooms can be finished
 use Rattle.std.specs.Prelude.{◌≡◌, ℕ, ◌<◌, Bool, true, List, length, All, Option, Some, IfSome}
 use Rattle.std.specs.BTreeMap.{BTreeMap}
-use Rattle.sha2.specs.Sha256.{sha256}
+use Rattle.frame_hash.specs.Rooms.{IsBegun}
 use Rattle.frame_hash.specs.declared.Room.{Room}
 use Rattle.scan_source.specs.World.{World}
 use Rattle.conform_job.specs.Job.{JobData, file_of}
@@ -25,6 +25,7 @@ pub record HoldsDonor (new old : JobData) (tells : Bool) (files : Files) (by_pla
   pub within : IfSome room.frame (λ i. i < frames_of new)
   pub file : IfSome room.frame (λ i. tells ≡ true
       → IfSome (donor_in by_plan (plan_at new i)) (λ j. files (file_of old j) ≡ Some room.bytes.items))
+  pub begun : IsBegun room
 
 pub record IsKept (new : JobData) (view : ViewState) (by_plan : BTreeMap FramePlan ℕ) (i : ℕ) (digest : List ℕ) : Type 0 where
   pub donor : ℕ
@@ -41,7 +42,7 @@ pub record HoldsFrame (new old : JobData) (told : Option World) (tells : Bool) (
 pub record CanFinish (new old : JobData) (told : Option World) (tells : Bool) (view : ViewState) (files : Files)
     (room : Room) : Type 0 where
   pub holds : HoldsFrame new old told tells view files room
-  pub digest : IfSome room.frame (λ i. room.digest ≡ sha256 room.bytes.items)
+  pub begun : IsBegun room
 
 abbrev pub AreReady : JobData → JobData → Option World → Bool → ViewState → Files → List Room → Type 0
 AreReady new old told tells view files rooms = All (CanFinish new old told tells view files) rooms

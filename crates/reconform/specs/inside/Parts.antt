@@ -3,10 +3,13 @@
 --     HasDonors      two jobs that are alike, and the map of their donors
 --     IsPart      what a part does to the new folder once that is open
 --     CanTake      what is known where frames are taken over
+--     IsInOrder      how far an adoption is
+--     middle_of      where a step's second half begins
 --     HasServed      what is done for one frame
+--     HasServedTo      what is done for some in order
 --     HasAdopted      what the frames that are taken over do to both folders
 --     IsSafeAdoption      what all of it does, the opening among it
-use Rattle.std.specs.Prelude.{◌≡◌, ℕ, Bool, true, false, List, length, Option, IfSome, Result, OnOk, IfErr, IsErr}
+use Rattle.std.specs.Prelude.{◌≡◌, ℕ, ◌+◌, ◌-◌, ◌/◌, ◌≤◌, Bool, true, false, List, length, Option, IfSome, Result, OnOk, IfErr, IsErr}
 use Rattle.std.specs.BTreeMap.{BTreeMap}
 use Rattle.scan_source.specs.World.{World}
 use Rattle.conform_job.specs.Job.{JobData}
@@ -21,12 +24,13 @@ use Rattle.reel_writer.specs.inside.Changes.{IsRunFile}
 use Rattle.reel_writer.specs.Reel.{frames_of, HasFrameFiles, IsReelRun, IsSoundReel, KeepsReel}
 use Rattle.reel_writer.specs.View.{ReelView}
 use Rattle.reconform.specs.Adopt.{CanServe, LeavesBoth}
-use Rattle.reconform.specs.inside.Adopt.{IsReelServed, IsSameReel, IsServed, IsStop}
+use Rattle.reconform.specs.inside.Adopt.{AreServed, IsReelServed, IsSameReel, IsServed, IsStop}
 use Rattle.reconform.specs.inside.Donor.{AreLeast}
 use Rattle.reconform.specs.Laws.{HasTitle}
 use Rattle.reconform.specs.Plan.{AreAlike}
 use Rattle.reconform.specs.declared.adopting.AdoptFault.{AdoptFault}
 use Rattle.reconform.specs.declared.plan.FramePlan.{FramePlan}
+use Rattle.reconform.specs.declared.whole.Reached.{Reached}
 
 -- The ledger of the old folder is as the view says. Where the source files are told, the folder can serve.
 pub record WasLookedAt (new old : JobData) (told : Option World) (tells : Bool) (files : Files) (view : ViewState) : Type 0 where
@@ -56,6 +60,16 @@ pub record IsPart (job : JobData) (told : Option World) (tells : Bool) (gates : 
   pub none_lost : tells ≡ true → KeepsReel job before.history after.history
   pub spares : tells ≡ true → Spares before.history after.history (IsRunFile job gates)
 
+-- how far an adoption is, in order
+pub record IsInOrder (count : ℕ) (at : Reached) : Type 0 where
+  pub adopted : at.adopted ≤ at.made
+  pub made : at.made ≤ at.read
+  pub read : at.read ≤ count
+
+-- the first of the frames whose files are made that is adopted in the second half of a step
+abbrev pub middle_of : Reached → ℕ
+middle_of at = at.adopted + (at.made - at.adopted) / 2
+
 -- What is done for one frame: it is taken over if it isn't acknowledged and has an intact donor, and nothing else of the reel is
 -- changed; the old folder is only read, and a fault of one of the two disks has its cause.
 pub record HasServed {D E : Type 0} (new old : JobData) (told : Option World)
@@ -65,6 +79,21 @@ pub record HasServed {D E : Type 0} (new old : JobData) (told : Option World)
     (disk disk_after : D) (reel reel_after : ReelView E) : Type 0 where
   pub served : OnOk result (tells ≡ true
       → IsServed new old view (view_of (state disk).history) i reel.ledger.gates reel_after.ledger.gates)
+  pub stays : IsSameReel reel reel_after
+  pub stays_open : OnOk result (reel_after.ledger.closed ≡ false)
+  pub part : IsPart new told reel_tells reel.ledger.gates (reel_state reel.disk) (reel_state reel_after.disk)
+  pub reads : OnlyReads tells (state disk) (state disk_after)
+  pub disks : LeavesBoth (IsErr result) (state disk) (state disk_after) (reel_state reel.disk) (reel_state reel_after.disk)
+
+-- The same for the frames from one to another: where those before them are served, so are they.
+pub record HasServedTo {D E T : Type 0} (new old : JobData) (told : Option World)
+    (tells : Bool) (state : D → DiskState)
+    (reel_tells : Bool) (reel_state : E → DiskState)
+    (view : ViewState) (from to : ℕ) (result : Result T DiskFault)
+    (disk disk_after : D) (reel reel_after : ReelView E) : Type 0 where
+  pub served : OnOk result (tells ≡ true
+      → (gates : List Bool) → AreServed new old view (view_of (state disk).history) from gates reel.ledger.gates
+      → AreServed new old view (view_of (state disk).history) to gates reel_after.ledger.gates)
   pub stays : IsSameReel reel reel_after
   pub stays_open : OnOk result (reel_after.ledger.closed ≡ false)
   pub part : IsPart new told reel_tells reel.ledger.gates (reel_state reel.disk) (reel_state reel_after.disk)

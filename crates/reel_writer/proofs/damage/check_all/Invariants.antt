@@ -1,10 +1,10 @@
 use Rattle.std.proofs.Common.{◌≡◌, ◌≤◌, length, map, true}
-use Rattle.std.specs.Prelude.{All, count_by, is_some}
+use Rattle.std.specs.Prelude.{count_by, is_some}
 use Rattle.std.specs.List.{range_with_len}
 use Rattle.reel_disk.specs.Disk.{view_of}
 use Rattle.reel_disk.specs.State.{OnlyReads}
 use Rattle.resume_ledger.specs.Look.{hash_at}
-use Rattle.reel_writer.specs.inside.Ahead.{HasDigest}
+use Rattle.reel_writer.specs.inside.Ahead.{AreRead}
 use Rattle.reel_writer.specs.Damage.{AreIntact}
 use Rattle.reel_writer.proofs.damage.check_all.Given as goal
 
@@ -15,7 +15,7 @@ invariant-loop-i g l = record {
   intact : g.D.Disk.tells ≡ true → AreIntact l.job l.view (view_of (g.D.Disk.state l.fn.disk).history) l.i;
   counted : l.records ≡ count_by is_some (map (hash_at l.view) (range_with_len 0 l.i));
   few : l.records ≤ l.i;
-  rooms : g.D.Disk.tells ≡ true → All (HasDigest l.job (view_of (g.D.Disk.state l.fn.disk).history)) l.rooms;
+  ahead : g.D.Disk.tells ≡ true → AreRead l.job (view_of (g.D.Disk.state l.fn.disk).history) l.ahead.rooms.items;
   piece : length l.piece ≡ 65536;
   same : (g.D.Disk.state l.disk).loans ≡ (g.D.Disk.state l.fn.disk).loans;
   faults : (g.D.Disk.state l.disk).faults ≡ (g.D.Disk.state l.fn.disk).faults;

@@ -1,27 +1,18 @@
-use Rattle.std.proofs.Common.{◌≡◌, ◌<◌, ◌≤◌, length, true, false}
-use Rattle.std.specs.Prelude.{All}
+use Rattle.std.proofs.Common.{◌≡◌, ◌<◌, length, false}
+use Rattle.std.specs.Prelude.{All, Ok}
 use Rattle.reel_disk.specs.Disk.{view_of}
-use Rattle.reel_disk.specs.State.{OnlyReads}
 use Rattle.reel_writer.specs.Reel.{frames_of}
-use Rattle.reconform.specs.inside.Adopt.{AreServed, IsSameReel}
-use Rattle.reconform.specs.inside.Ahead.{CanFinish}
-use Rattle.reconform.specs.inside.Parts.{IsPart}
+use Rattle.reconform.specs.inside.Ahead.{AreReady, HoldsDonor}
+use Rattle.reconform.specs.inside.Parts.{HasServedTo, IsInOrder}
 use Rattle.reconform.proofs.takeover.Takeover.adopt_each.Given as goal
 
--- the frames below i are served, and nothing failed
-abbrev pub invariant-loop-i : goal.invariant-loop-i
-invariant-loop-i g l = record {
-  within : l.i ≤ frames_of g.N.Work.job;
-  ending : l.i-end ≡ frames_of g.N.Work.job;
-  served : g.D.Disk.tells ≡ true → AreServed g.N.Work.job g.O.Work.job l.fn.self.view.now (view_of (g.D.Disk.state l.fn.old).history) l.i l.fn.reel.ledger.gates l.reel.ledger.gates;
-  stays : IsSameReel l.fn.reel l.reel;
+-- so many frames are served, and nothing failed
+abbrev pub invariant-loop : goal.invariant-loop
+invariant-loop g l = record {
+  order : IsInOrder (frames_of g.N.Work.job) l.at;
+  done : HasServedTo g.N.Work.job g.O.Work.job g.N.Work.files g.D.Disk.tells g.D.Disk.state g.E.Disk.tells g.E.Disk.state l.fn.self.view.now 0 l.at.adopted (Ok (tt {0})) l.fn.old l.old l.fn.reel l.reel;
   is_open : l.reel.ledger.closed ≡ false;
-  rooms : All (CanFinish g.N.Work.job g.O.Work.job g.N.Work.files g.D.Disk.tells l.fn.self.view.now (view_of (g.D.Disk.state l.fn.old).history)) l.rooms;
-  some : 0 < length l.rooms;
-  part : IsPart g.N.Work.job g.N.Work.files g.E.Disk.tells l.fn.reel.ledger.gates (g.E.Disk.state l.fn.reel.disk) (g.E.Disk.state l.reel.disk);
-  reads : OnlyReads g.D.Disk.tells (g.D.Disk.state l.fn.old) (g.D.Disk.state l.old);
-  faults_old : (g.D.Disk.state l.old).faults ≡ (g.D.Disk.state l.fn.old).faults;
-  faults : (g.E.Disk.state l.reel.disk).faults ≡ (g.E.Disk.state l.fn.reel.disk).faults;
-  same_old : (g.D.Disk.state l.old).loans ≡ (g.D.Disk.state l.fn.old).loans;
-  same_disk : (g.E.Disk.state l.reel.disk).loans ≡ (g.E.Disk.state l.fn.reel.disk).loans;
+  made : AreReady g.N.Work.job g.O.Work.job g.N.Work.files g.D.Disk.tells l.fn.self.view.now (view_of (g.D.Disk.state l.fn.old).history) l.some;
+  read : All (HoldsDonor g.N.Work.job g.O.Work.job g.D.Disk.tells (view_of (g.D.Disk.state l.fn.old).history) l.fn.self.donors.now.by_plan) l.others;
+  full : (0 < length l.some) × (0 < length l.others);
 }

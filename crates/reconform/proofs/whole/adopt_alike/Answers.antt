@@ -2,10 +2,10 @@ use Rattle.std.proofs.Common.{rules}
 use Rattle.resume_ledger.proofs.Reading.{reads_none}
 use Rattle.reconform.proofs.Going.{both_itself, part_itself}
 use Rattle.reconform.proofs.Serving.{adopted_none, same_itself}
-use Rattle.reconform.proofs.frames.adopt_alike.Goals as goal
+use Rattle.reconform.proofs.whole.adopt_alike.Goals as goal
 
-pub adopt_frames-requires-clause-can : goal.adopt_frames-requires-clause-can
-adopt_frames-requires-clause-can g c = record {
+pub adopt_all-requires-clause-can : goal.adopt_all-requires-clause-can
+adopt_all-requires-clause-can g c = record {
   new_is = c.requires.new_job;
   old_is = c.requires.old_job;
   looked = c.requires.looked;

@@ -1,0 +1,377 @@
+//! All frames of an adoption: while the files of some are made of their donors, those before them are finished, and the donors of
+//! those behind them are read.
+ghost use Rattle.std.specs.Prelude.{◌≡◌, ◌<◌, ◌≤◌, true, false, length, All, IfOk, OnOk, IsErr, IsErrOf};
+ghost use Rattle.frame_hash.specs.Rooms.{IsFree};
+ghost use Rattle.frame_render.specs.Frame.{frame_size};
+ghost use Rattle.reel_disk.specs.Disk.{view_of};
+ghost use Rattle.reel_writer.specs.Reel.{frames_of};
+ghost use Rattle.reconform.specs.Adopt.{LeavesBoth};
+ghost use Rattle.reconform.specs.inside.Ahead.{AreReady, HoldsDonor};
+ghost use Rattle.reconform.specs.inside.Parts.{CanTake, HasAdopted, HasServedTo, IsInOrder, WasLookedAt, middle_of};
+
+use crate::adopting::AdoptFault;
+use crate::donors::Donors;
+use crate::plan::are_alike;
+use crate::takeover::Takeover;
+use conform_job::{Job, Work};
+use frame_hash::{Hasher, Room, rooms_of};
+use reel_disk::{Disk, DiskFault};
+use reel_writer::Reel;
+use resume_ledger::LedgerView;
+use std::alloc::Global;
+
+/// How far an adoption is: the frames before each number are adopted, their files are made, or their donors are read; as far as they
+/// are to be.
+#[derive(Clone, Copy)]
+pub(crate) struct Reached {
+    pub adopted: u32,
+    pub made: u32,
+    pub read: u32,
+}
+
+impl Takeover<'_, '_, '_, '_> {
+    /// Adopts half of the frames whose files are made in some rooms. Meanwhile donors in others are hashed, and then frames' files are
+    /// made of those that are intact.
+    fn adopt_half<N: Work, O: Work, D: Disk, E: Disk, H: Hasher>(
+        &self,
+        old: &mut D,
+        reel: &mut Reel<E, N>,
+        hasher: &H,
+        at: Reached,
+        made: &mut [Room],
+        read: &mut [Room],
+    ) -> Result<Reached, DiskFault>
+        requires can_hash { H.can_hash }
+        requires can { CanTake N.job O.job N.files D.tells (view_of (D.state old.old).history)
+            self.now.new_job.now self.now.old_job.now self.now.view.now self.now.donors.now.by_plan }
+        requires at { IsInOrder (frames_of N.job) at }
+        requires made { AreReady N.job O.job N.files D.tells self.now.view.now (view_of (D.state old.old).history) made.old }
+        requires some { 0 < length made.old }
+        requires read { All (HoldsDonor N.job O.job D.tells (view_of (D.state old.old).history) self.now.donors.now.by_plan) read.old }
+        requires is_open { reel.old.ledger.closed ≡ false }
+        requires size { length reel.old.ledger.gates ≡ frames_of N.job }
+
+        ensures at { IfOk result (λ to. to ≡ record { adopted = middle_of at; made = at.made; read = at.read }) }
+        ensures made { OnOk result (AreReady N.job O.job N.files D.tells self.now.view.now (view_of (D.state old.old).history) made.new) }
+        ensures read { OnOk result (AreReady N.job O.job N.files D.tells self.now.view.now (view_of (D.state old.old).history) read.new) }
+        ensures done { HasServedTo N.job O.job N.files D.tells D.state E.tells E.state
+            self.now.view.now at.adopted (middle_of at) result old.old old.new reel.old reel.new }
+    {
+        let mut work = || -> Result<Reached, DiskFault>
+            requires { CanTake N.job O.job N.files D.tells (view_of (D.state old.now).history)
+                self.now.new_job.now self.now.old_job.now self.now.view.now self.now.donors.now.by_plan
+                × IsInOrder (frames_of N.job) at
+                × AreReady N.job O.job N.files D.tells self.now.view.now (view_of (D.state old.now).history) made.now
+                × (0 < length made.now)
+                × (reel.now.ledger.closed ≡ false)
+                × (length reel.now.ledger.gates ≡ frames_of N.job) }
+            ensures rooms { OnOk result (AreReady N.job O.job N.files D.tells self.entry.now.view.now
+                (view_of (D.state old.entry.now).history) made.exit.now) }
+            ensures at { IfOk result (λ to. to ≡ record { adopted = middle_of at; made = at.made; read = at.read }) }
+            ensures done { HasServedTo N.job O.job N.files D.tells D.state E.tells E.state
+                self.entry.now.view.now at.adopted (middle_of at) result old.entry.now old.exit.now reel.entry.now reel.exit.now }
+        { self.adopt_first::<N, O, D, E>(old, reel, at, made) };
+        match hasher.hash_beside(read, usize::MAX, &mut work) {
+            Ok(to) => {
+                self.dress_all::<N, O, D>(&*old, read);
+                Ok(to)
+            }
+            Err(DiskFault) => Err(DiskFault),
+        }
+    }
+
+    /// Adopts half of the frames whose files are made in some rooms.
+    fn adopt_first<N: Work, O: Work, D: Disk, E: Disk>(
+        &self,
+        old: &mut D,
+        reel: &mut Reel<E, N>,
+        at: Reached,
+        rooms: &mut [Room],
+    ) -> Result<Reached, DiskFault>
+        requires can { CanTake N.job O.job N.files D.tells (view_of (D.state old.old).history)
+            self.now.new_job.now self.now.old_job.now self.now.view.now self.now.donors.now.by_plan }
+        requires at { IsInOrder (frames_of N.job) at }
+        requires rooms { AreReady N.job O.job N.files D.tells self.now.view.now (view_of (D.state old.old).history) rooms.old }
+        requires some { 0 < length rooms.old }
+        requires is_open { reel.old.ledger.closed ≡ false }
+        requires size { length reel.old.ledger.gates ≡ frames_of N.job }
+
+        ensures at { IfOk result (λ to. to ≡ record { adopted = middle_of at; made = at.made; read = at.read }) }
+        ensures rooms { OnOk result (AreReady N.job O.job N.files D.tells self.now.view.now (view_of (D.state old.old).history) rooms.new) }
+        ensures done { HasServedTo N.job O.job N.files D.tells D.state E.tells E.state
+            self.now.view.now at.adopted (middle_of at) result old.old old.new reel.old reel.new }
+    {
+        let middle = at.adopted + (at.made - at.adopted) / 2;
+        match self.adopt_frames::<N, O, D, E>(old, reel, at.adopted, middle, rooms) {
+            Ok(()) => Ok(Reached {
+                adopted: middle,
+                ..at
+            }),
+            Err(DiskFault) => Err(DiskFault),
+        }
+    }
+
+    /// Adopts the other half, and then reads the next donors into their rooms. Meanwhile the files that were made are hashed.
+    fn adopt_rest<N: Work, O: Work, D: Disk, E: Disk, H: Hasher>(
+        &self,
+        old: &mut D,
+        reel: &mut Reel<E, N>,
+        hasher: &H,
+        at: Reached,
+        made: &mut [Room],
+        read: &mut [Room],
+    ) -> Result<Reached, DiskFault>
+        requires can_hash { H.can_hash }
+        requires can { CanTake N.job O.job N.files D.tells (view_of (D.state old.old).history)
+            self.now.new_job.now self.now.old_job.now self.now.view.now self.now.donors.now.by_plan }
+        requires at { IsInOrder (frames_of N.job) at }
+        requires made { AreReady N.job O.job N.files D.tells self.now.view.now (view_of (D.state old.old).history) made.old }
+        requires some { 0 < length made.old }
+        requires read { AreReady N.job O.job N.files D.tells self.now.view.now (view_of (D.state old.old).history) read.old }
+        requires is_open { reel.old.ledger.closed ≡ false }
+        requires size { length reel.old.ledger.gates ≡ frames_of N.job }
+
+        ensures at { IfOk result (λ to. IsInOrder (frames_of N.job) to × (to.adopted ≡ at.made) × (to.made ≡ at.read)) }
+        ensures made { OnOk result (All (HoldsDonor N.job O.job D.tells (view_of (D.state old.old).history) self.now.donors.now.by_plan)
+            made.new) }
+        ensures read { OnOk result (AreReady N.job O.job N.files D.tells self.now.view.now (view_of (D.state old.old).history) read.new) }
+        ensures done { HasServedTo N.job O.job N.files D.tells D.state E.tells E.state
+            self.now.view.now at.adopted at.made result old.old old.new reel.old reel.new }
+    {
+        let mut work = || -> Result<u32, DiskFault>
+            requires { CanTake N.job O.job N.files D.tells (view_of (D.state old.now).history)
+                self.now.new_job.now self.now.old_job.now self.now.view.now self.now.donors.now.by_plan
+                × IsInOrder (frames_of N.job) at
+                × AreReady N.job O.job N.files D.tells self.now.view.now (view_of (D.state old.now).history) made.now
+                × (0 < length made.now)
+                × (reel.now.ledger.closed ≡ false)
+                × (length reel.now.ledger.gates ≡ frames_of N.job) }
+            ensures rooms { OnOk result (All (HoldsDonor N.job O.job D.tells (view_of (D.state old.entry.now).history)
+                self.entry.now.donors.now.by_plan) made.exit.now) }
+            ensures next { IfOk result (λ next. (at.read ≤ next) × (next ≤ frames_of N.job)) }
+            ensures done { HasServedTo N.job O.job N.files D.tells D.state E.tells E.state
+                self.entry.now.view.now at.adopted at.made result old.entry.now old.exit.now reel.entry.now reel.exit.now }
+        { self.adopt_and_read::<N, O, D, E>(old, reel, at, made) };
+        match hasher.hash_beside(read, usize::MAX, &mut work) {
+            Ok(next) => Ok(Reached {
+                adopted: at.made,
+                made: at.read,
+                read: next,
+            }),
+            Err(DiskFault) => Err(DiskFault),
+        }
+    }
+
+    /// Adopts the frames whose files are made in some rooms, and then reads the next donors into these: where those behind them are
+    /// looked for.
+    fn adopt_and_read<N: Work, O: Work, D: Disk, E: Disk>(
+        &self,
+        old: &mut D,
+        reel: &mut Reel<E, N>,
+        at: Reached,
+        rooms: &mut [Room],
+    ) -> Result<u32, DiskFault>
+        requires can { CanTake N.job O.job N.files D.tells (view_of (D.state old.old).history)
+            self.now.new_job.now self.now.old_job.now self.now.view.now self.now.donors.now.by_plan }
+        requires at { IsInOrder (frames_of N.job) at }
+        requires rooms { AreReady N.job O.job N.files D.tells self.now.view.now (view_of (D.state old.old).history) rooms.old }
+        requires some { 0 < length rooms.old }
+        requires is_open { reel.old.ledger.closed ≡ false }
+        requires size { length reel.old.ledger.gates ≡ frames_of N.job }
+
+        ensures rooms { OnOk result (All (HoldsDonor N.job O.job D.tells (view_of (D.state old.old).history) self.now.donors.now.by_plan)
+            rooms.new) }
+        ensures next { IfOk result (λ next. (at.read ≤ next) × (next ≤ frames_of N.job)) }
+        ensures done { HasServedTo N.job O.job N.files D.tells D.state E.tells E.state
+            self.now.view.now at.adopted at.made result old.old old.new reel.old reel.new }
+    {
+        match self.adopt_frames::<N, O, D, E>(old, reel, at.adopted, at.made, rooms) {
+            Ok(()) => self.read_ahead::<N, O, D, E>(old, reel, at.read, rooms),
+            Err(DiskFault) => Err(DiskFault),
+        }
+    }
+
+    /// Adopts the frames whose files are made in some rooms, and reads the next donors into these. Meanwhile frames' files are made in
+    /// others: how far it is then.
+    fn go_on<N: Work, O: Work, D: Disk, E: Disk, H: Hasher>(
+        &self,
+        old: &mut D,
+        reel: &mut Reel<E, N>,
+        hasher: &H,
+        at: Reached,
+        made: &mut [Room],
+        read: &mut [Room],
+    ) -> Result<Reached, DiskFault>
+        requires can_hash { H.can_hash }
+        requires can { CanTake N.job O.job N.files D.tells (view_of (D.state old.old).history)
+            self.now.new_job.now self.now.old_job.now self.now.view.now self.now.donors.now.by_plan }
+        requires at { IsInOrder (frames_of N.job) at }
+        requires made { AreReady N.job O.job N.files D.tells self.now.view.now (view_of (D.state old.old).history) made.old }
+        requires some { 0 < length made.old }
+        requires read { All (HoldsDonor N.job O.job D.tells (view_of (D.state old.old).history) self.now.donors.now.by_plan) read.old }
+        requires is_open { reel.old.ledger.closed ≡ false }
+        requires size { length reel.old.ledger.gates ≡ frames_of N.job }
+
+        ensures at { IfOk result (λ to. IsInOrder (frames_of N.job) to × (to.adopted ≡ at.made) × (to.made ≡ at.read)) }
+        ensures read { OnOk result (All (HoldsDonor N.job O.job D.tells (view_of (D.state old.old).history) self.now.donors.now.by_plan)
+            made.new) }
+        ensures made { OnOk result (AreReady N.job O.job N.files D.tells self.now.view.now (view_of (D.state old.old).history) read.new) }
+        ensures done { HasServedTo N.job O.job N.files D.tells D.state E.tells E.state
+            self.now.view.now at.adopted at.made result old.old old.new reel.old reel.new }
+    {
+        match self.adopt_half::<N, O, D, E, H>(old, reel, hasher, at, made, read) {
+            Ok(to) => self.adopt_rest::<N, O, D, E, H>(old, reel, hasher, to, made, read),
+            Err(DiskFault) => Err(DiskFault),
+        }
+    }
+
+    /// The same twice, so that both rooms are as they were: files made, and donors read.
+    fn go_on_twice<N: Work, O: Work, D: Disk, E: Disk, H: Hasher>(
+        &self,
+        old: &mut D,
+        reel: &mut Reel<E, N>,
+        hasher: &H,
+        at: Reached,
+        made: &mut [Room],
+        read: &mut [Room],
+    ) -> Result<Reached, DiskFault>
+        requires can_hash { H.can_hash }
+        requires can { CanTake N.job O.job N.files D.tells (view_of (D.state old.old).history)
+            self.now.new_job.now self.now.old_job.now self.now.view.now self.now.donors.now.by_plan }
+        requires at { IsInOrder (frames_of N.job) at }
+        requires made { AreReady N.job O.job N.files D.tells self.now.view.now (view_of (D.state old.old).history) made.old }
+        requires read { All (HoldsDonor N.job O.job D.tells (view_of (D.state old.old).history) self.now.donors.now.by_plan) read.old }
+        requires some { (0 < length made.old) × (0 < length read.old) }
+        requires is_open { reel.old.ledger.closed ≡ false }
+        requires size { length reel.old.ledger.gates ≡ frames_of N.job }
+
+        ensures at { IfOk result (λ to. IsInOrder (frames_of N.job) to × (to.adopted ≡ at.read)) }
+        ensures made { OnOk result (AreReady N.job O.job N.files D.tells self.now.view.now (view_of (D.state old.old).history) made.new) }
+        ensures read { OnOk result (All (HoldsDonor N.job O.job D.tells (view_of (D.state old.old).history) self.now.donors.now.by_plan)
+            read.new) }
+        ensures done { HasServedTo N.job O.job N.files D.tells D.state E.tells E.state
+            self.now.view.now at.adopted at.read result old.old old.new reel.old reel.new }
+    {
+        match self.go_on::<N, O, D, E, H>(old, reel, hasher, at, made, read) {
+            Ok(to) => self.go_on::<N, O, D, E, H>(old, reel, hasher, to, read, made),
+            Err(DiskFault) => Err(DiskFault),
+        }
+    }
+
+    /// Adopts each frame of the new job that isn't acknowledged and has an intact donor, in order.
+    fn adopt_all<N: Work, O: Work, D: Disk, E: Disk, H: Hasher>(
+        &self,
+        old: &mut D,
+        reel: &mut Reel<E, N>,
+        hasher: &H,
+    ) -> Result<(), AdoptFault>
+        requires can_hash { H.can_hash }
+        requires can { CanTake N.job O.job N.files D.tells (view_of (D.state old.old).history)
+            self.now.new_job.now self.now.old_job.now self.now.view.now self.now.donors.now.by_plan }
+        requires is_open { reel.old.ledger.closed ≡ false }
+        requires size { length reel.old.ledger.gates ≡ frames_of N.job }
+
+        ensures adopted { HasAdopted N.job O.job N.files D.tells D.state E.tells E.state self.now.view.now
+            result old.old old.new reel.old reel.new }
+        ensures disks { LeavesBoth (IsErrOf result AdoptFault.DiskFault)
+            (D.state old.old) (D.state old.new) (E.state reel.old.disk) (E.state reel.new.disk) }
+    {
+        let count = hasher.rooms().max(1);
+        let size = frame_len(self.new_job);
+        let mut some = rooms_of(self.alloc, count, size);
+        let mut others = rooms_of(self.alloc, count, size);
+        if some.is_empty() || others.is_empty() {
+            return Err(AdoptFault::NoMemory);
+        }
+        match self.adopt_each::<N, O, D, E, H>(old, reel, hasher, &mut some, &mut others) {
+            Ok(()) => Ok(()),
+            Err(DiskFault) => Err(AdoptFault::DiskFault),
+        }
+    }
+
+    /// The same, in rooms that are there: while frames are made in some, those in others are finished.
+    fn adopt_each<N: Work, O: Work, D: Disk, E: Disk, H: Hasher>(
+        &self,
+        old: &mut D,
+        reel: &mut Reel<E, N>,
+        hasher: &H,
+        some: &mut [Room],
+        others: &mut [Room],
+    ) -> Result<(), DiskFault>
+        requires can_hash { H.can_hash }
+        requires can { CanTake N.job O.job N.files D.tells (view_of (D.state old.old).history)
+            self.now.new_job.now self.now.old_job.now self.now.view.now self.now.donors.now.by_plan }
+        requires some { (0 < length some.old) × All (IsFree (frame_size N.job)) some.old }
+        requires others { (0 < length others.old) × All (IsFree (frame_size N.job)) others.old }
+        requires is_open { reel.old.ledger.closed ≡ false }
+        requires size { length reel.old.ledger.gates ≡ frames_of N.job }
+
+        ensures done { HasServedTo N.job O.job N.files D.tells D.state E.tells E.state
+            self.now.view.now 0 (frames_of N.job) result old.old old.new reel.old reel.new }
+    {
+        let end = self.new_job.count();
+        let mut at = Reached {
+            adopted: 0,
+            made: 0,
+            read: 0,
+        };
+        // Each time but the first a frame is adopted, if one is left.
+        for _ in 0..end {
+            if at.adopted == end {
+                return Ok(());
+            }
+            match self.go_on_twice::<N, O, D, E, H>(old, reel, hasher, at, some, others) {
+                Ok(to) => at = to,
+                Err(DiskFault) => return Err(DiskFault),
+            }
+        }
+        self.adopt_frames::<N, O, D, E>(old, reel, at.adopted, end, some)
+    }
+}
+
+/// How many bytes the file of a frame has: 2048 of header and four for each pixel.
+fn frame_len(job: &Job) -> usize
+    ensures { result ≡ frame_size job.now }
+{
+    job.recall();
+    2048 + 4 * (job.width() as usize * job.height() as usize)
+}
+
+/// Adopts what can be, where the two jobs are alike.
+pub(crate) fn adopt_alike<N: Work, O: Work, D: Disk, E: Disk, H: Hasher>(
+    alloc: Global,
+    new_job: &Job,
+    old_job: &Job,
+    old: &mut D,
+    view: &LedgerView,
+    reel: &mut Reel<E, N>,
+    hasher: &H,
+) -> Result<(), AdoptFault>
+    requires can_hash { H.can_hash }
+    requires new_job { new_job.now ≡ N.job }
+    requires old_job { old_job.now ≡ O.job }
+    requires looked { WasLookedAt N.job O.job N.files D.tells (view_of (D.state old.old).history) view.now }
+    requires is_open { reel.old.ledger.closed ≡ false }
+    requires size { length reel.old.ledger.gates ≡ frames_of N.job }
+
+    ensures adopted { HasAdopted N.job O.job N.files D.tells D.state E.tells E.state view.now result old.old old.new reel.old reel.new }
+    ensures disks { LeavesBoth (IsErrOf result AdoptFault.DiskFault)
+        (D.state old.old) (D.state old.new) (E.state reel.old.disk) (E.state reel.new.disk) }
+{
+    if are_alike(new_job, old_job) {
+        return match Donors::of(alloc, old_job, view) {
+            Ok(donors) => {
+                let from = Takeover {
+                    alloc,
+                    new_job,
+                    old_job,
+                    view,
+                    donors: &donors,
+                };
+                from.adopt_all::<N, O, D, E, H>(old, reel, hasher)
+            }
+            Err(_) => Err(AdoptFault::NoMemory),
+        };
+    }
+    Ok(())
+}
