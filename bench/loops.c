@@ -16,7 +16,7 @@ static uint16_t cube[SIDE * SIDE * SIDE][3], line[LONG][3];
 static int64_t low[3], high[3] = {1000000000, 1000000000, 1000000000};
 static uint32_t old[PIXELS], incoming[PIXELS], out[PIXELS];
 
-// As in the program kernel_times.
+// As in the program bench_kernels.
 static void fill(uint32_t *words, uint32_t state, int smooth) {
     for (uint32_t i = 0; i < PIXELS; i++) {
         state = state * 1664525 + 1013904223;

@@ -6,11 +6,11 @@ use Rattle.scan_source.specs.State.{ScanState}
 use Rattle.scan_source.specs.World.{World}
 use Rattle.command_answers.specs.Answer.{IsPut, IsLinePut, IsUnread, Answered}
 use Rattle.command_words.specs.Commands.{Spells, IsNoCommand}
-use Rattle.outcome_line.specs.Output.{line_of, IsMade}
+use Rattle.printed_lines.specs.Lines.{line_of, IsMade}
 use Rattle.command_answers.specs.Commands.{meaning_of}
 use Rattle.command_answers.specs.Reply.{IsKindOf, IsReplyOverFolders}
 use Rattle.command_answers.specs.States.{Folders, House}
-use Rattle.reel_qc.specs.declared.probe.ProbeKind.{ProbeKind}
+use Rattle.reel_qc.specs.declared.table.probe.ProbeKind.{ProbeKind}
 use Rattle.project_adopt.specs.Adopt.{GoesOn, IsAdoption, IsAdoptReply, IsPromised, IsRest, IsUnadopted}
 use Rattle.reconform.specs.Adopt.{HasAnswered}
 use Rattle.reconform.specs.declared.adopting.Adopted.{Adopted}
@@ -34,8 +34,8 @@ use Rattle.resume_ledger.specs.Look.{ViewState}
 use Rattle.resume_ledger.specs.declared.attach.OpenFault.{OpenFault}
 use Rattle.command_words.specs.declared.command.Command.{Command}
 use Rattle.command_words.specs.declared.command.Command.TheVariants as commands
-use Rattle.outcome_line.specs.declared.outcome.Outcome.{Outcome}
-use Rattle.outcome_line.specs.declared.outcome.Outcome.TheVariants as outcomes
+use Rattle.outcome.specs.declared.Outcome.{Outcome}
+use Rattle.outcome.specs.declared.Outcome.TheVariants as outcomes
 use Rattle.command_words.proofs.Commands.{one_spelled}
 use Rattle.command_answers.proofs.Replies.{heads_instead, loads_instead, memory_right, told_any}
 

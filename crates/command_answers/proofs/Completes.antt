@@ -24,8 +24,8 @@ use Rattle.resume_ledger.specs.declared.attach.OpenFault.TheVariants as faults
 use Rattle.reel_writer.specs.Reel.{frames_of}
 use Rattle.reel_writer.specs.declared.damage.CheckFault.{CheckFault}
 use Rattle.reel_writer.specs.declared.damage.CheckFault.TheVariants as checks
-use Rattle.single_run.specs.Ends.{IsEnd}
-use Rattle.single_run.specs.Run.{IsWhyUnopened}
+use Rattle.run_alone.specs.Ends.{IsEnd}
+use Rattle.run_alone.specs.Run.{IsWhyUnopened}
 use Rattle.frame_fetch.specs.declared.run_end.RunEnd.{RunEnd}
 use Rattle.frame_fetch.specs.declared.run_end.RunEnd.TheVariants as ends
 use Rattle.project_job.specs.Jobs.{ComesTo, HasPlanned, IsOfJob}
@@ -44,18 +44,18 @@ use Rattle.project_run.specs.Look.{HasFound, IsBehindLook, outcome_of_fault}
 use Rattle.project_run.specs.Quality.{IsQcReply}
 use Rattle.project_run.specs.Sheet.{IsSheetReply}
 use Rattle.project_run.specs.Status.{IsStatusReply, outcome_of_peek}
-use Rattle.reel_qc.specs.declared.probe.ProbeKind.{ProbeKind}
+use Rattle.reel_qc.specs.declared.table.probe.ProbeKind.{ProbeKind}
 use Rattle.project_run.specs.Sums.{IsSumsReply}
 use Rattle.project_run.specs.Verify.{IsChecked, IsVerifyReply, outcome_of_check}
-use Rattle.demo_job.specs.Files.{project_path}
-use Rattle.demo_run.specs.Demo.{demo_world}
+use Rattle.demo.specs.Files.{project_path}
+use Rattle.demo.specs.Demo.{demo_world}
 use Rattle.command_words.specs.Commands.{Spells}
 use Rattle.command_words.specs.declared.command.Command.{Command}
 use Rattle.command_words.specs.declared.command.Command.TheVariants as commands
-use Rattle.outcome_line.specs.declared.outcome.Outcome.{Outcome}
-use Rattle.outcome_line.specs.declared.outcome.Outcome.TheVariants as outcomes
-use Rattle.outcome_line.specs.declared.outcome.Refused.TheVariants as refused
-use Rattle.outcome_line.specs.declared.outcome.Which.TheVariants as which
+use Rattle.outcome.specs.declared.Outcome.{Outcome}
+use Rattle.outcome.specs.declared.Outcome.TheVariants as outcomes
+use Rattle.outcome.specs.declared.Refused.TheVariants as refused
+use Rattle.outcome.specs.declared.Which.TheVariants as which
 use Rattle.command_answers.specs.Commands.Frame.{IsFrameCase, info_in}
 use Rattle.command_answers.specs.Commands.List.{IsListCase}
 use Rattle.command_answers.specs.ByFolder.{HasFitFolder, HasSoundFolder}

@@ -3,12 +3,12 @@ use Rattle.std.proofs.Common.{◌≡◌, ◌≢◌, ℕ, List, Vec, Global, Matc
 use Rattle.std.specs.Prelude.{Result, Ok, Err}
 use Rattle.scan_source.specs.State.{ScanState}
 use Rattle.scan_source.specs.World.{file_at}
-use Rattle.demo_run.specs.Demo.{demo_world, IsShown, IsInstead}
-use Rattle.outcome_line.specs.Output.{line_of}
+use Rattle.demo.specs.Demo.{demo_world, IsShown, IsInstead}
+use Rattle.printed_lines.specs.Lines.{line_of}
 use Rattle.command_words.specs.declared.command.Command.{Command}
 use Rattle.command_words.specs.declared.command.Command.TheVariants as commands
-use Rattle.outcome_line.specs.declared.outcome.Outcome.{Outcome}
-use Rattle.outcome_line.specs.declared.outcome.Outcome.TheVariants as outcomes
+use Rattle.outcome.specs.declared.Outcome.{Outcome}
+use Rattle.outcome.specs.declared.Outcome.TheVariants as outcomes
 use Rattle.command_answers.specs.Commands.Demo.{IsDemoReply}
 use Rattle.command_answers.specs.Reply.{IsKindOf, IsReplyOverScan, IsReplyOverFolders}
 use Rattle.command_answers.specs.States.{Folders, House}

@@ -14,8 +14,8 @@ use Rattle.scan_source.specs.Answers.{first_bytes}
 use Rattle.scan_source.proofs.Heads.{first_bytes_front}
 use Rattle.command_answers.specs.Commands.Frame.{info_in, frame_head, frame_form, IsFrameForm, IsFrameCase}
 use Rattle.command_answers.specs.ByFile.{IsRightBy}
-use Rattle.outcome_line.specs.declared.outcome.Outcome.TheVariants.{Done, Refused}
-use Rattle.outcome_line.specs.declared.outcome.Refused.TheVariants as refused
+use Rattle.outcome.specs.declared.Outcome.TheVariants.{Done, Refused}
+use Rattle.outcome.specs.declared.Refused.TheVariants as refused
 
 -- the file that asks for most
 pub need_most : (info : FrameInfo) → IsFrame info → need_of info ≤ 84914180

@@ -22,7 +22,7 @@ use Rattle.frame_range.specs.Parts.{IsIn}
 use Rattle.frame_range.specs.declared.range.Extent.{Extent}
 use Rattle.frame_range.specs.declared.range.Extent.TheVariants.{Whole}
 use Rattle.frame_range.specs.declared.range.FrameRange.{FrameRange}
-use Rattle.single_run.specs.Run.{AreAllAcked}
+use Rattle.run_alone.specs.Run.{AreAllAcked}
 use Rattle.frame_fetch.specs.declared.run_end.RunEnd.{RunEnd}
 use Rattle.frame_fetch.specs.declared.run_end.RunEnd.TheVariants as ends
 use Rattle.project_job.specs.Jobs.{ComesTo, IsOfJob}
@@ -31,9 +31,9 @@ use Rattle.project_adopt.specs.Adopt.{GoesOn, IsAdoptReply, IsOldSound, of_old_p
 use Rattle.project_run.specs.Calls.{FolderState}
 use Rattle.project_run.specs.Run.{IsOfRun, IsRunReply, outcome_of_end}
 use Rattle.command_words.specs.declared.command.Command.TheVariants as commands
-use Rattle.outcome_line.specs.Output.{status_of}
-use Rattle.outcome_line.specs.declared.outcome.Outcome.{Outcome}
-use Rattle.outcome_line.specs.declared.outcome.Outcome.TheVariants as outcomes
+use Rattle.outcome.specs.Status.{status_of}
+use Rattle.outcome.specs.declared.Outcome.{Outcome}
+use Rattle.outcome.specs.declared.Outcome.TheVariants as outcomes
 use Rattle.command_answers.specs.Reply.{IsKindOf}
 use Rattle.command_answers.specs.States.{Folders, House}
 use Rattle.command_answers.specs.Answer.{IsPut, IsUnread, Answered}

@@ -6,8 +6,8 @@ use Rattle.edl_events.specs.declared.ListRefusal.{ListRefusal}
 use Rattle.command_answers.specs.Commands.List.{IsListCase, IsListForm}
 use Rattle.printed_tables.specs.Table.{event_table}
 use Rattle.command_answers.specs.ByFile.{IsRightBy}
-use Rattle.outcome_line.specs.declared.outcome.Outcome.TheVariants.{Done, Refused}
-use Rattle.outcome_line.specs.declared.outcome.Refused.TheVariants as refused
+use Rattle.outcome.specs.declared.Outcome.TheVariants.{Done, Refused}
+use Rattle.outcome.specs.declared.Refused.TheVariants as refused
 use Rattle.project_job.proofs.Projects.{front_list}
 
 pub list_done : (rate : Rate) (text into out : List ℕ) → IsOkAnd (list_of rate into) (λ list. out ≡ event_table rate list)

@@ -11,9 +11,9 @@ use Rattle.scan_source.specs.World.{World, file_at}
 use Rattle.project_job.specs.Jobs.{HasPlanned, IsOfJob}
 use Rattle.command_answers.specs.ByJob.{IsJobReply}
 use Rattle.command_answers.specs.Reply.{IsKindOf}
-use Rattle.outcome_line.specs.declared.outcome.Outcome.{Outcome}
-use Rattle.outcome_line.specs.declared.outcome.Outcome.TheVariants as outcomes
-use Rattle.outcome_line.specs.declared.outcome.Outcome.TheVariants.{Done, Usage, Refused, SourceFault, SinkFault, NoMemory}
+use Rattle.outcome.specs.declared.Outcome.{Outcome}
+use Rattle.outcome.specs.declared.Outcome.TheVariants as outcomes
+use Rattle.outcome.specs.declared.Outcome.TheVariants.{Done, Usage, Refused, SourceFault, SinkFault, NoMemory}
 use Rattle.command_words.specs.declared.command.Command.{Command}
 
 module _ (IsForm : JobParts → List ℕ → Type 0) where

@@ -14,11 +14,11 @@ use Rattle.command_answers.specs.Commands.Frame.{IsFrameCase, IsFrameForm}
 use Rattle.command_answers.specs.Commands.List.{IsListCase, IsListForm}
 use Rattle.project_job.specs.Load.{IsFront, IsMissing, IsOfLoad}
 use Rattle.project_job.specs.declared.loads.Front.{Front}
-use Rattle.outcome_line.specs.declared.outcome.Refused.TheVariants.{NoFile, Project, Reels, List as EditList, Timeline, Cube, Job, Frame}
-use Rattle.outcome_line.specs.declared.outcome.Which.{Which}
-use Rattle.outcome_line.specs.declared.outcome.Which.TheVariants as which
+use Rattle.outcome.specs.declared.Refused.TheVariants.{NoFile, Project, Reels, List as EditList, Timeline, Cube, Job, Frame}
+use Rattle.outcome.specs.declared.Which.{Which}
+use Rattle.outcome.specs.declared.Which.TheVariants as which
 use Rattle.command_answers.specs.inside.Faults.{IfFault}
-use Rattle.outcome_line.specs.Output.{line_of}
+use Rattle.printed_lines.specs.Lines.{line_of}
 use Rattle.project_run.specs.Calls.{LeavesScanFor, Replies}
 use Rattle.project_run.specs.Run.{IsOfRun}
 use Rattle.project_adopt.specs.Adopt.{IsOfAdopt}
@@ -31,9 +31,9 @@ use Rattle.command_answers.specs.Reply.{CallsDisk, IsKindOf, IsReplyOverScan}
 use Rattle.frame_range.specs.declared.range.Extent.{Extent}
 use Rattle.command_words.specs.declared.command.Command.{Command}
 use Rattle.command_words.specs.declared.command.Command.TheVariants as commands
-use Rattle.outcome_line.specs.declared.outcome.Outcome.{Outcome}
-use Rattle.outcome_line.specs.declared.outcome.Outcome.TheVariants as outcomes
-use Rattle.outcome_line.specs.declared.outcome.Outcome.TheVariants.{Done, Usage, Refused, SourceFault, SinkFault, NoMemory}
+use Rattle.outcome.specs.declared.Outcome.{Outcome}
+use Rattle.outcome.specs.declared.Outcome.TheVariants as outcomes
+use Rattle.outcome.specs.declared.Outcome.TheVariants.{Done, Usage, Refused, SourceFault, SinkFault, NoMemory}
 
 -- some bytes with these first ones and this length
 file_of : (len most : ℕ) (into : List ℕ) → length into ≡ min len most → (bytes : List ℕ) × (len ≡ length bytes) × (into ≡ take most bytes)

@@ -9,9 +9,9 @@ use Rattle.reconform.specs.Adopt.{LeavesBoth}
 use Rattle.project_adopt.specs.Adopt.{IsAdoptReply, OnDisks}
 use Rattle.command_words.specs.declared.command.Command.{Command}
 use Rattle.command_words.specs.declared.command.Command.TheVariants as commands
-use Rattle.outcome_line.specs.Output.{line_of}
-use Rattle.outcome_line.specs.declared.outcome.Outcome.{Outcome}
-use Rattle.outcome_line.specs.declared.outcome.Outcome.TheVariants as outcomes
+use Rattle.printed_lines.specs.Lines.{line_of}
+use Rattle.outcome.specs.declared.Outcome.{Outcome}
+use Rattle.outcome.specs.declared.Outcome.TheVariants as outcomes
 use Rattle.project_run.specs.Calls.{FolderState, LeavesDiskFor, LeavesScanFor, OnDisk, OverScan, Replies}
 use Rattle.command_answers.specs.ByFolder.{reel_meaning}
 use Rattle.command_answers.specs.Commands.{meaning_of}

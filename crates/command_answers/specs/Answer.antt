@@ -11,12 +11,13 @@ use Rattle.cf_base.specs.Count.{HasRisen}
 use Rattle.cf_base.specs.Sink.{AppendsPrefix, SinkState}
 use Rattle.scan_source.specs.State.{ScanState}
 use Rattle.command_words.specs.Commands.{Spells, IsNoCommand}
-use Rattle.outcome_line.specs.Output.{status_of, line_of, IsMade}
+use Rattle.outcome.specs.Status.{status_of}
+use Rattle.printed_lines.specs.Lines.{line_of, IsMade}
 use Rattle.command_answers.specs.Reply.{IsReplyOverFolders}
 use Rattle.command_answers.specs.States.{Folders, House}
 use Rattle.command_words.specs.declared.command.Command.{Command}
-use Rattle.outcome_line.specs.declared.outcome.Outcome.{Outcome}
-use Rattle.outcome_line.specs.declared.outcome.Outcome.TheVariants.{Done, Usage, SinkFault, NoMemory}
+use Rattle.outcome.specs.declared.Outcome.{Outcome}
+use Rattle.outcome.specs.declared.Outcome.TheVariants.{Done, Usage, SinkFault, NoMemory}
 
 -- The output of the outcome that was reached stands behind what the sink had, and the outcome is answered. Or the sink failed,
 -- a prefix of the output stands there, and the answer keeps the outcome's status.

@@ -8,7 +8,7 @@ use Rattle.conform_job.specs.Job.{JobData}
 use Rattle.reel_disk.specs.Disk.{view_of}
 use Rattle.resume_ledger.specs.Ledger.{IsFit}
 use Rattle.reel_writer.specs.Reel.{frames_of}
-use Rattle.outcome_line.specs.declared.outcome.Outcome.{Outcome}
+use Rattle.outcome.specs.declared.Outcome.{Outcome}
 use Rattle.project_job.specs.Jobs.{ComesTo}
 use Rattle.project_run.specs.Calls.{FolderState}
 use Rattle.project_adopt.specs.Adopt.{IsOldSound}

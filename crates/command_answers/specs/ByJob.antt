@@ -16,8 +16,8 @@ use Rattle.conform_job.specs.Refusals.{Files}
 use Rattle.conform_job.specs.declared.parts.JobParts.{JobParts}
 use Rattle.project_job.specs.Asked.{HasInspectedFor, HasLoadedFor}
 use Rattle.project_job.specs.Jobs.{AreLoaded, ComesTo}
-use Rattle.outcome_line.specs.declared.outcome.Outcome.{Outcome}
-use Rattle.outcome_line.specs.declared.outcome.Outcome.TheVariants.{Done, Refused as IsRefused, SourceFault, NoMemory}
+use Rattle.outcome.specs.declared.Outcome.{Outcome}
+use Rattle.outcome.specs.declared.Outcome.TheVariants.{Done, Refused as IsRefused, SourceFault, NoMemory}
 use Rattle.command_answers.specs.Meaning.{HasReelFailed, IsThrough, LeavesReel, Meaning, no_calls}
 
 -- Each source frame that the job needs was inspected once: the infos have one entry for each needed key.

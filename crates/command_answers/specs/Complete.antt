@@ -10,8 +10,8 @@ use Rattle.std.specs.Prelude.{ℕ}
 use Rattle.cf_base.specs.Count.{HasRisen}
 use Rattle.scan_source.specs.World.{World}
 use Rattle.command_words.specs.declared.command.Command.{Command}
-use Rattle.outcome_line.specs.declared.outcome.Outcome.{Outcome}
-use Rattle.outcome_line.specs.declared.outcome.Outcome.TheVariants.{SourceFault, DiskFault}
+use Rattle.outcome.specs.declared.Outcome.{Outcome}
+use Rattle.outcome.specs.declared.Outcome.TheVariants.{SourceFault, DiskFault}
 use Rattle.command_answers.specs.Commands.{meaning_of}
 use Rattle.command_answers.specs.Reply.{IsKindOf}
 use Rattle.command_answers.specs.States.{Folders}

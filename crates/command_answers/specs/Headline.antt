@@ -34,8 +34,8 @@ use Rattle.reel_writer.specs.Reel.{frames_of, HasAcked, HasFrameFiles, IsSoundRe
 use Rattle.project_job.specs.Jobs.{ComesTo}
 use Rattle.command_words.specs.Commands.{Spells}
 use Rattle.command_words.specs.declared.command.Command.TheVariants as commands
-use Rattle.outcome_line.specs.declared.outcome.Outcome.{Outcome}
-use Rattle.outcome_line.specs.declared.outcome.Outcome.TheVariants.{Done, SinkFault}
+use Rattle.outcome.specs.declared.Outcome.{Outcome}
+use Rattle.outcome.specs.declared.Outcome.TheVariants.{Done, SinkFault}
 use Rattle.command_answers.specs.Folders.{IsBeginning, IsWholeOver, left_with}
 
 -- What a run or an adoption of the job keeps from its opening until now, wherever it is. `Ended` says that it was done.

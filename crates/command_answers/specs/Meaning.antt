@@ -11,8 +11,8 @@ use Rattle.std.specs.Prelude.{◌≡◌, ◌⊎◌, ℕ, Bool, true, false, List
 use Rattle.cf_base.specs.Count.{HasRisen}
 use Rattle.scan_source.specs.State.{ScanState}
 use Rattle.scan_source.specs.World.{World}
-use Rattle.outcome_line.specs.declared.outcome.Outcome.{Outcome}
-use Rattle.outcome_line.specs.declared.outcome.Outcome.TheVariants.{Done, NoMemory}
+use Rattle.outcome.specs.declared.Outcome.{Outcome}
+use Rattle.outcome.specs.declared.Outcome.TheVariants.{Done, NoMemory}
 use Rattle.command_answers.specs.States.{Folders, House}
 
 -- The calls that a command makes on the folders and on the files, by which it may come to an outcome of these alone.

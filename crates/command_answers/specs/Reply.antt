@@ -8,10 +8,10 @@
 use Rattle.std.specs.Prelude.{◌≡◌, ◌≢◌, ◌≤◌, ℕ, List}
 use Rattle.cf_base.specs.Count.{HasRisen}
 use Rattle.scan_source.specs.State.{ScanState}
-use Rattle.outcome_line.specs.Output.{line_of}
+use Rattle.printed_lines.specs.Lines.{line_of}
 use Rattle.command_words.specs.declared.command.Command.{Command}
-use Rattle.outcome_line.specs.declared.outcome.Outcome.{Outcome}
-use Rattle.outcome_line.specs.declared.outcome.Outcome.TheVariants.{Done, Usage, Refused as IsRefused, OldRefused, OldOtherJob, OldBadLedger, Damaged, Changed, SourceFault, DiskFault, SinkFault, NoMemory}
+use Rattle.outcome.specs.declared.Outcome.{Outcome}
+use Rattle.outcome.specs.declared.Outcome.TheVariants.{Done, Usage, Refused as IsRefused, OldRefused, OldOtherJob, OldBadLedger, Damaged, Changed, SourceFault, DiskFault, SinkFault, NoMemory}
 use Rattle.command_answers.specs.Commands.{meaning_of}
 use Rattle.command_answers.specs.Meaning.{Makes}
 use Rattle.command_answers.specs.States.{Folders, House}

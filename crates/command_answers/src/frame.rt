@@ -16,7 +16,7 @@ ghost use Rattle.command_answers.specs.inside.Faults.{IfFault};
 use cf_base::{Fail, PathText, TitleText};
 use dpx_header::{DpxFault, FrameInfo, OutHead, read_header, write_header};
 use dpx_pack::{pack, unpack};
-use outcome_line::{Outcome, Refused, Which};
+use outcome::{Outcome, Refused, Which};
 use project_job::load;
 use scan_source::{Scans, head_of};
 use std::alloc::{AllocError, Global};

@@ -9,7 +9,7 @@ ghost use Rattle.command_words.specs.declared.command.Command.TheVariants as com
 
 use cf_base::{Fail, PathText, Rate};
 use edl_events::{ListRefusal, read_list};
-use outcome_line::{Outcome, Refused, Which};
+use outcome::{Outcome, Refused, Which};
 use printed_tables::event_table;
 use project_job::{MOST_LIST, load};
 use scan_source::Scans;

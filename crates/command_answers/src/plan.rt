@@ -5,7 +5,7 @@ ghost use Rattle.command_answers.specs.Reply.{IsReplyOverScan};
 ghost use Rattle.command_words.specs.declared.command.Command.TheVariants as commands;
 
 use cf_base::PathText;
-use outcome_line::Outcome;
+use outcome::Outcome;
 use printed_tables::plan_of;
 use project_job::planned;
 use scan_source::Scans;

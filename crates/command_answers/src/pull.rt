@@ -8,7 +8,7 @@ ghost use Rattle.project_job.specs.Jobs.{AreCounted};
 
 use cf_base::{Fail, Never, PathText};
 use conform_job::Job;
-use outcome_line::Outcome;
+use outcome::Outcome;
 use printed_tables::pull_of;
 use project_job::planned;
 use scan_source::Scans;

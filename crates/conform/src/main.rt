@@ -6,12 +6,13 @@
 ghost use Rattle.std.specs.Prelude.{◌≡◌, map, IfOk};
 ghost use Rattle.std.specs.Process.{exit_status};
 ghost use Rattle.std.specs.String.{string_bytes};
-ghost use Rattle.outcome_line.specs.Output.{status_of};
+ghost use Rattle.outcome.specs.Status.{status_of};
 
 use cf_base::{Put, Sink, StreamSink};
 use conform_tool::{Ended, conform};
-use outcome_line::{Outcome, plain_line};
+use outcome::Outcome;
 use outside::{Outside, arguments, outside_of, split_words, tell_cause};
+use printed_lines::plain_line;
 use reel_qc::{Probe, ProbeKind, Tone, high, low, square, square_table, sum};
 use std::alloc::{AllocError, Global};
 use std::io;

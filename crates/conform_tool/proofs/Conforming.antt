@@ -10,9 +10,9 @@ use Rattle.command_words.specs.Commands.{Spells}
 use Rattle.command_words.specs.declared.command.Command.{Command}
 use Rattle.command_words.specs.declared.command.Command.TheVariants as commands
 use Rattle.command_words.proofs.Commands.{one_spelled}
-use Rattle.outcome_line.specs.Output.{line_of, IsMade}
-use Rattle.outcome_line.specs.declared.outcome.Outcome.{Outcome}
-use Rattle.outcome_line.specs.declared.outcome.Outcome.TheVariants as outcomes
+use Rattle.printed_lines.specs.Lines.{line_of, IsMade}
+use Rattle.outcome.specs.declared.Outcome.{Outcome}
+use Rattle.outcome.specs.declared.Outcome.TheVariants as outcomes
 use Rattle.project_crew.specs.Crew.{HasFailed, IsCrewReply, told_by}
 use Rattle.project_run.specs.Calls.{FolderState, IsLeftAlone}
 use Rattle.project_run.specs.Run.{IsOfRun}

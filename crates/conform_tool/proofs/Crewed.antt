@@ -18,14 +18,14 @@ use Rattle.project_crew.specs.Crew.{IsCrewReply, told_by, HasFailed}
 use Rattle.frame_range.specs.declared.range.Extent.{Extent}
 use Rattle.frame_range.specs.Parts.{range_of}
 use Rattle.command_words.specs.declared.command.Command.TheVariants as commands
-use Rattle.outcome_line.specs.declared.outcome.Outcome.{Outcome}
-use Rattle.outcome_line.specs.declared.outcome.Outcome.TheVariants as outcomes
+use Rattle.outcome.specs.declared.Outcome.{Outcome}
+use Rattle.outcome.specs.declared.Outcome.TheVariants as outcomes
 use Rattle.conform_tool.specs.Conform.{AnsweredByCrew}
 use Rattle.command_answers.specs.Headline.{KeepsItsPromise, HasEnded}
 use Rattle.frame_share.specs.declared.step.ShareStep.{ShareStep}
 use Rattle.render_board.specs.declared.step.Step.{Step}
-use Rattle.station.specs.Crews.{TookSteps, TookNoSteps}
-use Rattle.single_run.specs.declared.report.Report.{Report}
+use Rattle.run_crew.specs.Crews.{TookSteps, TookNoSteps}
+use Rattle.run_alone.specs.declared.report.Report.{Report}
 use Rattle.command_words.specs.declared.command.Command.{Command}
 use Rattle.command_answers.specs.ByFolder.{HasFitFolder}
 use Rattle.command_answers.specs.Meaning.{IsThrough}

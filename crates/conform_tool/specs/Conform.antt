@@ -11,9 +11,9 @@ use Rattle.scan_source.specs.State.{ScanState}
 use Rattle.frame_range.specs.declared.range.Extent.{Extent}
 use Rattle.command_words.specs.Commands.{Spells}
 use Rattle.command_words.specs.declared.command.Command.TheVariants as commands
-use Rattle.outcome_line.specs.Output.{line_of}
-use Rattle.outcome_line.specs.declared.outcome.Outcome.{Outcome}
-use Rattle.outcome_line.specs.declared.outcome.Outcome.TheVariants.{Done, SourceFault, DiskFault, NoMemory}
+use Rattle.printed_lines.specs.Lines.{line_of}
+use Rattle.outcome.specs.declared.Outcome.{Outcome}
+use Rattle.outcome.specs.declared.Outcome.TheVariants.{Done, SourceFault, DiskFault, NoMemory}
 use Rattle.project_crew.specs.Crew.{HasFailed, IsCrewReply}
 use Rattle.project_run.specs.Calls.{FolderState}
 use Rattle.project_run.specs.Run.{IsOfRun}

@@ -22,7 +22,7 @@ use command_answers::{answer_found, parts_law, put_line, put_result};
 use command_words::{Command, command_of};
 use frame_hash::Hasher;
 use frame_range::Extent;
-use outcome_line::Outcome;
+use outcome::Outcome;
 use project_crew::{CrewEnded, run_crewed};
 use project_job::job_laws;
 use reel_disk::Disk;

@@ -7,7 +7,7 @@ use Rattle.std.proofs.lemmas.Bool.{cases_lt}
 use Rattle.std.proofs.lemmas.List.{append-nil, get_or_append_left, length-append, length-map, nil_from_length, take-append-le, take_all}
 use Rattle.scan_source.specs.State.{ScanState}
 use Rattle.frame_share.specs.Units.{Tally, fresh as unasked, joined as units_joined}
-use Rattle.shared_station.specs.Marks.{HasMoreThan, Tallies, fresh, joined}
+use Rattle.station.specs.Marks.{HasMoreThan, Tallies, fresh, joined}
 use Rattle.crew_seat.specs.Seats.{HasGiven, HasTaken, IsOnePart}
 use Rattle.scan_source.specs.World.{World}
 use Rattle.crew_seat.specs.Stepped.{HasWorked, IsFresh, WasCounted}

@@ -13,11 +13,11 @@ use Rattle.frame_fetch.specs.Ends.{IsChange, IsUnrendered}
 use Rattle.frame_fetch.specs.declared.run_end.RunEnd.{RunEnd}
 use Rattle.frame_fetch.specs.declared.run_end.RunEnd.TheVariants.{Done, OtherJob, BadLedger, Changed as IsNow, SourceFault, DiskFault, NoMemory}
 use Rattle.reel_disk.specs.declared.disk.DiskFault.{DiskFault as DiskFailed}
-use Rattle.shared_station.specs.Leaving.{HasLeft}
-use Rattle.shared_station.specs.Marks.{Tallies, raised_by}
-use Rattle.shared_station.specs.declared.leaving.Leave.{Leave}
-use Rattle.shared_station.specs.declared.leaving.Leave.TheVariants as leaves
-use Rattle.shared_station.specs.StationSteps.{why_by}
+use Rattle.station.specs.Leaving.{HasLeft}
+use Rattle.station.specs.Marks.{Tallies, raised_by}
+use Rattle.station.specs.declared.leaving.Leave.{Leave}
+use Rattle.station.specs.declared.leaving.Leave.TheVariants as leaves
+use Rattle.station.specs.StationSteps.{why_by}
 use Rattle.conform_job.specs.Answers.{count_after}
 use Rattle.frame_fetch.specs.Scanned.{HasFetched, IsScanned}
 use Rattle.crew_seat.specs.Stepped.{HasStepped, HasWorked}

@@ -2,7 +2,7 @@
 use Rattle.std.proofs.Common.{ℕ, Bool, ◌∙◌, arith}
 use Rattle.std.specs.Prelude.{Option}
 use Rattle.scan_source.specs.World.{World}
-use Rattle.shared_station.specs.Marks.{Tallies}
+use Rattle.station.specs.Marks.{Tallies}
 use Rattle.crew_seat.specs.Worked.{HasCauses, KeepsParts}
 use Rattle.crew_seat.specs.inside.Worked.{KeepsSources}
 

@@ -1,6 +1,6 @@
 -- Marks that are handed out and taken in, a part for each seat. This is this project's own rule.
 use Rattle.std.specs.Prelude.{◌≡◌, ℕ, ◌+◌}
-use Rattle.shared_station.specs.Marks.{Tallies}
+use Rattle.station.specs.Marks.{Tallies}
 
 -- n parts of each were handed out, and no amount
 pub record HasGiven (before : Tallies) (n : ℕ) (now : Tallies) : Type 0 where

@@ -7,7 +7,7 @@ use Rattle.std.specs.Prelude.{◌≡◌, ℕ, ◌+◌, ◌≤◌, Bool, true, fa
 use Rattle.scan_source.specs.State.{ScanState}
 use Rattle.scan_source.specs.World.{World}
 use Rattle.frame_share.specs.Units.{fresh as unasked}
-use Rattle.shared_station.specs.Marks.{fresh}
+use Rattle.station.specs.Marks.{fresh}
 use Rattle.frame_fetch.specs.Scanned.{IsScanned}
 use Rattle.crew_seat.specs.Seats.{IsOnePart}
 use Rattle.crew_seat.specs.Worked.{HasCauses, HasCounted}

@@ -4,7 +4,7 @@
 use Rattle.std.specs.Prelude.{◌≡◌, ℕ, ◌+◌, ◌<◌, ◌≤◌, Bool, true, Option, None}
 use Rattle.scan_source.specs.World.{World}
 use Rattle.frame_share.specs.Units.{Tally}
-use Rattle.shared_station.specs.Marks.{Tallies}
+use Rattle.station.specs.Marks.{Tallies}
 
 -- the parts stay
 pub record KeepsParts (before now : Tallies) : Type 0 where

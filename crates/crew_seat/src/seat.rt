@@ -2,7 +2,7 @@
 use conform_job::Work;
 use frame_share::Units;
 use scan_source::Scans;
-use shared_station::{Crewed, Marks};
+use station::{Crewed, Marks};
 use std::marker::PhantomData;
 
 /// What one worker of a run of N's job has for itself.

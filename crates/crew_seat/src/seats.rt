@@ -1,6 +1,6 @@
 //! The seats of a crew: one for each scan, made before the workers begin and taken apart after they have returned.
 ghost use Rattle.std.specs.Prelude.{◌≡◌, ◌+◌, ◌<◌, ◌≤◌, ℕ, All, [], false, map, slice_index_or, sum_by, vec_len, vec_capacity};
-ghost use Rattle.shared_station.specs.Marks.{HasMoreThan};
+ghost use Rattle.station.specs.Marks.{HasMoreThan};
 ghost use Rattle.crew_seat.specs.Seats.{HasGiven, HasTaken};
 ghost use Rattle.crew_seat.specs.Stepped.{IsFresh, WasCounted};
 
@@ -8,7 +8,7 @@ use crate::seat::Seat;
 use conform_job::Work;
 use frame_share::Units;
 use scan_source::Scans;
-use shared_station::{Crewed, Marks};
+use station::{Crewed, Marks};
 use std::marker::PhantomData;
 use std::thread::{Threads, available_parallelism};
 

@@ -1,7 +1,7 @@
 //! Why a worker stops where a frame could not be made.
 ghost use Rattle.std.specs.Prelude.{◌≡◌, ◌↔◌, true, Err};
 ghost use Rattle.frame_fetch.specs.Ends.{IsUnrendered};
-ghost use Rattle.shared_station.specs.StationSteps.{MayStop, why_by};
+ghost use Rattle.station.specs.StationSteps.{MayStop, why_by};
 
 use conform_job::Work;
 use frame_fetch::RunEnd;

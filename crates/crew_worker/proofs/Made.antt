@@ -6,10 +6,10 @@ use Rattle.frame_fetch.specs.declared.run_end.RunEnd.{RunEnd}
 use Rattle.frame_fetch.specs.declared.run_end.RunEnd.TheVariants.{SourceFault}
 use Rattle.render_board.specs.declared.step.Why.{Why}
 use Rattle.render_board.specs.declared.step.Why.TheVariants.{Source}
-use Rattle.shared_station.specs.Leaving.{HasLeft}
-use Rattle.shared_station.specs.Marks.{Tallies}
-use Rattle.shared_station.specs.declared.leaving.Leave.{Leave}
-use Rattle.shared_station.specs.declared.leaving.Leave.TheVariants as leaves
+use Rattle.station.specs.Leaving.{HasLeft}
+use Rattle.station.specs.Marks.{Tallies}
+use Rattle.station.specs.declared.leaving.Leave.{Leave}
+use Rattle.station.specs.declared.leaving.Leave.TheVariants as leaves
 
 -- what is said of a frame that was made, and that no load failed then
 pub of_ok : {T E : Type 0} (made : Result T E) (P : Type 0) → IsOk made → OnOk made P → P

@@ -1,7 +1,7 @@
 //! Why a command came to its outcome, in words for people.
 use cf_base::{Name, PathText, Trouble};
 use conform_job::JobFault;
-use outcome_line::{Outcome, Refused};
+use outcome::{Outcome, Refused};
 use reel_disk::{FolderDisk, LockFiles};
 use scan_source::FileScans;
 use std::rt::Runtime;

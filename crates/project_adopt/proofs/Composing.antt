@@ -22,12 +22,12 @@ use Rattle.reconform.specs.Adopt.{IsOfOld, WasAdopted, IsWhyUnadopted}
 use Rattle.reconform.specs.declared.adopting.Adopted.{Adopted}
 use Rattle.reconform.specs.declared.adopting.AdoptFault.{AdoptFault}
 use Rattle.reconform.specs.declared.adopting.AdoptFault.TheVariants as faults
-use Rattle.single_run.specs.Run.{AreAllAcked, IsOwnFileOf, MayWriteOf}
+use Rattle.run_alone.specs.Run.{AreAllAcked, IsOwnFileOf, MayWriteOf}
 use Rattle.frame_fetch.specs.declared.run_end.RunEnd.{RunEnd}
 use Rattle.frame_fetch.specs.declared.run_end.RunEnd.TheVariants as ends
-use Rattle.single_run.proofs.Closing.{whole_reel}
-use Rattle.outcome_line.specs.declared.outcome.Outcome.{Outcome}
-use Rattle.outcome_line.specs.declared.outcome.Outcome.TheVariants as outcome
+use Rattle.run_alone.proofs.Closing.{whole_reel}
+use Rattle.outcome.specs.declared.Outcome.{Outcome}
+use Rattle.outcome.specs.declared.Outcome.TheVariants as outcome
 use Rattle.project_run.specs.Calls.{FolderState, folder_state}
 use Rattle.project_run.specs.Run.{IsOfRun, outcome_of_end}
 use Rattle.project_adopt.specs.Adopt.{IsAdoption, IsOfAdopt, IsPromised, IsRest, outcome_of_fault}

@@ -12,8 +12,8 @@ use Rattle.project_file.specs.declared.fault.ProjectFault.{ProjectFault}
 use Rattle.record_timeline.specs.Accepted.{timeline_of}
 use Rattle.source_reels.specs.Reels.{table_of}
 use Rattle.tetra_look.specs.Look.{Lattice}
-use Rattle.outcome_line.specs.declared.outcome.Refused.{Refused}
-use Rattle.outcome_line.specs.declared.outcome.Refused.TheVariants as refused
+use Rattle.outcome.specs.declared.Refused.{Refused}
+use Rattle.outcome.specs.declared.Refused.TheVariants as refused
 use Rattle.project_job.specs.Jobs.{FileComesTo, job_of, list_in, look_in, parts_of, unless_job, unless_refused}
 use Rattle.reconform.specs.Adopt.{HaveOneLook}
 use Rattle.project_adopt.specs.inside.Adopt.{IsJobOver}

@@ -5,8 +5,8 @@ use Rattle.scan_source.specs.World.{World, file_at}
 use Rattle.conform_job.specs.Answers.{count_after}
 use Rattle.conform_job.specs.Job.{JobData}
 use Rattle.reel_disk.specs.Disk.{view_of}
-use Rattle.outcome_line.specs.declared.outcome.Outcome.{Outcome}
-use Rattle.outcome_line.specs.declared.outcome.Outcome.TheVariants as outcome
+use Rattle.outcome.specs.declared.Outcome.{Outcome}
+use Rattle.outcome.specs.declared.Outcome.TheVariants as outcome
 use Rattle.project_job.specs.Jobs.{HasPlanned, IsOfJob, cube_count}
 use Rattle.project_run.specs.Calls.{FolderState}
 use Rattle.project_run.proofs.Runs.{of_job}

@@ -26,11 +26,11 @@ use Rattle.reconform.specs.declared.adopting.Adopted.{Adopted}
 use Rattle.reconform.specs.declared.adopting.AdoptFault.{AdoptFault}
 use Rattle.reconform.specs.declared.adopting.AdoptFault.TheVariants as fault
 use Rattle.reel_writer.specs.Changes.{IsOwnFile, MayWrite}
-use Rattle.single_run.specs.Run.{AreAllAcked, HasWhole}
-use Rattle.single_run.specs.declared.report.Report.{Report}
+use Rattle.run_alone.specs.Run.{AreAllAcked, HasWhole}
+use Rattle.run_alone.specs.declared.report.Report.{Report}
 use Rattle.printed_text.specs.Text.{spaced_line}
-use Rattle.outcome_line.specs.declared.outcome.Outcome.{Outcome}
-use Rattle.outcome_line.specs.declared.outcome.Outcome.TheVariants as outcome
+use Rattle.outcome.specs.declared.Outcome.{Outcome}
+use Rattle.outcome.specs.declared.Outcome.TheVariants as outcome
 use Rattle.project_job.specs.Jobs.{ComesTo, cube_count}
 use Rattle.project_run.specs.Calls.{FolderState, OnDisk, WasOnlyRead}
 use Rattle.frame_range.specs.Parts.{range_of}

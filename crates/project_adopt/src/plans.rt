@@ -12,7 +12,7 @@ use crate::report::of_old_project;
 use cf_base::PathText;
 use conform_job::Job;
 use frame_hash::Hasher;
-use outcome_line::Outcome;
+use outcome::Outcome;
 use project_job::planned;
 use reel_disk::Disk;
 use scan_source::Scans;

@@ -14,11 +14,11 @@ ghost use Rattle.project_adopt.specs.inside.Adopt.{Ends, IsJobOver};
 use crate::report::{outcome_of_fault, reply_of};
 use conform_job::{Job, Work};
 use frame_hash::Hasher;
-use outcome_line::Outcome;
+use outcome::Outcome;
 use reconform::Adopted;
 use reel_disk::Disk;
+use run_alone::run_alone;
 use scan_source::Scans;
-use single_run::run_alone;
 use std::alloc::Global;
 use std::marker::Brand;
 

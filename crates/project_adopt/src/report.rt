@@ -7,10 +7,10 @@ ghost use Rattle.project_run.specs.Calls.{Replies};
 
 use conform_job::Job;
 use frame_fetch::RunEnd;
-use outcome_line::Outcome;
+use outcome::Outcome;
 use project_run::{outcome_of_end, put_count};
 use reconform::{AdoptFault, Adopted};
-use single_run::Report;
+use run_alone::Report;
 use std::alloc::{AllocError, Global};
 
 /// The outcome of an old project that came to no job.

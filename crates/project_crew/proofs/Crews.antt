@@ -14,16 +14,16 @@ use Rattle.frame_range.specs.declared.range.Extent.{Extent}
 use Rattle.frame_range.specs.declared.range.FrameRange.{FrameRange}
 use Rattle.reel_writer.specs.Reel.{frames_of, HasFrameFiles, IsReelRun, IsSoundReel}
 use Rattle.render_board.specs.declared.step.Step.{Step}
-use Rattle.station.specs.Crews.{AreWorked, TookNoSteps, TookSteps}
+use Rattle.run_crew.specs.Crews.{AreWorked, TookNoSteps, TookSteps}
 use Rattle.frame_fetch.specs.Ends.{IsChange}
-use Rattle.single_run.specs.Run.{AreAllAcked, HasWhole, IsOwnFileOf, MayWriteOf}
-use Rattle.single_run.specs.declared.report.Report.{Report}
+use Rattle.run_alone.specs.Run.{AreAllAcked, HasWhole, IsOwnFileOf, MayWriteOf}
+use Rattle.run_alone.specs.declared.report.Report.{Report}
 use Rattle.frame_fetch.specs.declared.run_end.RunEnd.{RunEnd}
 use Rattle.frame_fetch.specs.declared.run_end.RunEnd.TheVariants as ends
 use Rattle.project_job.specs.Asked.{HasLoadedFor}
 use Rattle.project_job.specs.Jobs.{HasPlanned, IsOfJob, AreLoaded, cube_count}
-use Rattle.outcome_line.specs.declared.outcome.Outcome.{Outcome}
-use Rattle.outcome_line.specs.declared.outcome.Outcome.TheVariants as outcomes
+use Rattle.outcome.specs.declared.Outcome.{Outcome}
+use Rattle.outcome.specs.declared.Outcome.TheVariants as outcomes
 use Rattle.project_crew.specs.Crew.{HasFailed, HasFirstLoaded, IsJobRunByCrew, IsCrewReply, told_by}
 use Rattle.project_run.specs.Calls.{FolderState}
 use Rattle.project_run.specs.Run.{ReportsEnd, report_text}

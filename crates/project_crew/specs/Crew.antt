@@ -14,15 +14,15 @@ use Rattle.reel_writer.specs.Reel.{frames_of}
 use Rattle.conform_job.specs.Answers.{count_after}
 use Rattle.conform_job.specs.Job.{JobData}
 use Rattle.render_board.specs.declared.step.Step.{Step}
-use Rattle.station.specs.Crews.{AreWorked, TookNoSteps, TookSteps}
+use Rattle.run_crew.specs.Crews.{AreWorked, TookNoSteps, TookSteps}
 use Rattle.frame_fetch.specs.Ends.{IsChange}
-use Rattle.single_run.specs.declared.report.Report.{Report}
+use Rattle.run_alone.specs.declared.report.Report.{Report}
 use Rattle.frame_fetch.specs.declared.run_end.RunEnd.{RunEnd}
 use Rattle.frame_fetch.specs.declared.run_end.RunEnd.TheVariants as ends
 use Rattle.project_job.specs.Asked.{HasLoadedFor}
 use Rattle.project_job.specs.Jobs.{ComesTo, HasPlanned, IsOfJob, AreLoaded, cube_count}
-use Rattle.outcome_line.specs.declared.outcome.Outcome.{Outcome}
-use Rattle.outcome_line.specs.declared.outcome.Outcome.TheVariants as outcome
+use Rattle.outcome.specs.declared.Outcome.{Outcome}
+use Rattle.outcome.specs.declared.Outcome.TheVariants as outcome
 use Rattle.project_run.specs.Calls.{FolderState}
 use Rattle.frame_range.specs.Parts.{range_of}
 use Rattle.frame_range.specs.declared.range.Extent.{Extent}

@@ -3,7 +3,7 @@ use Rattle.std.proofs.Common.{◌≡◌, ◌∙◌, ap, sym, List, ℕ, Option, 
 use Rattle.conform_job.specs.Refusals.{Files}
 use Rattle.conform_job.specs.declared.parts.JobParts.{JobParts}
 use Rattle.project_file.specs.Projects.{OneMeaning}
-use Rattle.outcome_line.specs.declared.outcome.Refused.{Refused}
+use Rattle.outcome.specs.declared.Refused.{Refused}
 use Rattle.project_job.specs.Jobs.{FileComesTo, job_of}
 use Rattle.project_job.specs.Laws.{OneAnswer, OneJob}
 

@@ -8,11 +8,11 @@ use Rattle.conform_job.specs.Refusals.{Files}
 use Rattle.conform_job.specs.declared.parts.JobParts.{JobParts}
 use Rattle.conform_job.specs.declared.parts.JobFault.{JobFault}
 use Rattle.conform_job.specs.declared.parts.JobFault.TheVariants as faults
-use Rattle.outcome_line.specs.declared.outcome.Outcome.{Outcome}
-use Rattle.outcome_line.specs.declared.outcome.Outcome.TheVariants as outcomes
-use Rattle.outcome_line.specs.declared.outcome.Refused.{Refused}
-use Rattle.outcome_line.specs.declared.outcome.Refused.TheVariants as refused
-use Rattle.outcome_line.specs.declared.outcome.Which.{Which}
+use Rattle.outcome.specs.declared.Outcome.{Outcome}
+use Rattle.outcome.specs.declared.Outcome.TheVariants as outcomes
+use Rattle.outcome.specs.declared.Refused.{Refused}
+use Rattle.outcome.specs.declared.Refused.TheVariants as refused
+use Rattle.outcome.specs.declared.Which.{Which}
 use Rattle.project_job.specs.Asked.{loads_of, FileHasParts, FileNames, HasInspectedFor, HasLoadedFor, WereInspected, WereJudged}
 use Rattle.project_job.specs.inside.Asked.{ComesBehind, HasLoadedBehind, IsOfTexts}
 use Rattle.project_job.specs.Jobs.{cube_count, parts_of}

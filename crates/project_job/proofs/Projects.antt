@@ -35,11 +35,11 @@ use Rattle.project_job.specs.declared.loads.Front.{Front}
 use Rattle.project_job.specs.declared.project.ListText.{ListText}
 use Rattle.project_job.specs.declared.project.LookText.{LookText}
 use Rattle.project_job.specs.declared.project.ProjectText.{ProjectText}
-use Rattle.outcome_line.specs.declared.outcome.Which.TheVariants as which
-use Rattle.outcome_line.specs.declared.outcome.Outcome.{Outcome}
-use Rattle.outcome_line.specs.declared.outcome.Outcome.TheVariants as outcomes
-use Rattle.outcome_line.specs.declared.outcome.Refused.{Refused}
-use Rattle.outcome_line.specs.declared.outcome.Refused.TheVariants as refused
+use Rattle.outcome.specs.declared.Which.TheVariants as which
+use Rattle.outcome.specs.declared.Outcome.{Outcome}
+use Rattle.outcome.specs.declared.Outcome.TheVariants as outcomes
+use Rattle.outcome.specs.declared.Refused.{Refused}
+use Rattle.outcome.specs.declared.Refused.TheVariants as refused
 
 -- what holds by one fact, or by two, of each world holds of the one that is told
 pub told_one : {A : Type 0} (told : Option A) (P Q : A → Type 0) → ((a : A) → P a → Q a) → IfSome told P → IfSome told Q

@@ -15,11 +15,11 @@ use Rattle.conform_job.specs.declared.parts.JobParts.{JobParts}
 use Rattle.project_file.specs.Projects.{Means}
 use Rattle.project_file.specs.declared.Project.{Project}
 use Rattle.project_file.specs.declared.fault.ProjectFault.{ProjectFault}
-use Rattle.outcome_line.specs.declared.outcome.Outcome.{Outcome}
-use Rattle.outcome_line.specs.declared.outcome.Outcome.TheVariants as outcome
-use Rattle.outcome_line.specs.declared.outcome.Refused.{Refused}
-use Rattle.outcome_line.specs.declared.outcome.Refused.TheVariants as refused
-use Rattle.outcome_line.specs.declared.outcome.Which.TheVariants as which
+use Rattle.outcome.specs.declared.Outcome.{Outcome}
+use Rattle.outcome.specs.declared.Outcome.TheVariants as outcome
+use Rattle.outcome.specs.declared.Refused.{Refused}
+use Rattle.outcome.specs.declared.Refused.TheVariants as refused
+use Rattle.outcome.specs.declared.Which.TheVariants as which
 use Rattle.project_job.specs.Jobs.{cube_count, parts_of}
 
 -- The project is loaded first, then the list, then the cube if one is named; a job is judged behind them all. A file that stands

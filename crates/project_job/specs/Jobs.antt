@@ -26,12 +26,12 @@ use Rattle.project_file.specs.declared.fault.ProjectFault.{ProjectFault}
 use Rattle.record_timeline.specs.Accepted.{timeline_of}
 use Rattle.source_reels.specs.Reels.{table_of}
 use Rattle.tetra_look.specs.Look.{Lattice, lattice_of}
-use Rattle.outcome_line.specs.declared.outcome.Outcome.{Outcome}
-use Rattle.outcome_line.specs.declared.outcome.Outcome.TheVariants as outcome
-use Rattle.outcome_line.specs.declared.outcome.Refused.{Refused}
-use Rattle.outcome_line.specs.declared.outcome.Refused.TheVariants as refused
-use Rattle.outcome_line.specs.declared.outcome.Which.{Which}
-use Rattle.outcome_line.specs.declared.outcome.Which.TheVariants as which
+use Rattle.outcome.specs.declared.Outcome.{Outcome}
+use Rattle.outcome.specs.declared.Outcome.TheVariants as outcome
+use Rattle.outcome.specs.declared.Refused.{Refused}
+use Rattle.outcome.specs.declared.Refused.TheVariants as refused
+use Rattle.outcome.specs.declared.Which.{Which}
+use Rattle.outcome.specs.declared.Which.TheVariants as which
 
 -- the value, or the refusal that its fault is
 abbrev pub unless_refused : {A F : Type 0} → (F → Refused) → Result A F → Result A Refused

@@ -3,7 +3,7 @@
 use Rattle.std.specs.Prelude.{◌≡◌, ℕ, List, Result, Ok, Err}
 use Rattle.conform_job.specs.Refusals.{Files}
 use Rattle.conform_job.specs.declared.parts.JobParts.{JobParts}
-use Rattle.outcome_line.specs.declared.outcome.Refused.{Refused}
+use Rattle.outcome.specs.declared.Refused.{Refused}
 use Rattle.project_job.specs.Jobs.{ComesTo}
 
 -- A project comes to one answer: to one job, or to one first refusal.

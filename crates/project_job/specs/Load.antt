@@ -2,10 +2,10 @@
 -- * front of a file: its length and as many of its first bytes as are asked for, or why there are none
 use Rattle.std.specs.Prelude.{◌≡◌, ℕ, List, length, take, Option, None, IsSomeAnd, Result, MatchResult}
 use Rattle.project_job.specs.declared.loads.Front.{Front}
-use Rattle.outcome_line.specs.declared.outcome.Outcome.{Outcome}
-use Rattle.outcome_line.specs.declared.outcome.Outcome.TheVariants.{Refused as IsRefused, SourceFault, NoMemory}
-use Rattle.outcome_line.specs.declared.outcome.Refused.TheVariants.{NoFile}
-use Rattle.outcome_line.specs.declared.outcome.Which.{Which}
+use Rattle.outcome.specs.declared.Outcome.{Outcome}
+use Rattle.outcome.specs.declared.Outcome.TheVariants.{Refused as IsRefused, SourceFault, NoMemory}
+use Rattle.outcome.specs.declared.Refused.TheVariants.{NoFile}
+use Rattle.outcome.specs.declared.Which.{Which}
 
 -- it is the front of the file
 abbrev pub IsFront : Option (List ℕ) → ℕ → Front → Type 0

@@ -6,7 +6,7 @@ ghost use Rattle.scan_source.specs.State.{LeavesScan};
 ghost use Rattle.project_job.specs.Load.{IsLoadOf, IsOfLoad};
 
 use cf_base::PathText;
-use outcome_line::{Outcome, Refused, Which};
+use outcome::{Outcome, Refused, Which};
 use scan_source::{Loaded, Scans};
 use std::alloc::Global;
 

@@ -14,14 +14,14 @@ ghost use Rattle.project_job.specs.inside.Asked.{ComesBehind, HasLoadedBehind, I
 ghost use Rattle.project_job.specs.Jobs.{list_in, cube_in, look_in, look_of_text, parts_of, HasPlanned, unless_refused, IsOfJob, cube_count, AreCounted, AreLoaded};
 ghost use Rattle.project_job.specs.inside.Jobs.{itself, list_and_text, look_and_text, outcome_of_fault, Reaches, MeansFile};
 ghost use Rattle.scan_source.specs.State.{LeavesScan};
-ghost use Rattle.outcome_line.specs.declared.outcome.Refused.TheVariants as refused;
+ghost use Rattle.outcome.specs.declared.Refused.TheVariants as refused;
 
 use crate::loads::load;
 use cf_base::{EventList, Fail, PathText, Rate};
 use conform_job::{Job, JobFault, JobParts, job_digest};
 use cube_reader::read_cube;
 use edl_events::read_list;
-use outcome_line::{Outcome, Refused, Which};
+use outcome::{Outcome, Refused, Which};
 use project_file::{Project, read_project};
 use record_timeline::Timeline;
 use scan_source::Scans;

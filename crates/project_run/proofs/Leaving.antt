@@ -9,13 +9,13 @@ use Rattle.conform_job.specs.Job.{JobData}
 use Rattle.resume_ledger.specs.Look.{ViewState}
 use Rattle.resume_ledger.specs.declared.attach.OpenFault.{OpenFault}
 use Rattle.resume_ledger.specs.declared.attach.OpenFault.TheVariants as faults
-use Rattle.reel_qc.specs.declared.probe.ProbeKind.{ProbeKind}
+use Rattle.reel_qc.specs.declared.table.probe.ProbeKind.{ProbeKind}
 use Rattle.reel_writer.specs.declared.damage.CheckFault.{CheckFault}
 use Rattle.reel_writer.specs.declared.damage.CheckFault.TheVariants as damage
 use Rattle.frame_fetch.specs.declared.run_end.RunEnd.{RunEnd}
 use Rattle.frame_fetch.specs.declared.run_end.RunEnd.TheVariants as ends
-use Rattle.outcome_line.specs.declared.outcome.Outcome.{Outcome}
-use Rattle.outcome_line.specs.declared.outcome.Outcome.TheVariants as outcomes
+use Rattle.outcome.specs.declared.Outcome.{Outcome}
+use Rattle.outcome.specs.declared.Outcome.TheVariants as outcomes
 use Rattle.project_job.specs.Asked.{HasInspectedFor}
 use Rattle.project_job.specs.Jobs.{IsOfJob}
 use Rattle.project_run.specs.Look.{HasFound, IsBehindLook, outcome_of_fault}

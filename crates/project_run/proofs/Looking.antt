@@ -19,11 +19,11 @@ use Rattle.resume_ledger.specs.declared.attach.OpenFault.{OpenFault}
 use Rattle.reel_writer.specs.Reel.{frames_of, IsSoundReel}
 use Rattle.reel_writer.specs.Damage.{HasChecked}
 use Rattle.reel_qc.specs.Table.{quality_table}
-use Rattle.reel_qc.specs.declared.probe.ProbeKind.{ProbeKind}
+use Rattle.reel_qc.specs.declared.table.probe.ProbeKind.{ProbeKind}
 use Rattle.reel_qc.proofs.SheetLaws.{sheet_firmly, stays_acked, stays_sound}
 use Rattle.reel_qc.specs.Sheet.{WritesSheet, sheet_file, sheet_peak, cell_frames}
-use Rattle.outcome_line.specs.declared.outcome.Outcome.{Outcome}
-use Rattle.outcome_line.specs.declared.outcome.Outcome.TheVariants as outcome
+use Rattle.outcome.specs.declared.Outcome.{Outcome}
+use Rattle.outcome.specs.declared.Outcome.TheVariants as outcome
 use Rattle.project_run.specs.Look.{HasFound, HasSeen, outcome_of_fault}
 use Rattle.project_run.specs.Quality.{IsCounted, IsTabled}
 use Rattle.project_run.specs.Calls.{FolderState, WasOnlyRead, folder_state}

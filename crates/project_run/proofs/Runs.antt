@@ -7,9 +7,9 @@ use Rattle.conform_job.specs.Answers.{count_after}
 use Rattle.conform_job.specs.Job.{JobData}
 use Rattle.conform_job.specs.Names.{Tells}
 use Rattle.reel_disk.specs.Disk.{History}
-use Rattle.single_run.specs.Ends.{IsEnd}
-use Rattle.single_run.specs.Run.{WasOpened, WasUnopened, IsWhyUnopened}
-use Rattle.single_run.specs.declared.report.Report.{Report}
+use Rattle.run_alone.specs.Ends.{IsEnd}
+use Rattle.run_alone.specs.Run.{WasOpened, WasUnopened, IsWhyUnopened}
+use Rattle.run_alone.specs.declared.report.Report.{Report}
 use Rattle.frame_fetch.specs.declared.run_end.RunEnd.{RunEnd}
 use Rattle.frame_fetch.specs.declared.run_end.RunEnd.TheVariants as ends
 use Rattle.project_job.specs.Asked.{HasLoadedFor}
@@ -22,8 +22,8 @@ use Rattle.project_run.specs.Calls.{FolderState}
 use Rattle.project_run.specs.Run.{IsKnown, IsOfRun, IsJobRun, IsRunReply, IsUnplanned}
 use Rattle.project_run.specs.Look.{IsLookReply, IsOfLook}
 use Rattle.project_run.specs.Verify.{IsOfVerify}
-use Rattle.outcome_line.specs.declared.outcome.Outcome.{Outcome}
-use Rattle.outcome_line.specs.declared.outcome.Outcome.TheVariants as outcomes
+use Rattle.outcome.specs.declared.Outcome.{Outcome}
+use Rattle.outcome.specs.declared.Outcome.TheVariants as outcomes
 
 -- what follows in each case of a result
 pub match_each : {A B : Type 0} (r : Result A B) (P P' : A → Type 0) (Q Q' : B → Type 0) → MatchResult r P Q → ((a : A) → P a → P' a) → ((b : B) → Q b → Q' b) → MatchResult r P' Q'

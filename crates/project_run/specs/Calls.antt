@@ -16,9 +16,9 @@ use Rattle.reel_disk.specs.Disk.{History, IsStill}
 use Rattle.reel_disk.specs.State.{DiskState, LeavesDisk}
 use Rattle.scan_source.specs.State.{LeavesScan, ScanState}
 use Rattle.scan_source.specs.World.{World}
-use Rattle.outcome_line.specs.Output.{line_of}
-use Rattle.outcome_line.specs.declared.outcome.Outcome.{Outcome}
-use Rattle.outcome_line.specs.declared.outcome.Outcome.TheVariants as outcome
+use Rattle.printed_lines.specs.Lines.{line_of}
+use Rattle.outcome.specs.declared.Outcome.{Outcome}
+use Rattle.outcome.specs.declared.Outcome.TheVariants as outcome
 use Rattle.project_job.specs.Asked.{HasInspectedFor}
 
 -- what it came to: its output, or an outcome with its line

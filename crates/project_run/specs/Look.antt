@@ -14,8 +14,8 @@ use Rattle.resume_ledger.specs.Look.{ViewState, HasLooked, IsLookFor}
 use Rattle.resume_ledger.specs.declared.attach.OpenFault.{OpenFault}
 use Rattle.resume_ledger.specs.declared.attach.OpenFault.TheVariants as faults
 use Rattle.project_job.specs.Jobs.{ComesTo, cube_count}
-use Rattle.outcome_line.specs.declared.outcome.Outcome.{Outcome}
-use Rattle.outcome_line.specs.declared.outcome.Outcome.TheVariants as outcome
+use Rattle.outcome.specs.declared.Outcome.{Outcome}
+use Rattle.outcome.specs.declared.Outcome.TheVariants as outcome
 use Rattle.project_run.specs.Calls.{FolderState, WasOnlyRead}
 use Rattle.project_run.specs.Run.{IsOfRun, IsUnplanned}
 

@@ -8,9 +8,9 @@ use Rattle.conform_job.specs.Job.{JobData}
 use Rattle.resume_ledger.specs.Look.{ViewState}
 use Rattle.reel_writer.specs.Reel.{IsSoundReel}
 use Rattle.reel_qc.specs.Table.{IsTable, defined_table, quality_table}
-use Rattle.reel_qc.specs.declared.probe.ProbeKind.{ProbeKind}
-use Rattle.outcome_line.specs.declared.outcome.Outcome.{Outcome}
-use Rattle.outcome_line.specs.declared.outcome.Outcome.TheVariants as outcome
+use Rattle.reel_qc.specs.declared.table.probe.ProbeKind.{ProbeKind}
+use Rattle.outcome.specs.declared.Outcome.{Outcome}
+use Rattle.outcome.specs.declared.Outcome.TheVariants as outcome
 use Rattle.project_run.specs.Look.{HasSeen, IsBehindLook, IsLookReply}
 use Rattle.project_run.specs.Calls.{FolderState}
 

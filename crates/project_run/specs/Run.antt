@@ -24,16 +24,16 @@ use Rattle.conform_job.specs.Answers.{count_after}
 use Rattle.conform_job.specs.Job.{JobData}
 use Rattle.conform_job.specs.Keys.{info_at}
 use Rattle.frame_fetch.specs.Ends.{IsChange}
-use Rattle.single_run.specs.Run.{WasRun, AreAllAcked, HasWhole, IsOwnFileOf, MayWriteOf}
-use Rattle.single_run.specs.declared.report.Report.{Report}
+use Rattle.run_alone.specs.Run.{WasRun, AreAllAcked, HasWhole, IsOwnFileOf, MayWriteOf}
+use Rattle.run_alone.specs.declared.report.Report.{Report}
 use Rattle.frame_fetch.specs.declared.run_end.RunEnd.{RunEnd}
 use Rattle.frame_fetch.specs.declared.run_end.RunEnd.TheVariants as ends
 use Rattle.project_job.specs.Asked.{HasLoadedFor}
 use Rattle.project_job.specs.Jobs.{ComesTo, HasPlanned, IsOfJob, AreLoaded, cube_count}
 use Rattle.printed_text.specs.Text.{spaced_line}
 use Rattle.project_run.specs.Calls.{FolderState}
-use Rattle.outcome_line.specs.declared.outcome.Outcome.{Outcome}
-use Rattle.outcome_line.specs.declared.outcome.Outcome.TheVariants as outcome
+use Rattle.outcome.specs.declared.Outcome.{Outcome}
+use Rattle.outcome.specs.declared.Outcome.TheVariants as outcome
 
 -- from 1 to 16
 abbrev pub IsShareCount : ℕ → Type 0

@@ -15,8 +15,8 @@ use Rattle.resume_ledger.specs.Steps.{IsFirmly}
 use Rattle.reel_writer.specs.Reel.{HasAcked, IsSoundReel}
 use Rattle.reel_qc.specs.Sheet.{cell_frames, sheet_file, sheet_peak, WritesSheet}
 use Rattle.printed_text.specs.Text.{spaced_line}
-use Rattle.outcome_line.specs.declared.outcome.Outcome.{Outcome}
-use Rattle.outcome_line.specs.declared.outcome.Outcome.TheVariants as outcome
+use Rattle.outcome.specs.declared.Outcome.{Outcome}
+use Rattle.outcome.specs.declared.Outcome.TheVariants as outcome
 use Rattle.project_run.specs.Look.{HasFound, IsBehindLook, IsLookReply}
 use Rattle.project_run.specs.Calls.{FolderState, WasOnlyRead}
 

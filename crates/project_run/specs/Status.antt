@@ -9,8 +9,8 @@ use Rattle.conform_job.specs.Job.{JobData}
 use Rattle.resume_ledger.specs.Peek.{HasPeeked, IsPeekFor}
 use Rattle.resume_ledger.specs.declared.attach.OpenFault.{OpenFault}
 use Rattle.printed_text.specs.Text.{spaced_line}
-use Rattle.outcome_line.specs.declared.outcome.Outcome.{Outcome}
-use Rattle.outcome_line.specs.declared.outcome.Outcome.TheVariants as outcome
+use Rattle.outcome.specs.declared.Outcome.{Outcome}
+use Rattle.outcome.specs.declared.Outcome.TheVariants as outcome
 use Rattle.project_run.specs.Look.{IsLookReply, outcome_of_fault}
 use Rattle.project_run.specs.Calls.{FolderState, WasOnlyRead}
 

@@ -11,8 +11,8 @@ use Rattle.reel_disk.specs.Names.{file_name}
 use Rattle.conform_job.specs.Job.{JobData, file_of}
 use Rattle.resume_ledger.specs.Look.{ViewState, hash_at}
 use Rattle.reel_writer.specs.Reel.{frames_of}
-use Rattle.outcome_line.specs.declared.outcome.Outcome.{Outcome}
-use Rattle.outcome_line.specs.declared.outcome.Outcome.TheVariants as outcome
+use Rattle.outcome.specs.declared.Outcome.{Outcome}
+use Rattle.outcome.specs.declared.Outcome.TheVariants as outcome
 use Rattle.project_run.specs.Look.{HasSeen, IsLookReply}
 use Rattle.project_run.specs.Calls.{FolderState}
 

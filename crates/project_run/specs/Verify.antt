@@ -12,8 +12,8 @@ use Rattle.reel_writer.specs.Damage.{HasChecked, IsCheckFor, record_count}
 use Rattle.reel_writer.specs.declared.damage.CheckFault.{CheckFault}
 use Rattle.reel_writer.specs.declared.damage.CheckFault.TheVariants as faults
 use Rattle.printed_text.specs.Text.{spaced_line}
-use Rattle.outcome_line.specs.declared.outcome.Outcome.{Outcome}
-use Rattle.outcome_line.specs.declared.outcome.Outcome.TheVariants as outcome
+use Rattle.outcome.specs.declared.Outcome.{Outcome}
+use Rattle.outcome.specs.declared.Outcome.TheVariants as outcome
 use Rattle.project_run.specs.Look.{HasSeen, IsLookReply, IsOfLook}
 use Rattle.project_run.specs.Calls.{FolderState}
 

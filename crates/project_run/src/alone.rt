@@ -12,11 +12,11 @@ use crate::report::reply_of;
 use cf_base::PathText;
 use conform_job::Job;
 use frame_range::{Extent, FrameRange, range_of};
-use outcome_line::Outcome;
+use outcome::Outcome;
 use project_job::planned;
 use reel_disk::Disk;
+use run_alone::run_alone;
 use scan_source::Scans;
-use single_run::run_alone;
 use std::alloc::Global;
 use std::marker::Brand;
 

@@ -12,7 +12,7 @@ use crate::report::put_count;
 use cf_base::PathText;
 use conform_job::Job;
 use frame_hash::Hasher;
-use outcome_line::Outcome;
+use outcome::Outcome;
 use project_job::planned;
 use reel_disk::Disk;
 use reel_writer::{CheckFault, check};

@@ -14,7 +14,7 @@ use crate::progress::outcome_of_fault;
 use crate::report::put_count;
 use cf_base::PathText;
 use conform_job::Job;
-use outcome_line::Outcome;
+use outcome::Outcome;
 use project_job::planned;
 use reel_disk::Disk;
 use reel_qc::{SheetDone, SheetFault, Tone, make_sheet};

@@ -11,7 +11,7 @@ ghost use Rattle.project_run.specs.Sums.{IsSummed, IsSumsReply, sum_line, sums_t
 use crate::progress::outcome_of_fault;
 use cf_base::{FileId, PathText, frame_file_name};
 use conform_job::Job;
-use outcome_line::Outcome;
+use outcome::Outcome;
 use printed_text::{put_bytes, put_digest};
 use project_job::planned;
 use reel_disk::Disk;

@@ -8,7 +8,7 @@ ghost use Rattle.project_run.specs.Status.{IsStatus, IsStatusReply, status_text}
 use crate::report::put_count;
 use cf_base::PathText;
 use conform_job::Job;
-use outcome_line::Outcome;
+use outcome::Outcome;
 use project_job::planned;
 use reel_disk::Disk;
 use resume_ledger::{Ledger, OpenFault};

@@ -11,7 +11,7 @@ ghost use Rattle.reel_disk.specs.State.{LeavesDisk, OnlyReads};
 use crate::progress::outcome_of_fault;
 use cf_base::PathText;
 use conform_job::Job;
-use outcome_line::Outcome;
+use outcome::Outcome;
 use project_job::planned;
 use reel_disk::Disk;
 use reel_qc::{Counter, Probe, QcFault, quality_table};

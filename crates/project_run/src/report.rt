@@ -3,7 +3,7 @@ ghost use Rattle.std.specs.Prelude.{◌≡◌, ◌≤◌, ◌↔◌, [], ◌∷�
 ghost use Rattle.conform_job.specs.Keys.{info_at};
 ghost use Rattle.printed_text.specs.Text.{spaced_line};
 ghost use Rattle.project_run.specs.Run.{IsKnown, IsOfRun, ReportsEnd, name_in, outcome_of_end, part_text, report_text, run_text};
-ghost use Rattle.outcome_line.specs.declared.outcome.Outcome.TheVariants as outcomes;
+ghost use Rattle.outcome.specs.declared.Outcome.TheVariants as outcomes;
 ghost use Rattle.project_run.specs.Calls.{Replies};
 
 use cf_base::Key;
@@ -11,9 +11,9 @@ use conform_job::Job;
 use dpx_header::FrameInfo;
 use frame_fetch::RunEnd;
 use frame_range::{Extent, FrameRange};
-use outcome_line::Outcome;
+use outcome::Outcome;
 use printed_text::{put_bytes, put_number};
-use single_run::Report;
+use run_alone::Report;
 use source_reels::Seen;
 use std::alloc::{AllocError, Global};
 

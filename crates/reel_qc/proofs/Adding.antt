@@ -14,8 +14,8 @@ use Rattle.conform_job.specs.Job.{JobData}
 use Rattle.reel_qc.specs.inside.Boxes.{AreSums, HasSums, HasPicture, HasRoomAt, IsBoxAt, mean_at, run_start}
 use Rattle.reel_qc.specs.Counts.{blue_of, green_of, red_of}
 use Rattle.reel_qc.specs.Sheet.{box_colour, box_pixels, boxes_of, rounded_mean}
-use Rattle.reel_qc.specs.declared.boxes.Boxes.{Boxes}
-use Rattle.reel_qc.specs.declared.boxes.Sums.{Sums}
+use Rattle.reel_qc.specs.declared.sheet.boxes.Boxes.{Boxes}
+use Rattle.reel_qc.specs.declared.sheet.boxes.Sums.{Sums}
 
 abbrev in_box : (width u v k : ℕ) → Bool
 in_box width u v k = (k % width / 16 == u) && (k / width / 16 == v)

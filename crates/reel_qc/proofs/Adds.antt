@@ -5,7 +5,7 @@ use Rattle.std.proofs.lemmas.List.{get_or-append_right, get_or_append_left, leng
 use Rattle.std.proofs.Math.Nat.{mod-lt, mul-le-mul}
 use Rattle.std.proofs.lemmas.Nat.{div-mul-add, mod-mul-add}
 use Rattle.std.proofs.Math.Facts.{Fits-lt-pow}
-use Rattle.reel_qc.specs.declared.probe.ProbeKind.{ProbeKind}
+use Rattle.reel_qc.specs.declared.table.probe.ProbeKind.{ProbeKind}
 use Rattle.reel_qc.specs.Counts.{HasAdded, count_of, counts_of}
 use Rattle.reel_qc.specs.inside.Counts.{block_of, cell_of}
 use Rattle.reel_qc.specs.inside.Table.{AddsCounts, HasCounted}

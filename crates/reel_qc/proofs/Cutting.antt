@@ -6,8 +6,8 @@ use Rattle.std.proofs.lemmas.List.{get_or_default}
 use Rattle.std.proofs.Math.Facts.{Fits-lt-pow}
 use Rattle.rayon.specs.Lists.{chunks_of}
 use Rattle.rayon.proofs.ToStd.{chunks_of-concat}
-use Rattle.reel_qc.specs.declared.probe.ProbeKind.{ProbeKind}
-use Rattle.reel_qc.specs.declared.probe.ProbeKind.TheVariants.{High, Low, Sum}
+use Rattle.reel_qc.specs.declared.table.probe.ProbeKind.{ProbeKind}
+use Rattle.reel_qc.specs.declared.table.probe.ProbeKind.TheVariants.{High, Low, Sum}
 use Rattle.reel_qc.specs.Counts.{count_of, reaches_high, reaches_low, code_sum}
 
 -- what one word adds to the count of a kind

@@ -11,7 +11,7 @@ use Rattle.cf_base.specs.Rgb.{codes_of}
 use Rattle.conform_job.specs.Job.{JobData}
 use Rattle.std.proofs.lemmas.List.{get_or_default}
 use Rattle.std.proofs.lemmas.Nat.{div_below}
-use Rattle.reel_qc.specs.declared.boxes.Boxes.{Boxes}
+use Rattle.reel_qc.specs.declared.sheet.boxes.Boxes.{Boxes}
 use Rattle.reel_qc.specs.inside.Boxes.{AreCells, HasPicture, IsDrawn, pictured_line}
 use Rattle.reel_qc.specs.Sheet.{box_colour, cell_height, cell_width, sheet_width, toned_bytes}
 

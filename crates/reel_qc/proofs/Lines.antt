@@ -16,7 +16,7 @@ use Rattle.printed_text.specs.Text.{spaced_line}
 use Rattle.reel_qc.specs.Counts.{count_of, counts_of}
 use Rattle.reel_qc.specs.Table.{acked_frames, acked_of, defined_row, defined_table, kind_word, quality_table, row_line, row_of, table_of}
 use Rattle.reel_qc.specs.inside.Table.{HasRows}
-use Rattle.reel_qc.specs.declared.probe.ProbeKind.{ProbeKind}
+use Rattle.reel_qc.specs.declared.table.probe.ProbeKind.{ProbeKind}
 
 joined : (word : List ℕ) (words : List (List ℕ)) → join_with_byte 32 (word ∷ words) ≡ word ++ flat_map (λ w. 32 ∷ w) words
 joined word [] = sym (append-nil word)

@@ -14,7 +14,7 @@ use Rattle.resume_ledger.specs.Look.{ViewState}
 use Rattle.reel_qc.specs.inside.Boxes.{HasPicture, HasPictures, HasSums, IsCell}
 use Rattle.reel_qc.specs.Sheet.{boxes_of, cell_picture, whole_picture}
 use Rattle.reel_qc.specs.Words.{frame_words}
-use Rattle.reel_qc.specs.declared.boxes.Boxes.{Boxes}
+use Rattle.reel_qc.specs.declared.sheet.boxes.Boxes.{Boxes}
 
 -- a picture that is short is none
 pub short_picture : (job : JobData) (words : List ℕ) → length words < pixel_count job → HasPicture job (whole_picture job words) None

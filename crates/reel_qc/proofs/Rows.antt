@@ -7,7 +7,7 @@ use Rattle.reel_qc.specs.Sheet.{box_pixels, boxes_of, rounded_mean}
 use Rattle.reel_qc.specs.Table.{row_line, table_of}
 use Rattle.reel_qc.specs.Tones.{squared}
 use Rattle.reel_qc.specs.Words.{words_from}
-use Rattle.reel_qc.specs.declared.probe.ProbeKind.TheVariants.{High, Low, Sum}
+use Rattle.reel_qc.specs.declared.table.probe.ProbeKind.TheVariants.{High, Low, Sum}
 
 -- (1023, 0, 512), (1019, 4, 4) with a filler that is no code, and (1020, 3, 3)
 abbrev three_words : List ℕ

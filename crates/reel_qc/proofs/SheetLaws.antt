@@ -32,7 +32,7 @@ use Rattle.reel_writer.specs.Reel.{HasAcked, IsSoundReel, frames_of}
 use Rattle.reel_qc.specs.inside.Boxes.{AreCells, HasDrawn, HasPictures, IsDrawn, pictured_line}
 use Rattle.reel_qc.specs.Sheet.{WritesSheet, box_colour, cell_frames, cell_height, cell_width, line_colours, picture_at, sheet_colours, sheet_height, sheet_rows, sheet_width, toned, toned_bytes}
 use Rattle.reel_qc.specs.Tones.{IsToneTable}
-use Rattle.reel_qc.specs.declared.boxes.Boxes.{Boxes}
+use Rattle.reel_qc.specs.declared.sheet.boxes.Boxes.{Boxes}
 use Rattle.reel_qc.proofs.Drawn.{drawn_along, drawn_none}
 use Rattle.reel_qc.proofs.Peaks.{peak_is}
 

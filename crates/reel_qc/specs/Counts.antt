@@ -3,8 +3,8 @@
 --   (low), all three codes of all of them added up (sum)
 use Rattle.std.specs.Prelude.{◌≡◌, ℕ, ◌+◌, ◌/◌, ◌%◌, ◌^◌, ◌≤◌, Bool, List, length, map, max, min, nat_le, slice_index}
 use Rattle.std.specs.List.{count_by, sum_by}
-use Rattle.reel_qc.specs.declared.probe.ProbeKind.{ProbeKind}
-use Rattle.reel_qc.specs.declared.probe.ProbeKind.TheVariants.{High, Low, Sum}
+use Rattle.reel_qc.specs.declared.table.probe.ProbeKind.{ProbeKind}
+use Rattle.reel_qc.specs.declared.table.probe.ProbeKind.TheVariants.{High, Low, Sum}
 
 -- as many words as a frame of the largest size has, or fewer
 abbrev pub AreFrameWords : List ℕ → Type 0

@@ -15,8 +15,8 @@ use Rattle.resume_ledger.specs.Look.{ViewState, IsViewOf}
 use Rattle.reel_writer.specs.Reel.{frames_of, IsSoundReel}
 use Rattle.reel_qc.specs.Counts.{count_of}
 use Rattle.reel_qc.specs.Words.{frame_words}
-use Rattle.reel_qc.specs.declared.probe.ProbeKind.{ProbeKind}
-use Rattle.reel_qc.specs.declared.probe.ProbeKind.TheVariants.{High, Low, Sum}
+use Rattle.reel_qc.specs.declared.table.probe.ProbeKind.{ProbeKind}
+use Rattle.reel_qc.specs.declared.table.probe.ProbeKind.TheVariants.{High, Low, Sum}
 
 -- a frame, and the words of its file
 pub record Row : Type 0 where

@@ -1,5 +1,5 @@
 //! The digests of several files, by what counts.
-use crate::counter::{Forked, OneThread};
+use crate::table::{Forked, OneThread};
 use frame_hash::{Hasher, Room, hash_behind, hash_forked};
 use rayon::current_num_threads;
 use std::thread::Threads;

@@ -5,30 +5,14 @@
 //! alone. The counts of a frame can be made in pieces by several threads, and are the same then.
 #![tactic(auto)]
 
-mod blocks;
-mod boxes;
-mod cells;
-mod counter;
-mod counting;
-mod counts;
-mod curves;
-mod drawing;
 mod hashing;
-mod pieces;
-mod probe;
 mod sheet;
 mod table;
-mod tone;
-mod tone_table;
 mod words;
 
-pub use counter::{Counter, Forked, OneThread};
-pub use counts::{high, low, sum};
-pub use curves::{square, square_table};
-pub use pieces::count_forked;
-pub use probe::{Probe, ProbeKind};
-pub use sheet::{SheetDone, SheetFault, make_sheet};
-pub use table::{QcFault, quality_table};
-pub use tone::Tone;
-pub use tone_table::ToneTable;
+pub use sheet::{SheetDone, SheetFault, Tone, ToneTable, make_sheet, square, square_table};
+pub use table::{
+    Counter, Forked, OneThread, Probe, ProbeKind, QcFault, count_forked, high, low, quality_table,
+    sum,
+};
 pub use words::frame_words;

@@ -11,18 +11,27 @@ ghost use Rattle.scan_source.specs.World.{World};
 ghost use Rattle.reel_qc.specs.inside.Boxes.{DrawsRow, DrawsSheet};
 ghost use Rattle.reel_qc.specs.Sheet.{cell_frames, cell_height, sheet_file, sheet_head, sheet_peak, sheet_rows, HasWrittenSheet, WritesSheet};
 
-use crate::boxes::boxes_of;
-use crate::cells::{cell_frames, load_row};
-use crate::drawing::{Drawing, draw_cells};
-use crate::tone::Tone;
+mod boxes;
+mod cells;
+mod curves;
+mod drawing;
+mod tone;
+mod tone_table;
+
+use crate::sheet::boxes::boxes_of;
+use crate::sheet::cells::{cell_frames, load_row};
+use crate::sheet::drawing::{Drawing, draw_cells};
 use crate::words::{Buffers, pixels_of};
 use cf_base::FileId;
 use conform_job::Job;
+pub use curves::{square, square_table};
 use dpx_header::{OutHead, write_header};
 use printed_text::put_bytes;
 use reel_disk::Disk;
 use resume_ledger::{LedgerView, write_firmly};
 use std::alloc::{AllocError, Global};
+pub use tone::Tone;
+pub use tone_table::ToneTable;
 
 /// What a sheet has.
 #[derive(Clone, Copy, Debug, PartialEq, Eq)]
@@ -154,18 +163,15 @@ fn draw_sheet<D: Disk>(
     let Ok(mut buffers) = Buffers::new(alloc, pixels_of(job)) else {
         return Err(SheetFault::NoMemory);
     };
+    let shown = Shown {
+        alloc,
+        job,
+        view,
+        frames,
+        tone,
+    };
     for row in 0..rows {
-        match draw_row(
-            alloc,
-            disk,
-            job,
-            view,
-            frames,
-            tone,
-            row,
-            &mut buffers,
-            &mut drawing,
-        ) {
+        match draw_row(&shown, disk, row, &mut buffers, &mut drawing) {
             Ok(()) => {}
             Err(fault) => return Err(fault),
         }
@@ -236,34 +242,49 @@ fn height_of(rows: u32, cell: u32) -> u32
     rows * cell
 }
 
+/// What a sheet shows: the first frames of the job's events, of which the view says whether they are acknowledged, under a tone.
+#[derive(Drop)]
+struct Shown<'j, 'v, 'f, 't> {
+    alloc: Global,
+    job: &'j Job,
+    view: &'v LedgerView,
+    frames: &'f [u32],
+    tone: &'t Tone,
+}
+
 /// Draws a row, behind those before it.
 fn draw_row<D: Disk>(
-    alloc: Global,
+    shown: &Shown<'_, '_, '_, '_>,
     disk: &mut D,
-    job: &Job,
-    view: &LedgerView,
-    frames: &[u32],
-    tone: &Tone,
     row: u32,
     buffers: &mut Buffers,
     drawing: &mut Drawing,
 ) -> Result<(), SheetFault>
-    requires size { length view.now.gates ≡ frames_of job.now }
-    requires frames { frames.now ≡ cell_frames job.now }
-    requires within { All (λ i. i < frames_of job.now) frames.now }
+    requires size { length shown.now.view.now.gates ≡ frames_of shown.now.job.now }
+    requires frames { shown.now.frames.now ≡ cell_frames shown.now.job.now }
+    requires within { All (λ i. i < frames_of shown.now.job.now) shown.now.frames.now }
     requires row { row ≤ 4096 }
     requires piece { length buffers.old.piece.items ≡ 65536 }
-    ensures drawn { OnOk result (DrawsRow tone.now.table job.now view.now D.tells (D.state disk.old).history row drawing.old drawing.new) }
+    ensures drawn { OnOk result (DrawsRow shown.now.tone.now.table shown.now.job.now shown.now.view.now
+        D.tells (D.state disk.old).history row drawing.old drawing.new) }
     ensures piece { length buffers.new.piece.items ≡ 65536 }
     ensures reads { OnlyReads D.tells (D.state disk.old) (D.state disk.new) }
     ensures disk { LeavesDisk (IsErrOf result SheetFault.DiskFault) (D.state disk.old) (D.state disk.new) }
 {
-    job.recall();
-    let cells = match load_row(alloc, disk, job, view, frames, row, buffers) {
+    shown.job.recall();
+    let cells = match load_row(
+        shown.alloc,
+        disk,
+        shown.job,
+        shown.view,
+        shown.frames,
+        row,
+        buffers,
+    ) {
         Ok(cells) => cells,
         Err(fault) => return Err(fault),
     };
-    match draw_cells(job, tone, &cells, row, drawing) {
+    match draw_cells(shown.job, shown.tone, &cells, row, drawing) {
         Ok(()) => Ok(()),
         Err(_) => Err(SheetFault::NoMemory),
     }

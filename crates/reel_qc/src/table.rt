@@ -7,12 +7,21 @@ ghost use Rattle.reel_writer.specs.Reel.{frames_of};
 ghost use Rattle.reel_qc.specs.Table.{IsTable, kind_word, quality_table, IsDefinedWhereSound};
 ghost use Rattle.reel_qc.specs.inside.Table.{AddsRow, AddsRows};
 
-use crate::counter::Counter;
-use crate::counting::count_frame;
-use crate::probe::{Probe, ProbeKind};
+mod blocks;
+mod counter;
+mod counting;
+mod counts;
+mod pieces;
+mod probe;
+
+use crate::table::counting::{Counting, count_frame};
 use crate::words::{Buffers, pixels_of};
 use conform_job::Job;
+pub use counter::{Counter, Forked, OneThread};
+pub use counts::{high, low, sum};
+pub use pieces::count_forked;
 use printed_text::{put_bytes, put_number};
+pub use probe::{Probe, ProbeKind};
 use reel_disk::Disk;
 use resume_ledger::LedgerView;
 use std::alloc::{AllocError, Global};
@@ -63,16 +72,12 @@ pub fn quality_table<D: Disk, C: Counter>(
     let Ok(()) = put_kinds(&mut text, probes) else {
         return Err(QcFault::NoMemory);
     };
-    let frames = match put_rows(
+    let counting = Counting {
         alloc,
         counter,
         probes,
-        disk,
-        job,
-        view,
-        &mut buffers,
-        &mut text,
-    ) {
+    };
+    let frames = match put_rows(&counting, disk, job, view, &mut buffers, &mut text) {
         Ok(frames) => frames,
         Err(fault) => return Err(fault),
     };
@@ -134,9 +139,7 @@ fn put_frames(text: &mut Vec<u8>, frames: u32) -> Result<(), AllocError>
 
 /// The lines of all frames that are acknowledged, and how many these are.
 fn put_rows<D: Disk, C: Counter>(
-    alloc: Global,
-    counter: &C,
-    probes: &[Probe],
+    counting: &Counting<'_, '_, C>,
     disk: &mut D,
     job: &Job,
     view: &LedgerView,
@@ -149,13 +152,13 @@ fn put_rows<D: Disk, C: Counter>(
     requires room { 0 < length buffers.old.words.items }
     requires few { length buffers.old.words.items ≤ 16777216 }
     ensures rows { IfOk result
-        (AddsRows (map (λ p. p.kind) probes.now) job.now view.now D.tells (D.state disk.old).history text.old text.new) }
+        (AddsRows (map (λ p. p.kind) counting.now.probes.now) job.now view.now D.tells (D.state disk.old).history text.old text.new) }
     ensures reads { OnlyReads D.tells (D.state disk.old) (D.state disk.new) }
     ensures disk { LeavesDisk (IsErrOf result QcFault.DiskFault) (D.state disk.old) (D.state disk.new) }
 {
     let mut frames = 0;
     for i in 0..job.count() {
-        match put_frame(alloc, counter, probes, disk, job, view, i, buffers, text) {
+        match put_frame(counting, disk, job, view, i, buffers, text) {
             Ok(more) => frames += more,
             Err(fault) => return Err(fault),
         }
@@ -165,9 +168,7 @@ fn put_rows<D: Disk, C: Counter>(
 
 /// The line of a frame, where it is acknowledged: whether it has one, 1 or 0.
 fn put_frame<D: Disk, C: Counter>(
-    alloc: Global,
-    counter: &C,
-    probes: &[Probe],
+    counting: &Counting<'_, '_, C>,
     disk: &mut D,
     job: &Job,
     view: &LedgerView,
@@ -182,7 +183,7 @@ fn put_frame<D: Disk, C: Counter>(
     requires room { 0 < length buffers.old.words.items }
     requires few { length buffers.old.words.items ≤ 16777216 }
     ensures rows { IfOk result
-        (AddsRow (map (λ p. p.kind) probes.now) job.now view.now i D.tells (D.state disk.old).history text.old text.new) }
+        (AddsRow (map (λ p. p.kind) counting.now.probes.now) job.now view.now i D.tells (D.state disk.old).history text.old text.new) }
     ensures few { IfOk result (λ more. more ≤ 1) }
     ensures piece { length buffers.new.piece.items ≡ 65536 }
     ensures room { length buffers.new.words.items ≡ length buffers.old.words.items }
@@ -192,7 +193,7 @@ fn put_frame<D: Disk, C: Counter>(
     if !view.is_acked(i) {
         return Ok(0);
     }
-    let counts = match count_frame(alloc, counter, probes, disk, job, i, buffers) {
+    let counts = match count_frame(counting, disk, job, i, buffers) {
         Ok(counts) => counts,
         Err(fault) => return Err(fault),
     };

@@ -1,2 +1,5 @@
-pub mod Crews
+pub mod Leaving
+pub mod Marks
+pub mod Station
+pub mod StationSteps
 pub mod inside

@@ -5,8 +5,8 @@ use cf_base::{FileId, PathText, last_digits};
 use conform_job::Job;
 use project_job::planned;
 use reel_disk::{Disk, Got, MemoryDisk};
+use run_crew::{Report, RunEnd, run_alone};
 use scan_source::MemoryScans;
-use station::{Report, RunEnd, run_alone};
 use std::alloc::Global;
 use std::marker::Brand;
 

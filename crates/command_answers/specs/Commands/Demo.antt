@@ -1,10 +1,10 @@
 -- The command `demo N`: it renders a job of N events that is made in memory.
 use Rattle.std.specs.Prelude.{◌≡◌, ℕ, List}
 use Rattle.scan_source.specs.World.{file_at}
-use Rattle.demo_job.specs.Files.{project_path}
-use Rattle.demo_run.specs.Demo.{demo_world, IsShown, IsInstead}
-use Rattle.outcome_line.specs.declared.outcome.Outcome.{Outcome}
-use Rattle.outcome_line.specs.declared.outcome.Outcome.TheVariants.{Done}
+use Rattle.demo.specs.Files.{project_path}
+use Rattle.demo.specs.Demo.{demo_world, IsShown, IsInstead}
+use Rattle.outcome.specs.declared.Outcome.{Outcome}
+use Rattle.outcome.specs.declared.Outcome.TheVariants.{Done}
 use Rattle.command_answers.specs.ByFile.{LooksAtNone}
 use Rattle.command_answers.specs.ByJob.{HasJob}
 use Rattle.command_answers.specs.Meaning.{HasReelFailed, IsThrough, LeavesReel, Meaning, no_calls}

@@ -12,10 +12,10 @@ use Rattle.dpx_header.specs.Writing.{header_of}
 use Rattle.dpx_pack.specs.Pixels.{pixels}
 use Rattle.scan_source.specs.Answers.{first_bytes}
 use Rattle.scan_source.specs.World.{file_at}
-use Rattle.outcome_line.specs.declared.outcome.Outcome.{Outcome}
-use Rattle.outcome_line.specs.declared.outcome.Outcome.TheVariants.{Done, Refused as IsRefused, SourceFault, NoMemory}
-use Rattle.outcome_line.specs.declared.outcome.Refused.TheVariants as refused
-use Rattle.outcome_line.specs.declared.outcome.Which.TheVariants as which
+use Rattle.outcome.specs.declared.Outcome.{Outcome}
+use Rattle.outcome.specs.declared.Outcome.TheVariants.{Done, Refused as IsRefused, SourceFault, NoMemory}
+use Rattle.outcome.specs.declared.Refused.TheVariants as refused
+use Rattle.outcome.specs.declared.Which.TheVariants as which
 use Rattle.command_answers.specs.ByFile.{ByFile, HasLoadedOne, IsRightBy, LooksAtNone}
 use Rattle.command_answers.specs.Meaning.{HasReelFailed, IsThrough, LeavesReel, Meaning, no_calls}
 

@@ -5,10 +5,10 @@ use Rattle.cf_base.specs.declared.timing.Rate.{Rate}
 use Rattle.scan_source.specs.World.{file_at}
 use Rattle.edl_events.specs.Lists.{list_of}
 use Rattle.printed_tables.specs.Table.{event_table}
-use Rattle.outcome_line.specs.declared.outcome.Outcome.{Outcome}
-use Rattle.outcome_line.specs.declared.outcome.Outcome.TheVariants.{Done, Refused as IsRefused, SourceFault, NoMemory}
-use Rattle.outcome_line.specs.declared.outcome.Refused.TheVariants as refused
-use Rattle.outcome_line.specs.declared.outcome.Which.TheVariants as which
+use Rattle.outcome.specs.declared.Outcome.{Outcome}
+use Rattle.outcome.specs.declared.Outcome.TheVariants.{Done, Refused as IsRefused, SourceFault, NoMemory}
+use Rattle.outcome.specs.declared.Refused.TheVariants as refused
+use Rattle.outcome.specs.declared.Which.TheVariants as which
 use Rattle.command_answers.specs.ByFile.{ByFile, HasLoadedOne, IsRightBy, LooksAtNone}
 use Rattle.command_answers.specs.Meaning.{HasReelFailed, IsThrough, LeavesReel, Meaning, no_calls}
 

@@ -1,8 +1,8 @@
 -- The command `verify PROJECT`: it looks at the folder, and puts whether what is rendered of the project's reel is still whole.
 use Rattle.std.specs.Prelude.{true, ℕ, List}
 use Rattle.project_run.specs.Verify.{IsVerifyReply}
-use Rattle.outcome_line.specs.declared.outcome.Outcome.{Outcome}
-use Rattle.outcome_line.specs.declared.outcome.Outcome.TheVariants.{Damaged}
+use Rattle.outcome.specs.declared.Outcome.{Outcome}
+use Rattle.outcome.specs.declared.Outcome.TheVariants.{Damaged}
 use Rattle.command_answers.specs.ByFolder.{reel_meaning}
 use Rattle.command_answers.specs.Meaning.{IsThrough, Meaning, reel_calls}
 

@@ -1,7 +1,7 @@
 -- What a worker does to its marks and its scan: words of private clauses.
 use Rattle.std.specs.Prelude.{◌≡◌, ℕ, ◌≤◌, Bool, true, Option, Result, Err, IfErr}
 use Rattle.scan_source.specs.World.{World}
-use Rattle.shared_station.specs.Marks.{Tallies}
+use Rattle.station.specs.Marks.{Tallies}
 use Rattle.frame_fetch.specs.Ends.{IsChange}
 use Rattle.frame_fetch.specs.declared.run_end.RunEnd.{RunEnd}
 use Rattle.frame_fetch.specs.declared.run_end.RunEnd.TheVariants.{SourceFault}

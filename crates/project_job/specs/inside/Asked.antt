@@ -2,9 +2,9 @@
 use Rattle.std.specs.Prelude.{◌≡◌, ℕ, List, Option}
 use Rattle.conform_job.specs.Answers.{count_after}
 use Rattle.conform_job.specs.declared.parts.JobFault.{JobFault}
-use Rattle.outcome_line.specs.declared.outcome.Outcome.{Outcome}
-use Rattle.outcome_line.specs.declared.outcome.Outcome.TheVariants as outcome
-use Rattle.outcome_line.specs.declared.outcome.Refused.TheVariants as refused
+use Rattle.outcome.specs.declared.Outcome.{Outcome}
+use Rattle.outcome.specs.declared.Outcome.TheVariants as outcome
+use Rattle.outcome.specs.declared.Refused.TheVariants as refused
 use Rattle.project_job.specs.Asked.{IfRefused, loads_of}
 
 -- a refusal is one that comes behind so many loads, whatever the project names

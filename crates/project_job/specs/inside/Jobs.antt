@@ -8,14 +8,14 @@ use Rattle.conform_job.specs.declared.parts.JobFault.{JobFault}
 use Rattle.conform_job.specs.declared.parts.JobFault.TheVariants as fault
 use Rattle.project_file.specs.Projects.{Means}
 use Rattle.tetra_look.specs.Look.{Lattice}
-use Rattle.outcome_line.specs.declared.outcome.Outcome.{Outcome}
-use Rattle.outcome_line.specs.declared.outcome.Outcome.TheVariants as outcome
-use Rattle.outcome_line.specs.declared.outcome.Refused.{Refused}
+use Rattle.outcome.specs.declared.Outcome.{Outcome}
+use Rattle.outcome.specs.declared.Outcome.TheVariants as outcome
+use Rattle.outcome.specs.declared.Refused.{Refused}
 use Rattle.project_job.specs.declared.project.ListText.{ListText}
 use Rattle.project_job.specs.declared.project.LookText.{LookText}
 use Rattle.project_job.specs.declared.project.ProjectText.{ProjectText}
-use Rattle.outcome_line.specs.declared.outcome.Refused.TheVariants as refused
-use Rattle.outcome_line.specs.declared.outcome.Which.TheVariants as which
+use Rattle.outcome.specs.declared.Refused.TheVariants as refused
+use Rattle.outcome.specs.declared.Which.TheVariants as which
 
 -- A value or a refusal is the one that is wanted; a fault of the scan and want of memory may come at any place.
 abbrev pub Reaches : {A B : Type 0} → (A → B) → Result A Outcome → Result B Refused → Type 0

@@ -12,8 +12,8 @@ use Rattle.dpx_header.specs.Writing.{header_of}
 use Rattle.resume_ledger.specs.Look.{ViewState}
 use Rattle.reel_qc.specs.Sheet.{box_colour, box_pixels, cell_height, cell_width, picture_at, rounded_mean, sheet_colours, sheet_head, sheet_width, toned_bytes}
 use Rattle.reel_qc.specs.inside.Sheet.{row_colours}
-use Rattle.reel_qc.specs.declared.boxes.Boxes.{Boxes}
-use Rattle.reel_qc.specs.declared.drawing.Drawing.{Drawing}
+use Rattle.reel_qc.specs.declared.sheet.boxes.Boxes.{Boxes}
+use Rattle.reel_qc.specs.declared.sheet.drawing.Drawing.{Drawing}
 
 -- for each box, line by line, what its pixels among the first n of a picture of this width add up to
 pub record AreSums (code : ℕ → ℕ) (width n columns lines : ℕ) (sums : List ℕ) : Type 0 where

@@ -1,6 +1,6 @@
 -- What is counted over a picture's words: words of private clauses.
 use Rattle.std.specs.Prelude.{ℕ, ◌*◌, ◌/◌, ◌%◌, List, drop, length, slice_index, take}
-use Rattle.reel_qc.specs.declared.probe.ProbeKind.{ProbeKind}
+use Rattle.reel_qc.specs.declared.table.probe.ProbeKind.{ProbeKind}
 use Rattle.reel_qc.specs.Counts.{counts_of}
 
 -- the n-th of the blocks of 16,384 words, of which the last may be shorter

@@ -6,7 +6,7 @@ use Rattle.std.specs.declared.alloc.Global.{Global}
 use Rattle.reel_disk.specs.Disk.{Files, History, view_of}
 use Rattle.resume_ledger.specs.Look.{ViewState}
 use Rattle.reel_qc.specs.Counts.{HasAdded, counts_of}
-use Rattle.reel_qc.specs.declared.probe.ProbeKind.{ProbeKind}
+use Rattle.reel_qc.specs.declared.table.probe.ProbeKind.{ProbeKind}
 use Rattle.reel_qc.specs.Table.{Row, acked_frames, acked_of, row_line, row_of}
 
 -- The counts of some words, at most so many, are added to these. Where the files are told, they are the words of the files.

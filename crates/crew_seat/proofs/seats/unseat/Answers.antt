@@ -3,7 +3,7 @@ use Rattle.std.proofs.lemmas.List.{length_push, map-append}
 use Rattle.std.proofs.lemmas.List.Sums.{sum_by_push}
 use Rattle.std.specs.Prelude.{sum_by}
 use Rattle.frame_share.specs.Units.{Tally}
-use Rattle.shared_station.specs.Marks.{Tallies}
+use Rattle.station.specs.Marks.{Tallies}
 use Rattle.crew_seat.specs.Seats.{HasTaken}
 use Rattle.crew_seat.specs.Stepped.{WasCounted}
 use Rattle.crew_seat.proofs.Seating.{all_came, few_loads, has_room, item_of, more_came, not_all_came, taken_more}

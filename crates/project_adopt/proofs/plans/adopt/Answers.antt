@@ -4,7 +4,7 @@ use Rattle.scan_source.proofs.Leaving.{leaves_then}
 use Rattle.project_run.proofs.Leaving.{scan_unplanned}
 use Rattle.project_run.proofs.Runs.{match_each, unplanned}
 use Rattle.project_adopt.proofs.Planning.{job_adopts, job_in}
-use Rattle.outcome_line.specs.Output.{line_of}
+use Rattle.printed_lines.specs.Lines.{line_of}
 use Rattle.project_adopt.proofs.Leaving.{asked_onward}
 use Rattle.project_adopt.proofs.plans.adopt.Goals as goal
 

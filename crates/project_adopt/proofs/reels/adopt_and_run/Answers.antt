@@ -5,7 +5,7 @@ use Rattle.cf_base.specs.Count.{HasRisen}
 use Rattle.conform_job.specs.Answers.{AreInfosOf}
 use Rattle.conform_job.specs.Job.{JobData}
 use Rattle.reconform.specs.declared.adopting.AdoptFault.TheVariants as faults
-use Rattle.outcome_line.specs.declared.outcome.Outcome.TheVariants as outcomes
+use Rattle.outcome.specs.declared.Outcome.TheVariants as outcomes
 use Rattle.scan_source.proofs.Leaving.{leaves_still}
 use Rattle.project_run.specs.Calls.{folder_state}
 use Rattle.project_run.proofs.Runs.{match_each}

@@ -1,11 +1,11 @@
 -- The rest is run as the command `run` does.
 use Rattle.std.proofs.Common.{ℕ, List, refl, subst}
-use Rattle.outcome_line.specs.declared.outcome.Outcome.{Outcome}
+use Rattle.outcome.specs.declared.Outcome.{Outcome}
 use Rattle.project_run.specs.Calls.{folder_state}
 use Rattle.frame_range.specs.Parts.{range_of}
 use Rattle.frame_range.specs.declared.range.Extent.TheVariants.{Whole}
 use Rattle.project_run.specs.Run.{IsSafeRun, run_text}
-use Rattle.single_run.specs.Run.{WasRun}
+use Rattle.run_alone.specs.Run.{WasRun}
 use Rattle.project_run.proofs.Runs.{is_known, match_each}
 use Rattle.project_adopt.specs.Adopt.{IsRest, share_count}
 use Rattle.project_adopt.specs.inside.Adopt.{ReportsAdoption}

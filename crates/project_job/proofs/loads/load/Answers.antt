@@ -2,10 +2,10 @@
 use Rattle.std.proofs.Common.{◌≢◌, ℕ, Result, Err}
 use Rattle.scan_source.proofs.Leaving.{leaves_by}
 use Rattle.scan_source.specs.declared.scans.Loaded.TheVariants as loaded
-use Rattle.outcome_line.specs.declared.outcome.Outcome.{Outcome}
-use Rattle.outcome_line.specs.declared.outcome.Outcome.TheVariants as outcomes
-use Rattle.outcome_line.specs.declared.outcome.Refused.TheVariants as refused
-use Rattle.outcome_line.specs.declared.outcome.Which.{Which}
+use Rattle.outcome.specs.declared.Outcome.{Outcome}
+use Rattle.outcome.specs.declared.Outcome.TheVariants as outcomes
+use Rattle.outcome.specs.declared.Refused.TheVariants as refused
+use Rattle.outcome.specs.declared.Which.{Which}
 use Rattle.project_job.proofs.Projects.{no_err}
 use Rattle.project_job.specs.declared.loads.Front.{Front}
 use Rattle.project_job.proofs.loads.load.Goals as goal

@@ -5,7 +5,7 @@ use Rattle.project_job.specs.inside.Jobs.{itself, Reaches}
 use Rattle.project_job.proofs.Projects.{err_as, no_err, cube_had, cube_refused, cube_missing}
 use Rattle.scan_source.proofs.Leaving.{leaves_as, leaves_done}
 use Rattle.project_job.proofs.Loading.{load_stage}
-use Rattle.outcome_line.specs.declared.outcome.Which.TheVariants as which
+use Rattle.outcome.specs.declared.Which.TheVariants as which
 use Rattle.project_job.proofs.project.cube_in.Goals as goal
 
 pub returns-in-Ok-look_of-clause-told : goal.returns-in-Ok-look_of-clause-told

@@ -3,8 +3,8 @@ use Rattle.std.proofs.Common.{refl}
 use Rattle.project_job.proofs.Projects.{err_as, no_err, memory_apart, refused_apart, list_had, list_refused, list_missing}
 use Rattle.scan_source.proofs.Leaving.{leaves_as, leaves_done}
 use Rattle.project_job.proofs.Loading.{load_stage, memory_stage, own_stage}
-use Rattle.outcome_line.specs.declared.outcome.Which.TheVariants as which
-use Rattle.outcome_line.specs.declared.outcome.Refused.TheVariants as refused
+use Rattle.outcome.specs.declared.Which.TheVariants as which
+use Rattle.outcome.specs.declared.Refused.TheVariants as refused
 use Rattle.project_job.proofs.project.list_in.Goals as goal
 
 pub returns-in-Ok-read_list-clause-told : goal.returns-in-Ok-read_list-clause-told

@@ -4,8 +4,8 @@ use Rattle.project_job.proofs.Counted.{counted_project}
 use Rattle.project_job.proofs.Projects.{err_as, no_err, memory_apart, refused_apart, project_had, project_refused}
 use Rattle.scan_source.proofs.Leaving.{leaves_as, leaves_done}
 use Rattle.project_job.proofs.Loading.{load_stage, memory_stage, own_stage}
-use Rattle.outcome_line.specs.declared.outcome.Which.TheVariants as which
-use Rattle.outcome_line.specs.declared.outcome.Refused.TheVariants as refused
+use Rattle.outcome.specs.declared.Which.TheVariants as which
+use Rattle.outcome.specs.declared.Refused.TheVariants as refused
 use Rattle.project_job.proofs.project.project_in.Goals as goal
 
 pub returns-in-Ok-read_project-clause-told : goal.returns-in-Ok-read_project-clause-told

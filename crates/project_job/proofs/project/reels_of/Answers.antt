@@ -1,7 +1,7 @@
 -- The copied reels are the project's, and make its table.
 use Rattle.std.proofs.Common.{ap, refl, ◌∙◌}
 use Rattle.project_job.specs.Jobs.{unless_refused}
-use Rattle.outcome_line.specs.declared.outcome.Refused.TheVariants as refused
+use Rattle.outcome.specs.declared.Refused.TheVariants as refused
 use Rattle.project_job.proofs.Projects.{no_err, memory_apart, refused_apart, tabled}
 use Rattle.project_job.proofs.Loading.{memory_stage, own_stage}
 use Rattle.project_job.proofs.project.reels_of.Goals as goal

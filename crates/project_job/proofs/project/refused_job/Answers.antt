@@ -2,8 +2,8 @@
 use Rattle.std.proofs.Common.{◌≡◌, ◌≢◌, refl}
 use Rattle.conform_job.specs.declared.parts.JobFault.{JobFault}
 use Rattle.conform_job.specs.declared.parts.JobFault.TheVariants as faults
-use Rattle.outcome_line.specs.declared.outcome.Outcome.TheVariants as outcomes
-use Rattle.outcome_line.specs.declared.outcome.Refused.TheVariants as refused
+use Rattle.outcome.specs.declared.Outcome.TheVariants as outcomes
+use Rattle.outcome.specs.declared.Refused.TheVariants as refused
 use Rattle.project_job.specs.inside.Jobs.{outcome_of_fault}
 use Rattle.project_job.proofs.project.refused_job.Goals as goal
 

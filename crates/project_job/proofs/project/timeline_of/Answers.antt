@@ -1,5 +1,5 @@
 use Rattle.std.proofs.Common.{refl}
-use Rattle.outcome_line.specs.declared.outcome.Refused.TheVariants as refused
+use Rattle.outcome.specs.declared.Refused.TheVariants as refused
 use Rattle.project_job.proofs.Loading.{memory_stage, own_stage}
 use Rattle.project_job.proofs.project.timeline_of.Goals as goal
 

@@ -1,7 +1,7 @@
 -- The ledger was looked at, and then the sheet was made, or it can't be had.
 use Rattle.std.proofs.Common.{refl, subst, sym}
-use Rattle.outcome_line.specs.Output.{line_of}
-use Rattle.outcome_line.specs.declared.outcome.Outcome.{Outcome}
+use Rattle.printed_lines.specs.Lines.{line_of}
+use Rattle.outcome.specs.declared.Outcome.{Outcome}
 use Rattle.project_run.specs.Calls.{folder_state}
 use Rattle.project_run.specs.Sheet.{HasSheet}
 use Rattle.project_run.proofs.Runs.{match_each}

@@ -6,7 +6,7 @@ use Rattle.reel_disk.specs.Disk.{Files}
 use Rattle.resume_ledger.specs.Look.{ViewState}
 use Rattle.reel_qc.specs.Table.{acked_of}
 use Rattle.reel_qc.specs.inside.Table.{HasRows}
-use Rattle.reel_qc.specs.declared.probe.ProbeKind.{ProbeKind}
+use Rattle.reel_qc.specs.declared.table.probe.ProbeKind.{ProbeKind}
 use Rattle.reel_qc.proofs.Lines.{row_counted, row_put}
 use Rattle.reel_qc.proofs.table.put_frame.Goals as goal
 

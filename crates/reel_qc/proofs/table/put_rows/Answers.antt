@@ -13,7 +13,7 @@ loop-i-preserved g c =
     let here = rows_as _ c.args.job.now (g.D.Disk.tells ≡ true) files _ _ _ _ _ (λ told. still_view _ _ (before.reads.still told)) c.in-Ok.ensures.rows in
     record {
       reads = reads_along before.reads c.in-Ok.ensures.reads;
-      rows = subst (λ frames. HasRows (map (λ p. p.kind) c.args.probes.now) c.args.job.now (g.D.Disk.tells ≡ true) files frames c.args.text.now.items c.put_frame.new.text.items (c.loop-i.frames + c.in-Ok.more))
+      rows = subst (λ frames. HasRows (map (λ p. p.kind) c.args.counting.now.probes.now) c.args.job.now (g.D.Disk.tells ≡ true) files frames c.args.text.now.items c.put_frame.new.text.items (c.loop-i.frames + c.in-Ok.more))
           (sym (acked_more c.args.view.now c.loop-i.i)) (rows_along _ c.args.job.now (g.D.Disk.tells ≡ true) files _ _ _ _ _ _ _ before.rows here);
       few = omega (arith, before.few, c.in-Ok.ensures.few);
       piece = search rules;

@@ -4,7 +4,7 @@ use Rattle.render_board.specs.declared.step.Why.{Why}
 use Rattle.render_board.specs.declared.step.Why.TheVariants as whys
 use Rattle.frame_render.specs.Frame.{FrameBytes}
 use Rattle.frame_fetch.specs.declared.run_end.RunEnd.{RunEnd}
-use Rattle.shared_station.specs.Marks.{raised_by}
+use Rattle.station.specs.Marks.{raised_by}
 use Rattle.crew_seat.proofs.Stepping.{marked_disk, marked_end, marked_left, marked_none}
 use Rattle.crew_worker.proofs.rounds.Shared.deliver.Goals as goal
 

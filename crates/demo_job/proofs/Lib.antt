@@ -1,4 +1,0 @@
-pub mod Joins
-pub mod Loops
-pub mod Printed
-mod Rows

@@ -1,9 +1,0 @@
-use Rattle.std.proofs.Common.{◌≡◌, ◌+◌, ◌++◌, map}
-use Rattle.std.specs.List.{range_with_len}
-use Rattle.demo_job.specs.Files.{kept, source_entry}
-use Rattle.demo_job.specs.Texts.{hour}
-use Rattle.demo_job.proofs.files.put_reel.Given as goal
-
--- the files so far are appended
-abbrev pub invariant-loop-k : goal.invariant-loop-k
-invariant-loop-k l = kept l.files.items ≡ kept l.initial.files.items ++ map (λ k. source_entry l.reel (hour + k)) (range_with_len 0 l.k)

@@ -1,7 +1,0 @@
-use Rattle.std.proofs.Common.{◌≡◌, ℕ, ◌<◌, get_or}
-use Rattle.demo_job.specs.Pictures.{source_word}
-use Rattle.demo_job.proofs.picture.fill_words.Given as goal
-
--- the words so far stand in their places
-abbrev pub invariant-loop-x : goal.invariant-loop-x
-invariant-loop-x l = (k : ℕ) → k < l.x → get_or l.out k 0 ≡ source_word l.reel l.frame k l.y

@@ -1,4 +1,0 @@
-pub mod Answering
-pub mod Fresh
-pub mod Printing
-pub mod Reels

@@ -1,5 +1,0 @@
--- What was opened agrees with the disk.
-use Rattle.ledger_tests.proofs.ledgers.acknowledge.Goals as goal
-
-pub keep_next-requires-clause-agrees : goal.keep_next-requires-clause-agrees
-keep_next-requires-clause-agrees g c told = (c.in-Ok.ensures.answer told).agrees

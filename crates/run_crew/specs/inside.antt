@@ -1,0 +1,3 @@
+-- The words of private clauses, of this crate or of one above: nothing public is said by them.
+pub mod Crews
+pub mod Each

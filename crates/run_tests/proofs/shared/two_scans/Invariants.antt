@@ -1,6 +1,0 @@
--- One scan is made a turn.
-use Rattle.std.proofs.Common.{◌≡◌, vec_len}
-use Rattle.run_tests.proofs.shared.two_scans.Given as goal
-
-abbrev pub invariant-loop : goal.invariant-loop
-invariant-loop l = vec_len l.scans ≡ l.counter

@@ -1,3 +1,0 @@
--- The words of private clauses, of this crate or of one above: nothing public is said by them.
-pub mod Marks
-pub mod Station

@@ -1,0 +1,257 @@
+//! The value behind the station's lock: the reel and the board, and how many stops of each why there were.
+ghost use Rattle.std.specs.Prelude.{◌≡◌, ◌≢◌, ◌<◌, ◌≤◌, true, false, length, OnOk, OnErr, IsErr};
+ghost use Rattle.reel_disk.specs.State.{LeavesDisk};
+ghost use Rattle.render_board.specs.Board.{turn_of, claim_of};
+ghost use Rattle.render_board.specs.declared.board.Turn.TheVariants as turns;
+ghost use Rattle.render_board.specs.declared.step.Why.TheVariants as whys;
+ghost use Rattle.reel_writer.specs.Reel.{IsReelRun, KeepsReel};
+ghost use Rattle.station.specs.Marks.{IsBlankOf, IsSettled, raised_by};
+ghost use Rattle.station.specs.Station.{StationView, IsStation};
+ghost use Rattle.station.specs.StationSteps.{AddsFrame, IsBeginning, IsSurelyAcked, IsSurelyStored, MayStop, ShowsFrame, WritesFrame, after_claimed, after_failed, after_finished, after_stopped};
+
+use crate::crewed::Crewed;
+use crate::marks::Marks;
+use conform_job::Work;
+use reel_disk::{Disk, DiskFault, Start};
+use reel_writer::{Hashed, Reel};
+use render_board::{Board, Claim, Turn, Why};
+use std::marker::{Model, PhantomData};
+use std::sync::ledger::{Blank, Book};
+
+/// How many stops of each why there were.
+#[derive(Drop)]
+struct Totals<C: Crewed> {
+    source: Book<C::SourceStops>,
+    disk: Book<C::DiskStops>,
+    memory: Book<C::MemoryStops>,
+    changed: Book<C::ChangeStops>,
+}
+
+/// The reel and the board of a run, as several workers share them. Each of its calls takes no memory, and is one step of
+/// the board or none.
+///
+/// Contracts see the reel, the board's log, and the totals of stops.
+pub struct Station<D: Disk, N: Work + Start, C: Crewed> {
+    reel: Reel<D, N>,
+    board: Board,
+    totals: Totals<C>,
+    of: PhantomData<N>,
+    crew: PhantomData<C>,
+}
+
+impl<D: Disk, N: Work + Start, C: Crewed> Model for Station<D, N, C> {
+    ghost use Rattle.std.specs.Prelude.{◌≡◌};
+    ghost use Rattle.std.specs.Coded.{codes};
+    ghost use Rattle.reel_writer.specs.View.{reel_code};
+    ghost use Rattle.station.specs.Station.{StationView, IsStation};
+    ghost use Rattle.station.specs.inside.Station.{station_of};
+
+    ghost Value = { StationView D };
+
+    ghost coded = { Prim.hlevel (codes, reel_code D.code) };
+
+    ghost view = { λ s. station_of s.reel s.board s.totals.source.total s.totals.disk.total s.totals.memory.total s.totals.changed.total };
+
+    ghost invariant = { λ s.
+        IsStation N.job N.files N.start D.tells D.state
+        (station_of s.reel s.board s.totals.source.total s.totals.disk.total s.totals.memory.total s.totals.changed.total)
+        × (s.board.workers ≡ C.workers) × ((D.state s.reel.disk).loans ≡ N.loans)
+        × ((s.board.low ≡ C.low) × (s.board.high ≡ C.high)) };
+}
+
+impl<D: Disk, N: Work + Start, C: Crewed> Station<D, N, C> {
+    /// The station of a reel that was just opened, and of a board whose done frames are those that it acknowledges. The
+    /// marks have every part of each total.
+    pub fn new(
+        reel: Reel<D, N>,
+        board: Board,
+        source: Blank,
+        disk: Blank,
+        memory: Blank,
+        changed: Blank,
+    ) -> (Station<D, N, C>, Marks<C>)
+        requires source { IsBlankOf C.SourceStops.name C.SourceStops.parts source.name source.parts }
+        requires disk { IsBlankOf C.DiskStops.name C.DiskStops.parts disk.name disk.parts }
+        requires memory { IsBlankOf C.MemoryStops.name C.MemoryStops.parts memory.name memory.parts }
+        requires changed { IsBlankOf C.ChangeStops.name C.ChangeStops.parts changed.name changed.parts }
+        requires beginning { IsBeginning N.job N.files N.start D.tells D.state reel board }
+        requires workers { board.workers ≡ C.workers }
+        requires range { (board.low ≡ C.low) × (board.high ≡ C.high) }
+        requires lent { (D.state reel.disk).loans ≡ N.loans }
+        ensures reel { result.0.reel ≡ reel }
+        ensures log { result.0.log ≡ board }
+        ensures source { (result.1.source.parts ≡ C.SourceStops.parts) × (result.1.source.amount ≡ 0) }
+        ensures disk { (result.1.disk.parts ≡ C.DiskStops.parts) × (result.1.disk.amount ≡ 0) }
+        ensures memory { (result.1.memory.parts ≡ C.MemoryStops.parts) × (result.1.memory.amount ≡ 0) }
+        ensures changed { (result.1.changed.parts ≡ C.ChangeStops.parts) × (result.1.changed.amount ≡ 0) }
+    {
+        let (source_book, source_share) = source.open::<C::SourceStops>();
+        let (disk_book, disk_share) = disk.open::<C::DiskStops>();
+        let (memory_book, memory_share) = memory.open::<C::MemoryStops>();
+        let (changed_book, changed_share) = changed.open::<C::ChangeStops>();
+        let station = Station {
+            reel,
+            board,
+            totals: Totals {
+                source: source_book,
+                disk: disk_book,
+                memory: memory_book,
+                changed: changed_book,
+            },
+            of: PhantomData,
+            crew: PhantomData,
+        };
+        let marks = Marks {
+            source: source_share,
+            disk: disk_share,
+            memory: memory_share,
+            changed: changed_share,
+        };
+        (station, marks)
+    }
+
+    /// Takes the least free frame for an idle worker, as the board does.
+    pub fn claim(&mut self, worker: u16) -> Claim
+        requires worker { worker < self.old.log.workers }
+        requires idle { turn_of self.old.log worker ≡ turns.Idle }
+        ensures answer { result ≡ claim_of self.old.log }
+        ensures step { self.new ≡ after_claimed self.old worker result }
+    {
+        self.board.claim(worker)
+    }
+
+    /// Writes and acknowledges the frame that the worker holds, as the reel does, and then it is done. Its digest was made
+    /// before, so that no worker waits for it at the lock. `DiskFault` comes only where the disk's count of faults rose: the
+    /// reel is closed then, and the worker has stopped.
+    pub fn finish(
+        &mut self,
+        worker: u16,
+        frame: &Hashed<N>,
+        marks: &mut Marks<C>,
+    ) -> Result<(), DiskFault>
+        requires is_open { self.old.reel.ledger.closed ≡ false }
+        requires worker { worker < self.old.log.workers }
+        requires holds { turn_of self.old.log worker ≡ turns.Holds frame.now.index }
+        ensures finished { OnOk result (self.new ≡ after_finished self.old worker frame.now.index self.new.reel.disk) }
+        ensures failed { OnErr result (self.new ≡ after_failed self.old worker self.new.reel.disk) }
+        ensures unmarked { OnOk result (marks.new ≡ marks.old) }
+        ensures marked { OnErr result (marks.new ≡ raised_by whys.Disk marks.old) }
+
+        // What the reel's finish says.
+        ensures run { D.tells ≡ true → IsReelRun N.job N.files (D.state self.old.reel.disk).history (D.state self.new.reel.disk).history }
+        ensures none_lost { D.tells ≡ true → KeepsReel N.job (D.state self.old.reel.disk).history (D.state self.new.reel.disk).history }
+        ensures others { D.tells ≡ true → AddsFrame N.job frame.now.index D.state self.old self.new }
+        ensures spares { D.tells ≡ true → WritesFrame N.job frame.now.index D.state self.old self.new }
+        ensures acked { OnOk result (D.tells ≡ true → IsSurelyAcked N.job frame.now.index D.state self.new) }
+        ensures shown { OnOk result (D.tells ≡ true → ShowsFrame N.job frame.now.index D.state frame.now.bytes self.new) }
+        ensures stored { OnOk result (D.tells ≡ true → IsSurelyStored N.job frame.now.index D.state frame.now.bytes self.new) }
+        ensures disk { LeavesDisk (IsErr result) (D.state self.old.reel.disk) (D.state self.new.reel.disk) }
+    {
+        let index = frame.frame().index();
+        match self.reel.finish(frame) {
+            Ok(()) => {
+                self.board.finished(worker, index);
+                Ok(())
+            }
+            Err(DiskFault) => {
+                self.board.stop(worker, Why::Disk);
+                self.totals.disk.add(&mut marks.disk, 1);
+                Err(DiskFault)
+            }
+        }
+    }
+
+    /// The worker does no more, for another reason than the disk. A frame that it holds stays claimed.
+    pub fn stop(&mut self, worker: u16, why: Why, marks: &mut Marks<C>)
+        requires worker { worker < self.old.log.workers }
+        requires running { turn_of self.old.log worker ≢ turns.Stopped }
+        requires why { MayStop N.job N.files why }
+        ensures step { self.new ≡ after_stopped self.old worker why }
+        ensures marks { marks.new ≡ raised_by why marks.old }
+    {
+        self.board.stop(worker, why);
+        match why {
+            Why::Source => self.totals.source.add(&mut marks.source, 1),
+            Why::Disk => self.totals.disk.add(&mut marks.disk, 1),
+            Why::Memory => self.totals.memory.add(&mut marks.memory, 1),
+            Why::Changed { .. } => self.totals.changed.add(&mut marks.changed, 1),
+        }
+    }
+
+    /// What the worker is at.
+    pub fn turn(&self, worker: u16) -> Turn
+        requires { worker < self.now.log.workers }
+        ensures { result ≡ turn_of self.now.log worker }
+    {
+        self.board.turn(worker)
+    }
+
+    /// How many workers there are, from 1 to 16, which no call changes; and what holds whenever the lock is free.
+    pub fn workers(&self) -> u16
+        ensures workers { result ≡ self.now.log.workers }
+        ensures some { 1 ≤ result }
+        ensures most { result ≤ 16 }
+        ensures named { self.now.log.workers ≡ C.workers }
+        ensures range { (self.now.log.low ≡ C.low) × (self.now.log.high ≡ C.high) }
+        ensures ordered { (self.now.log.low ≤ self.now.log.high) × (self.now.log.high ≤ length self.now.log.start) }
+        ensures lent { (D.state self.now.reel.disk).loans ≡ N.loans }
+        ensures kept { IsStation N.job N.files N.start D.tells D.state self.now }
+    {
+        self.board.workers()
+    }
+
+    /// Recalls what every station keeps whenever the lock is free. Nothing runs: it is called for what its clauses say.
+    pub fn recall(&self)
+        ensures some { 1 ≤ self.now.log.workers }
+        ensures most { self.now.log.workers ≤ 16 }
+        ensures named { self.now.log.workers ≡ C.workers }
+        ensures range { (self.now.log.low ≡ C.low) × (self.now.log.high ≡ C.high) }
+        ensures ordered { (self.now.log.low ≤ self.now.log.high) × (self.now.log.high ≤ length self.now.log.start) }
+        ensures lent { (D.state self.now.reel.disk).loans ≡ N.loans }
+        ensures kept { IsStation N.job N.files N.start D.tells D.state self.now }
+    {
+        self.workers();
+    }
+
+    /// Whether a fault of the disk has closed the reel.
+    pub fn is_closed(&self) -> bool
+        ensures { result ≡ self.now.reel.ledger.closed }
+    {
+        self.reel.is_closed()
+    }
+
+    /// Shows that the amounts of marks that have every part are the numbers of stops.
+    pub fn settle(&mut self, marks: &mut Marks<C>)
+        requires source { marks.old.source.parts ≡ C.SourceStops.parts }
+        requires disk { marks.old.disk.parts ≡ C.DiskStops.parts }
+        requires memory { marks.old.memory.parts ≡ C.MemoryStops.parts }
+        requires changed { marks.old.changed.parts ≡ C.ChangeStops.parts }
+        ensures same { self.new ≡ self.old }
+        ensures marks { marks.new ≡ marks.old }
+        ensures settled { IsSettled self.old.log.steps marks.old }
+    {
+        self.totals.source.audit(&mut marks.source);
+        self.totals.disk.audit(&mut marks.disk);
+        self.totals.memory.audit(&mut marks.memory);
+        self.totals.changed.audit(&mut marks.changed);
+    }
+
+    /// Gives up the station.
+    pub fn into_parts(self) -> (Reel<D, N>, Board)
+        ensures reel { result.0 ≡ self.reel }
+        ensures log { result.1 ≡ self.log }
+        ensures named { self.log.workers ≡ C.workers }
+        ensures range { (self.log.low ≡ C.low) × (self.log.high ≡ C.high) }
+        ensures lent { (D.state self.reel.disk).loans ≡ N.loans }
+        ensures kept { IsStation N.job N.files N.start D.tells D.state self }
+    {
+        let Station {
+            reel,
+            board,
+            totals: _,
+            of: _,
+            crew: _,
+        } = self;
+        (reel, board)
+    }
+}
