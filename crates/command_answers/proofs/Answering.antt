@@ -19,7 +19,8 @@ use Rattle.reconform.specs.declared.adopting.AdoptFault.TheVariants as fault
 use Rattle.project_run.specs.Look.{HasFound, HasSeen, IsLookReply, outcome_of_fault}
 use Rattle.project_run.specs.Sheet.{HasSheet}
 use Rattle.project_run.specs.Quality.{IsCounted}
-use Rattle.project_run.specs.Calls.{FolderState, IsRefusal}
+use Rattle.reel_disk.specs.State.{FolderState}
+use Rattle.project_run.specs.Calls.{IsRefusal}
 use Rattle.frame_range.specs.declared.range.Extent.{Extent}
 use Rattle.frame_range.specs.declared.range.FrameRange.{FrameRange}
 use Rattle.project_run.specs.Run.{IsJobRun, IsRunReply, IsUnplanned}

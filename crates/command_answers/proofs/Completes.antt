@@ -30,7 +30,7 @@ use Rattle.frame_fetch.specs.declared.run_end.RunEnd.{RunEnd}
 use Rattle.frame_fetch.specs.declared.run_end.RunEnd.TheVariants as ends
 use Rattle.project_job.specs.Jobs.{ComesTo, HasPlanned, IsOfJob}
 use Rattle.project_job.specs.Laws.{OneJob}
-use Rattle.project_run.specs.Calls.{FolderState}
+use Rattle.reel_disk.specs.State.{FolderState}
 use Rattle.frame_range.specs.declared.range.Extent.{Extent}
 use Rattle.frame_range.specs.declared.range.FrameRange.{FrameRange}
 use Rattle.project_run.specs.Run.{IsJobRun, IsOfRun, IsRunReply, outcome_of_end}

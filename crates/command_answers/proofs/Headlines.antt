@@ -28,7 +28,7 @@ use Rattle.frame_fetch.specs.declared.run_end.RunEnd.TheVariants as ends
 use Rattle.project_job.specs.Jobs.{ComesTo, IsOfJob}
 use Rattle.project_job.specs.Laws.{OneJob}
 use Rattle.project_adopt.specs.Adopt.{GoesOn, IsAdoptReply, IsOldSound, of_old_project}
-use Rattle.project_run.specs.Calls.{FolderState}
+use Rattle.reel_disk.specs.State.{FolderState}
 use Rattle.project_run.specs.Run.{IsOfRun, IsRunReply, outcome_of_end}
 use Rattle.command_words.specs.declared.command.Command.TheVariants as commands
 use Rattle.outcome.specs.Status.{status_of}

@@ -3,7 +3,7 @@
 use Rattle.std.proofs.Common.{◌≡◌, ℕ, Bool, List, Vec, Global, refl, sym, subst, arith}
 use Rattle.std.specs.Prelude.{MatchResult, Option, Result, Ok, Err}
 use Rattle.scan_source.specs.State.{ScanState}
-use Rattle.reel_disk.specs.State.{DiskState}
+use Rattle.reel_disk.specs.State.{DiskState, FolderState, OnDisk}
 use Rattle.scan_source.specs.World.{World}
 use Rattle.reconform.specs.Adopt.{LeavesBoth}
 use Rattle.project_adopt.specs.Adopt.{IsAdoptReply, OnDisks}
@@ -12,7 +12,7 @@ use Rattle.command_words.specs.declared.command.Command.TheVariants as commands
 use Rattle.printed_lines.specs.Lines.{line_of}
 use Rattle.outcome.specs.declared.Outcome.{Outcome}
 use Rattle.outcome.specs.declared.Outcome.TheVariants as outcomes
-use Rattle.project_run.specs.Calls.{FolderState, LeavesDiskFor, LeavesScanFor, OnDisk, OverScan, Replies}
+use Rattle.project_run.specs.Calls.{LeavesDiskFor, LeavesScanFor, OverScan, Replies}
 use Rattle.command_answers.specs.ByFolder.{reel_meaning}
 use Rattle.command_answers.specs.Commands.{meaning_of}
 use Rattle.command_answers.specs.Meaning.{Calls, Meaning}

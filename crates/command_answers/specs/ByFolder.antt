@@ -10,7 +10,7 @@ use Rattle.resume_ledger.specs.Ledger.{IsFit}
 use Rattle.reel_writer.specs.Reel.{frames_of}
 use Rattle.outcome.specs.declared.Outcome.{Outcome}
 use Rattle.project_job.specs.Jobs.{ComesTo}
-use Rattle.project_run.specs.Calls.{FolderState}
+use Rattle.reel_disk.specs.State.{FolderState}
 use Rattle.project_adopt.specs.Adopt.{IsOldSound}
 use Rattle.command_answers.specs.ByJob.{AreJobHeads}
 use Rattle.command_answers.specs.Meaning.{Calls, HasReelFailed, Meaning}

@@ -3,9 +3,8 @@
 --     Folders, folders_of      what the two folders tell
 --     House, house_of      what a house hands in
 use Rattle.std.specs.Prelude.{ℕ, Bool, List}
-use Rattle.reel_disk.specs.State.{DiskState}
+use Rattle.reel_disk.specs.State.{DiskState, FolderState, folder_state}
 use Rattle.reel_qc.specs.declared.table.probe.ProbeKind.{ProbeKind}
-use Rattle.project_run.specs.Calls.{FolderState, folder_state}
 
 -- the folder of the reel, and that of an old reel
 pub record Folders : Type 0 where

@@ -14,7 +14,8 @@ use Rattle.printed_lines.specs.Lines.{line_of, IsMade}
 use Rattle.outcome.specs.declared.Outcome.{Outcome}
 use Rattle.outcome.specs.declared.Outcome.TheVariants as outcomes
 use Rattle.project_crew.specs.Crew.{HasFailed, IsCrewReply, told_by}
-use Rattle.project_run.specs.Calls.{FolderState, IsLeftAlone}
+use Rattle.reel_disk.specs.State.{FolderState}
+use Rattle.project_run.specs.Calls.{IsLeftAlone}
 use Rattle.project_run.specs.Run.{IsOfRun}
 use Rattle.command_answers.specs.Answer.{IsFoundIn, IsPut, IsLinePut}
 use Rattle.command_answers.proofs.Answering.{done_unrefused, put_refused}

@@ -12,7 +12,7 @@ use Rattle.frame_fetch.specs.declared.run_end.RunEnd.{RunEnd}
 use Rattle.frame_fetch.specs.declared.run_end.RunEnd.TheVariants as ends
 use Rattle.project_job.specs.Jobs.{ComesTo}
 use Rattle.project_job.specs.Laws.{OneJob}
-use Rattle.project_run.specs.Calls.{FolderState}
+use Rattle.reel_disk.specs.State.{FolderState}
 use Rattle.project_run.specs.Run.{outcome_of_end}
 use Rattle.project_crew.specs.Crew.{IsCrewReply, told_by, HasFailed}
 use Rattle.frame_range.specs.declared.range.Extent.{Extent}

@@ -15,7 +15,7 @@ use Rattle.printed_lines.specs.Lines.{line_of}
 use Rattle.outcome.specs.declared.Outcome.{Outcome}
 use Rattle.outcome.specs.declared.Outcome.TheVariants.{Done, SourceFault, DiskFault, NoMemory}
 use Rattle.project_crew.specs.Crew.{HasFailed, IsCrewReply}
-use Rattle.project_run.specs.Calls.{FolderState}
+use Rattle.reel_disk.specs.State.{FolderState}
 use Rattle.project_run.specs.Run.{IsOfRun}
 use Rattle.command_answers.specs.Answer.{IsPut}
 

@@ -14,7 +14,8 @@ ghost use Rattle.command_answers.specs.Headline.{HasEnded, KeepsHeadline};
 ghost use Rattle.command_answers.specs.Reply.{CallsDisk, CallsOld};
 ghost use Rattle.command_answers.specs.States.{folders_of, house_of};
 ghost use Rattle.project_crew.specs.Crew.{HasFailed, told_by};
-ghost use Rattle.project_run.specs.Calls.{IsLeftAlone, folder_state};
+ghost use Rattle.reel_disk.specs.State.{folder_state};
+ghost use Rattle.project_run.specs.Calls.{IsLeftAlone};
 ghost use Rattle.scan_source.specs.World.{World};
 
 use cf_base::{PathText, Sink};

@@ -7,7 +7,7 @@ use Rattle.scan_source.specs.World.{World}
 use Rattle.conform_job.specs.Job.{JobData}
 use Rattle.conform_job.specs.Names.{Tells}
 use Rattle.reel_disk.specs.Disk.{Files, History, moment_of, view_of}
-use Rattle.reel_disk.specs.State.{DiskState, OnlyReads}
+use Rattle.reel_disk.specs.State.{DiskState, OnlyReads, FolderState, folder_state}
 use Rattle.reel_disk.specs.Runs.{Spares}
 use Rattle.reel_disk.proofs.Sparing.{spares_along, spares_wider}
 use Rattle.resume_ledger.specs.declared.layout.Version.TheVariants.{Two}
@@ -28,7 +28,6 @@ use Rattle.frame_fetch.specs.declared.run_end.RunEnd.TheVariants as ends
 use Rattle.run_alone.proofs.Closing.{whole_reel}
 use Rattle.outcome.specs.declared.Outcome.{Outcome}
 use Rattle.outcome.specs.declared.Outcome.TheVariants as outcome
-use Rattle.project_run.specs.Calls.{FolderState, folder_state}
 use Rattle.project_run.specs.Run.{IsOfRun, outcome_of_end}
 use Rattle.project_adopt.specs.Adopt.{IsAdoption, IsOfAdopt, IsPromised, IsRest, outcome_of_fault}
 

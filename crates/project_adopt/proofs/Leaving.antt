@@ -10,7 +10,8 @@ use Rattle.outcome.specs.declared.Outcome.TheVariants as outcome
 use Rattle.outcome.specs.declared.Refused.{Refused}
 use Rattle.project_job.specs.Asked.{HasInspectedFor}
 use Rattle.project_job.specs.Jobs.{IsOfJob}
-use Rattle.project_run.specs.Calls.{FolderState, IsRefusal}
+use Rattle.reel_disk.specs.State.{FolderState}
+use Rattle.project_run.specs.Calls.{IsRefusal}
 use Rattle.project_run.proofs.Leaving.{run_unrefused}
 use Rattle.project_adopt.specs.Adopt.{GoesOn, IsAdoption, IsRest, IsUnadopted, of_old_project, outcome_of_fault}
 

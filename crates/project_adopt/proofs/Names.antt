@@ -8,7 +8,7 @@ use Rattle.reel_disk.specs.Disk.{Files}
 use Rattle.reel_writer.specs.Reel.{frames_of, reel_of}
 use Rattle.reconform.specs.Adopt.{CanServe, HaveOneLook}
 use Rattle.outcome.specs.declared.Outcome.{Outcome}
-use Rattle.project_run.specs.Calls.{FolderState}
+use Rattle.reel_disk.specs.State.{FolderState}
 use Rattle.project_adopt.specs.Adopt.{IsOldSound, IsPromised}
 use Rattle.project_adopt.proofs.Deciding.{Decision, decide_sound}
 

@@ -8,7 +8,7 @@ use Rattle.reel_disk.specs.Disk.{view_of}
 use Rattle.outcome.specs.declared.Outcome.{Outcome}
 use Rattle.outcome.specs.declared.Outcome.TheVariants as outcome
 use Rattle.project_job.specs.Jobs.{HasPlanned, IsOfJob, cube_count}
-use Rattle.project_run.specs.Calls.{FolderState}
+use Rattle.reel_disk.specs.State.{FolderState}
 use Rattle.project_run.proofs.Runs.{of_job}
 use Rattle.project_adopt.specs.Adopt.{GoesOn, IsAdoptReply, IsAdoption, IsOfAdopt, IsOldSound, IsPromised, of_old_project}
 use Rattle.project_adopt.specs.inside.Adopt.{IsJobOver}

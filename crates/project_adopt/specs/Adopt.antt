@@ -16,7 +16,7 @@ use Rattle.conform_job.specs.Answers.{count_after}
 use Rattle.conform_job.specs.Job.{JobData}
 use Rattle.reel_disk.specs.Disk.{Files, moment_of, view_of}
 use Rattle.reel_disk.specs.Runs.{Spares}
-use Rattle.reel_disk.specs.State.{DiskState}
+use Rattle.reel_disk.specs.State.{DiskState, FolderState, OnDisk}
 use Rattle.resume_ledger.specs.Ledger.{IsInForce}
 use Rattle.resume_ledger.specs.Sound.{IsSound, WritesOnly}
 use Rattle.resume_ledger.specs.declared.layout.Version.TheVariants.{Two}
@@ -32,7 +32,7 @@ use Rattle.printed_text.specs.Text.{spaced_line}
 use Rattle.outcome.specs.declared.Outcome.{Outcome}
 use Rattle.outcome.specs.declared.Outcome.TheVariants as outcome
 use Rattle.project_job.specs.Jobs.{ComesTo, cube_count}
-use Rattle.project_run.specs.Calls.{FolderState, OnDisk, WasOnlyRead}
+use Rattle.project_run.specs.Calls.{WasOnlyRead}
 use Rattle.frame_range.specs.Parts.{range_of}
 use Rattle.frame_range.specs.declared.range.Extent.TheVariants.{Whole}
 use Rattle.project_run.specs.Run.{IsJobRun, IsOfRun, IsUnplanned}

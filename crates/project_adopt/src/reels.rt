@@ -3,8 +3,8 @@ ghost use Rattle.std.specs.Prelude.{◌≡◌, true, None, Err, IfSome, MatchRes
 ghost use Rattle.conform_job.specs.Answers.{AreInfosOf};
 ghost use Rattle.conform_job.specs.Names.{Tells};
 ghost use Rattle.scan_source.specs.State.{LeavesScan};
-ghost use Rattle.project_run.specs.Calls.{OnDisk, Replies, OverScan};
-ghost use Rattle.reel_disk.specs.State.{LeavesDisk};
+ghost use Rattle.project_run.specs.Calls.{Replies, OverScan};
+ghost use Rattle.reel_disk.specs.State.{LeavesDisk, OnDisk};
 ghost use Rattle.project_run.specs.Run.{IsOfRun};
 ghost use Rattle.reconform.specs.Adopt.{CanServe, LeavesBoth};
 ghost use Rattle.reel_disk.specs.Disk.{view_of};

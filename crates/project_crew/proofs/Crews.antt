@@ -25,7 +25,7 @@ use Rattle.project_job.specs.Jobs.{HasPlanned, IsOfJob, AreLoaded, cube_count}
 use Rattle.outcome.specs.declared.Outcome.{Outcome}
 use Rattle.outcome.specs.declared.Outcome.TheVariants as outcomes
 use Rattle.project_crew.specs.Crew.{HasFailed, HasFirstLoaded, IsJobRunByCrew, IsCrewReply, told_by}
-use Rattle.project_run.specs.Calls.{FolderState}
+use Rattle.reel_disk.specs.State.{FolderState}
 use Rattle.project_run.specs.Run.{ReportsEnd, report_text}
 
 -- an error is the same error of another result

@@ -5,7 +5,8 @@ ghost use Rattle.conform_job.specs.Answers.{AreInfosOf};
 ghost use Rattle.project_crew.specs.Crew.{HasFailed, IsJobRunByCrew, IsCrewReply, told_by};
 ghost use Rattle.frame_range.specs.Parts.{IsExtent};
 ghost use Rattle.reel_writer.specs.Reel.{frames_of};
-ghost use Rattle.project_run.specs.Calls.{IsLeftAlone, OnDisk, Replies};
+ghost use Rattle.reel_disk.specs.State.{OnDisk};
+ghost use Rattle.project_run.specs.Calls.{IsLeftAlone, Replies};
 ghost use Rattle.project_run.specs.Run.{IsOfRun, IsShareCount};
 
 use cf_base::PathText;

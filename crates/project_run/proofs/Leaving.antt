@@ -20,8 +20,8 @@ use Rattle.project_job.specs.Asked.{HasInspectedFor}
 use Rattle.project_job.specs.Jobs.{IsOfJob}
 use Rattle.project_run.specs.Look.{HasFound, IsBehindLook, outcome_of_fault}
 use Rattle.project_run.specs.Quality.{IsTabled}
-use Rattle.project_run.specs.Calls.{FolderState, IsLeftAlone, IsRefusal, LeavesDiskFor, LeavesScanFor}
-use Rattle.reel_disk.specs.State.{DiskState, LeavesDisk}
+use Rattle.project_run.specs.Calls.{IsLeftAlone, IsRefusal, LeavesDiskFor, LeavesScanFor}
+use Rattle.reel_disk.specs.State.{DiskState, LeavesDisk, FolderState}
 use Rattle.frame_range.specs.declared.range.Extent.{Extent}
 use Rattle.frame_range.specs.declared.range.FrameRange.{FrameRange}
 use Rattle.project_run.specs.Run.{IsJobRun, outcome_of_end}

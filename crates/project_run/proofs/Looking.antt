@@ -9,7 +9,7 @@ use Rattle.conform_job.specs.Job.{JobData}
 use Rattle.reel_disk.specs.Disk.{Files, History, IsStill, moment_of, view_of}
 use Rattle.reel_disk.specs.Runs.{Extends, Spares}
 use Rattle.reel_disk.specs.Call.{Call, writes_in}
-use Rattle.reel_disk.specs.State.{DiskState, OnlyReads}
+use Rattle.reel_disk.specs.State.{DiskState, OnlyReads, FolderState, folder_state}
 use Rattle.reel_disk.proofs.Moments.{passes_extends}
 use Rattle.reel_disk.proofs.Sparing.{spares_along, still_spares}
 use Rattle.resume_ledger.proofs.Reading.{still_along, still_view}
@@ -26,7 +26,7 @@ use Rattle.outcome.specs.declared.Outcome.{Outcome}
 use Rattle.outcome.specs.declared.Outcome.TheVariants as outcome
 use Rattle.project_run.specs.Look.{HasFound, HasSeen, outcome_of_fault}
 use Rattle.project_run.specs.Quality.{IsCounted, IsTabled}
-use Rattle.project_run.specs.Calls.{FolderState, WasOnlyRead, folder_state}
+use Rattle.project_run.specs.Calls.{WasOnlyRead}
 use Rattle.project_run.specs.Sheet.{HasSheet, IsSheeted, sheet_text}
 use Rattle.project_run.specs.Status.{IsStatus, status_text}
 use Rattle.project_run.specs.Sums.{AreSums, IsSummed}

@@ -18,7 +18,7 @@ use Rattle.reel_writer.specs.Reel.{frames_of}
 use Rattle.frame_range.specs.Parts.{range_of}
 use Rattle.frame_range.specs.declared.range.Extent.{Extent}
 use Rattle.frame_range.specs.declared.range.FrameRange.{FrameRange}
-use Rattle.project_run.specs.Calls.{FolderState}
+use Rattle.reel_disk.specs.State.{FolderState}
 use Rattle.project_run.specs.Run.{IsKnown, IsOfRun, IsJobRun, IsRunReply, IsUnplanned}
 use Rattle.project_run.specs.Look.{IsLookReply, IsOfLook}
 use Rattle.project_run.specs.Verify.{IsOfVerify}

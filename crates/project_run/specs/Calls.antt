@@ -4,16 +4,15 @@
 --   of a folder, of which something is so before the call and after it, or of both folders of an adoption; what a refusal leaves
 --   alone; what a command of a project leaves of the scan and of the folder
 --     Replies result IsReply      what it came to is such a reply
---     FolderState, folder_state      what a folder's disk tells at a moment, its count of faults, and the calls that were made on it
 --     WasOnlyRead before after      the folder was read, and nothing was written or synced, whether its disk tells or not
---     OnDisk, OverScan      what it made of a disk, and over which scan
+--     OverScan      over which scan
 --     IsLeftAlone before after reached      where a project is refused, it left this alone
 --     LeavesScanFor, LeavesDiskFor      what a command of a project leaves of the scan and of the disk
-use Rattle.std.specs.Prelude.{◌≡◌, ℕ, Bool, true, List, Option, Result, Err, IfErr, MatchResult, Vec}
+use Rattle.std.specs.Prelude.{◌≡◌, ℕ, true, List, Option, Result, Err, IfErr, MatchResult, Vec}
 use Rattle.std.specs.declared.alloc.Global.{Global}
-use Rattle.reel_disk.specs.Call.{Call, writes_in}
-use Rattle.reel_disk.specs.Disk.{History, IsStill}
-use Rattle.reel_disk.specs.State.{DiskState, LeavesDisk}
+use Rattle.reel_disk.specs.Call.{writes_in}
+use Rattle.reel_disk.specs.Disk.{IsStill}
+use Rattle.reel_disk.specs.State.{DiskState, FolderState, LeavesDisk}
 use Rattle.scan_source.specs.State.{LeavesScan, ScanState}
 use Rattle.scan_source.specs.World.{World}
 use Rattle.printed_lines.specs.Lines.{line_of}
@@ -25,25 +24,12 @@ use Rattle.project_job.specs.Asked.{HasInspectedFor}
 abbrev pub Replies : Result (Vec ℕ Global) Outcome → (Outcome → List ℕ → Type 0) → Type 0
 Replies result IsReply = MatchResult result (λ output. IsReply outcome.Done output.items) (λ reached. IsReply reached (line_of reached))
 
-pub record FolderState : Type 0 where
-  pub tells : Bool
-  pub history : History
-  pub faults : ℕ
-  pub calls : List Call
-
-abbrev pub folder_state : Bool → DiskState → FolderState
-folder_state tells disk = record { tells = tells; history = disk.history; faults = disk.faults; calls = disk.calls }
-
 -- It was read and nothing else: at no moment was it changed, and no write and no sync was made on it.
 pub record WasOnlyRead (before after : FolderState) : Type 0 where
   pub still : before.tells ≡ true → IsStill before.history after.history
   pub writes : writes_in after.calls ≡ writes_in before.calls
 
--- what it made of a disk: this is so of the folder before the call and of the folder after it
-abbrev pub OnDisk : {A : Type 1} → Bool → (before after : DiskState) → (FolderState → FolderState → A) → A
-OnDisk tells before after Made = Made (folder_state tells before) (folder_state tells after)
-
--- what it made of it over what a scan tells, and by the loads before and after
+-- what it made over what a scan tells, and by the loads before and after
 abbrev pub OverScan : {A : Type 1} → (before after : ScanState) → (Option World → ℕ → ℕ → A) → A
 OverScan before after Made = Made before.world before.loads after.loads
 

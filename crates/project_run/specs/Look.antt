@@ -16,7 +16,8 @@ use Rattle.resume_ledger.specs.declared.attach.OpenFault.TheVariants as faults
 use Rattle.project_job.specs.Jobs.{ComesTo, cube_count}
 use Rattle.outcome.specs.declared.Outcome.{Outcome}
 use Rattle.outcome.specs.declared.Outcome.TheVariants as outcome
-use Rattle.project_run.specs.Calls.{FolderState, WasOnlyRead}
+use Rattle.reel_disk.specs.State.{FolderState}
+use Rattle.project_run.specs.Calls.{WasOnlyRead}
 use Rattle.project_run.specs.Run.{IsOfRun, IsUnplanned}
 
 -- the outcome of a ledger that can't be had

@@ -12,7 +12,7 @@ use Rattle.reel_qc.specs.declared.table.probe.ProbeKind.{ProbeKind}
 use Rattle.outcome.specs.declared.Outcome.{Outcome}
 use Rattle.outcome.specs.declared.Outcome.TheVariants as outcome
 use Rattle.project_run.specs.Look.{HasSeen, IsBehindLook, IsLookReply}
-use Rattle.project_run.specs.Calls.{FolderState}
+use Rattle.reel_disk.specs.State.{FolderState}
 
 -- The frames of what the ledger has were counted, each kind in its column: it came to their table, over the files of the folder.
 pub record IsCounted (kinds : List ProbeKind) (job : JobData) (view : ViewState) (disk : FolderState)

@@ -18,7 +18,8 @@ use Rattle.printed_text.specs.Text.{spaced_line}
 use Rattle.outcome.specs.declared.Outcome.{Outcome}
 use Rattle.outcome.specs.declared.Outcome.TheVariants as outcome
 use Rattle.project_run.specs.Look.{HasFound, IsBehindLook, IsLookReply}
-use Rattle.project_run.specs.Calls.{FolderState, WasOnlyRead}
+use Rattle.reel_disk.specs.State.{FolderState}
+use Rattle.project_run.specs.Calls.{WasOnlyRead}
 
 -- how many cells the sheet has, and its greatest code
 abbrev pub sheet_text : (cells peak : ℕ) → List ℕ

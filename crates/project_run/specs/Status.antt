@@ -12,7 +12,8 @@ use Rattle.printed_text.specs.Text.{spaced_line}
 use Rattle.outcome.specs.declared.Outcome.{Outcome}
 use Rattle.outcome.specs.declared.Outcome.TheVariants as outcome
 use Rattle.project_run.specs.Look.{IsLookReply, outcome_of_fault}
-use Rattle.project_run.specs.Calls.{FolderState, WasOnlyRead}
+use Rattle.reel_disk.specs.State.{FolderState}
+use Rattle.project_run.specs.Calls.{WasOnlyRead}
 
 -- the frames of the reel, and those that the folder acknowledges
 abbrev pub status_text : (frames acked : ℕ) → List ℕ

@@ -14,7 +14,7 @@ use Rattle.reel_writer.specs.Reel.{frames_of}
 use Rattle.outcome.specs.declared.Outcome.{Outcome}
 use Rattle.outcome.specs.declared.Outcome.TheVariants as outcome
 use Rattle.project_run.specs.Look.{HasSeen, IsLookReply}
-use Rattle.project_run.specs.Calls.{FolderState}
+use Rattle.reel_disk.specs.State.{FolderState}
 
 -- the digest of a frame's file in 64 hexadecimal digits, two blanks, and the file's name; nothing, where there is no record
 abbrev pub sum_line_of : JobData → ℕ → Option (List ℕ) → List ℕ

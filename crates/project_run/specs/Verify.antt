@@ -15,7 +15,7 @@ use Rattle.printed_text.specs.Text.{spaced_line}
 use Rattle.outcome.specs.declared.Outcome.{Outcome}
 use Rattle.outcome.specs.declared.Outcome.TheVariants as outcome
 use Rattle.project_run.specs.Look.{HasSeen, IsLookReply, IsOfLook}
-use Rattle.project_run.specs.Calls.{FolderState}
+use Rattle.reel_disk.specs.State.{FolderState}
 
 -- the frames of the reel, those that the folder acknowledges, and those whose files were compared with their records
 abbrev pub verify_text : (frames acked verified : ℕ) → List ℕ

@@ -6,8 +6,8 @@ ghost use Rattle.reel_disk.specs.Runs.{Extends, Spares};
 ghost use Rattle.reel_qc.specs.Sheet.{WritesSheet};
 ghost use Rattle.reel_writer.specs.Reel.{frames_of};
 ghost use Rattle.project_run.specs.Look.{IsOfLook};
-ghost use Rattle.project_run.specs.Calls.{LeavesDiskFor, LeavesScanFor, OnDisk, Replies, OverScan};
-ghost use Rattle.reel_disk.specs.State.{LeavesDisk};
+ghost use Rattle.project_run.specs.Calls.{LeavesDiskFor, LeavesScanFor, Replies, OverScan};
+ghost use Rattle.reel_disk.specs.State.{LeavesDisk, OnDisk};
 ghost use Rattle.project_run.specs.Sheet.{HasSheet, IsSheetReply, IsSheeted, sheet_text};
 
 use crate::progress::outcome_of_fault;

@@ -4,8 +4,8 @@ ghost use Rattle.reel_disk.specs.Names.{file_name};
 ghost use Rattle.conform_job.specs.Job.{file_of};
 ghost use Rattle.reel_writer.specs.Reel.{frames_of};
 ghost use Rattle.project_run.specs.Look.{IsOfLook};
-ghost use Rattle.project_run.specs.Calls.{LeavesDiskFor, LeavesScanFor, OnDisk, Replies, OverScan};
-ghost use Rattle.reel_disk.specs.State.{LeavesDisk};
+ghost use Rattle.project_run.specs.Calls.{LeavesDiskFor, LeavesScanFor, Replies, OverScan};
+ghost use Rattle.reel_disk.specs.State.{LeavesDisk, OnDisk};
 ghost use Rattle.project_run.specs.Sums.{IsSummed, IsSumsReply, sum_line, sums_text};
 
 use crate::progress::outcome_of_fault;

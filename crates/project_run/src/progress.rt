@@ -1,8 +1,8 @@
 //! The command `status`.
 ghost use Rattle.std.specs.Prelude.{◌≡◌, ◌≢◌, Err, IfOk, MatchResult};
 ghost use Rattle.project_run.specs.Look.{IsOfLook, outcome_of_fault};
-ghost use Rattle.project_run.specs.Calls.{LeavesDiskFor, LeavesScanFor, OnDisk, Replies, OverScan};
-ghost use Rattle.reel_disk.specs.State.{LeavesDisk};
+ghost use Rattle.project_run.specs.Calls.{LeavesDiskFor, LeavesScanFor, Replies, OverScan};
+ghost use Rattle.reel_disk.specs.State.{LeavesDisk, OnDisk};
 ghost use Rattle.project_run.specs.Status.{IsStatus, IsStatusReply, status_text};
 
 use crate::report::put_count;

@@ -13,3 +13,4 @@ pub mod Sparing
 pub mod Steps
 pub mod Walks
 pub mod WholeRead
+pub mod Writing

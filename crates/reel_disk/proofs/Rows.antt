@@ -1,11 +1,16 @@
 -- The definitions at worked examples.
-use Rattle.std.proofs.Common.{◌≡◌, inl, inr, ℕ, zero, suc, ◌<◌, ◌≤◌, true, false, List, [], ◌∷◌, refl, sym, ◌∙◌, ap, arith}
-use Rattle.std.specs.Prelude.{Some, None, slice_index}
+use Rattle.std.proofs.Common.{◌≡◌, inl, inr, ℕ, zero, suc, ◌<◌, ◌≤◌, true, false, List, [], ◌∷◌, refl, sym, ◌∙◌, ap, subst, arith, append-nil}
+use Rattle.std.proofs.lemmas.List.Elements.{All-head}
+use Rattle.std.specs.Prelude.{Some, None, slice_index, All}
 use Rattle.cf_base.specs.declared.file.FileId.TheVariants.{Seal, Body}
 use Rattle.reel_disk.specs.declared.disk.Place.TheVariants.{Whole, Range}
+use Rattle.reel_disk.specs.declared.disk.Length.TheVariants.{Absent}
+use Rattle.reel_disk.specs.declared.disk.Did.TheVariants.{Done}
+use Rattle.reel_disk.specs.Call.{Measured, Wrote, Synced, IsOwnCall, OnlyWrites}
 use Rattle.reel_disk.specs.Disk.{Files, Moment, History, IsLoose, IsLooseAt, IsImage, overwritten, with_range}
 use Rattle.reel_disk.specs.Crash.{IsPicked, IsTurned}
 use Rattle.reel_disk.specs.MemoryDisk.{no_fault, fails_at}
+use Rattle.reel_disk.proofs.Writing.{writing_none, writing_call}
 
 -- bytes over others, and over a file that isn't there
 overwrites : overwritten (1 ∷ 2 ∷ 3 ∷ 4 ∷ []) 1 (8 ∷ 9 ∷ []) ≡ 1 ∷ 8 ∷ 9 ∷ 4 ∷ []
@@ -87,3 +92,14 @@ seal_is_cut = (λ loose. refl, λ firm. absurd (firm (inr (inl refl))))
 -- and of a byte of the body
 byte_turns : IsTurned torn_history Body 1 235
 byte_turns = (λ loose. refl, λ firm. absurd (firm (1, 1, inl refl, omega arith, omega arith)))
+
+-- a file is looked for, the body is written, and the seal is synced: no file is written but the body
+written : OnlyWrites (λ q. q ≡ Body) [] (Synced Seal Done ∷ Wrote Body [] Done ∷ Measured Seal Absent ∷ [])
+written = writing_call (writing_call (writing_call writing_none (Measured Seal Absent) tt) (Wrote Body [] Done) refl) (Synced Seal Done) tt
+
+-- where the seal is written, this is not so
+not_only : OnlyWrites (λ q. q ≡ Body) [] (Wrote Seal [] Done ∷ []) → ⊥
+not_only writing = let is : Seal ≡ Body = All-head (IsOwnCall (λ q. q ≡ Body)) (Wrote Seal [] Done) [] (subst (All (IsOwnCall (λ q. q ≡ Body))) since writing.own) in cc
+  where
+    since : writing.since ≡ Wrote Seal [] Done ∷ []
+    since = sym (append-nil writing.since) ∙ sym writing.made

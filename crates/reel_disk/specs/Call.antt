@@ -1,8 +1,10 @@
 -- One call on a disk, with what it was given and what it answered. All of it is this project's own rule.
--- * call on a disk: of which kind, on which file, from which byte on, with which bytes, and what it answered
+-- * call on a disk: of which kind, on which file, from which byte on, with which bytes, and what it answered; which files the calls
+--   write that were made since others
 --     Call      one call
 --     writes_in calls      the writes and the syncs among calls: where they are as before, the calls since then only read
-use Rattle.std.specs.Prelude.{ℕ, List, [], ◌∷◌}
+--     OnlyWrites May before after      the calls since then write no file but those that `May` names
+use Rattle.std.specs.Prelude.{◌≡◌, ℕ, List, [], ◌∷◌, ◌++◌, All}
 use Rattle.cf_base.specs.declared.file.FileId.{FileId}
 use Rattle.reel_disk.specs.declared.disk.Length.{Length}
 use Rattle.reel_disk.specs.declared.disk.Got.{Got}
@@ -29,3 +31,15 @@ with_write (Synced id did) writes = Synced id did ∷ writes
 abbrev pub writes_in : List Call → List Call
 writes_in [] = []
 writes_in (call ∷ calls) = with_write call (writes_in calls)
+
+-- a call that writes no file, or one that `May` names; a sync changes no byte
+abbrev pub IsOwnCall : (May : FileId → Type 0) → Call → Type 0
+IsOwnCall May (Wrote id bytes did) = May id
+IsOwnCall May (Patched id start bytes did) = May id
+IsOwnCall May call = Unit {0}
+
+-- The writes and the syncs are those before and, in front of them, those made since, each of which is such a call.
+pub record OnlyWrites (May : FileId → Type 0) (before after : List Call) : Type 0 where
+  pub since : List Call
+  pub made : writes_in after ≡ since ++ writes_in before
+  pub own : All (IsOwnCall May) since

@@ -2,7 +2,7 @@
 use Rattle.std.proofs.Common.{◌≡◌, ◌∙◌, ◌≤◌, arith, length, refl, rules, subst, sym, vec_len}
 use Rattle.command_words.specs.declared.command.Command.TheVariants as commands
 use Rattle.frame_range.specs.declared.range.Extent.TheVariants.{Whole}
-use Rattle.project_run.specs.Calls.{folder_state}
+use Rattle.reel_disk.specs.State.{folder_state}
 use Rattle.command_answers.specs.States.{folders_of}
 use Rattle.command_answers.specs.Complete.{IsAccepted, IsComplete}
 use Rattle.conform_tool.proofs.Alone.{alone_adoption, alone_complete, alone_promise, alone_unfailed, first_answered}

@@ -7,7 +7,7 @@ use Rattle.conform_job.specs.Job.{JobData}
 use Rattle.reconform.specs.declared.adopting.AdoptFault.TheVariants as faults
 use Rattle.outcome.specs.declared.Outcome.TheVariants as outcomes
 use Rattle.scan_source.proofs.Leaving.{leaves_still}
-use Rattle.project_run.specs.Calls.{folder_state}
+use Rattle.reel_disk.specs.State.{folder_state}
 use Rattle.project_run.proofs.Runs.{match_each}
 use Rattle.project_adopt.specs.Adopt.{IsOfAdopt, outcome_of_fault}
 use Rattle.project_adopt.proofs.Composing.{by_disk, fault_adopts, never_source, promised_no_further, promised_on, rest_of, run_adopts, went_no_further, went_on}

@@ -1,7 +1,7 @@
 -- The rest is run as the command `run` does.
 use Rattle.std.proofs.Common.{ℕ, List, refl, subst}
 use Rattle.outcome.specs.declared.Outcome.{Outcome}
-use Rattle.project_run.specs.Calls.{folder_state}
+use Rattle.reel_disk.specs.State.{folder_state}
 use Rattle.frame_range.specs.Parts.{range_of}
 use Rattle.frame_range.specs.declared.range.Extent.TheVariants.{Whole}
 use Rattle.project_run.specs.Run.{IsSafeRun, run_text}

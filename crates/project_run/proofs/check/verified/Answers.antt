@@ -1,6 +1,6 @@
 -- The ledger was looked at, and then the files were checked.
 use Rattle.std.proofs.Common.{refl}
-use Rattle.project_run.specs.Calls.{folder_state}
+use Rattle.reel_disk.specs.State.{folder_state}
 use Rattle.project_run.proofs.Runs.{match_each}
 use Rattle.project_run.proofs.Looking.{folder_read, verified_by}
 use Rattle.project_run.proofs.check.verified.Goals as goal

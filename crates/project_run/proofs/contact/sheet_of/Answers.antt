@@ -2,7 +2,7 @@
 use Rattle.std.proofs.Common.{refl, subst, sym}
 use Rattle.printed_lines.specs.Lines.{line_of}
 use Rattle.outcome.specs.declared.Outcome.{Outcome}
-use Rattle.project_run.specs.Calls.{folder_state}
+use Rattle.reel_disk.specs.State.{folder_state}
 use Rattle.project_run.specs.Sheet.{HasSheet}
 use Rattle.project_run.proofs.Runs.{match_each}
 use Rattle.project_run.proofs.Looking.{folder_read, sheet_by, unsheeted}

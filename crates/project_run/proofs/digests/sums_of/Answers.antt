@@ -1,6 +1,6 @@
 -- The ledger was looked at, and its lines were put, or no memory was left for them.
 use Rattle.std.proofs.Common.{refl, inl}
-use Rattle.project_run.specs.Calls.{folder_state}
+use Rattle.reel_disk.specs.State.{folder_state}
 use Rattle.project_run.proofs.Looking.{folder_read, summed_by}
 use Rattle.project_run.proofs.digests.sums_of.Goals as goal
 

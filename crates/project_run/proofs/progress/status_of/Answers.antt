@@ -1,6 +1,6 @@
 -- The ledger was peeked at, and its number was put, or no memory was left for it.
 use Rattle.std.proofs.Common.{inl, inr, refl}
-use Rattle.project_run.specs.Calls.{folder_state}
+use Rattle.reel_disk.specs.State.{folder_state}
 use Rattle.project_run.proofs.Looking.{folder_read, status_by}
 use Rattle.project_run.proofs.progress.status_of.Goals as goal
 

@@ -1,6 +1,6 @@
 -- The ledger was looked at, and then the frames were counted.
 use Rattle.std.proofs.Common.{map, refl}
-use Rattle.project_run.specs.Calls.{folder_state}
+use Rattle.reel_disk.specs.State.{folder_state}
 use Rattle.project_run.proofs.Runs.{match_each}
 use Rattle.project_run.proofs.Looking.{folder_read, tabled_by}
 use Rattle.project_run.proofs.quality.tabled.Goals as goal
