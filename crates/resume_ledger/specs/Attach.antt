@@ -1,7 +1,8 @@
 -- What an attach answers.
--- * opening: which answer comes, by the view at the start; which frames a taking over keeps
+-- * opening: which answer comes, by the view at the start; which frames a taking over keeps; which files may be written, by the
+--   answer
 --     HasAttached       over a disk that tells
---     IsAnswerTo        over any disk
+--     IsAnswerTo, OpeningMayWrite        over any disk
 use Rattle.std.specs.Prelude.{◌≡◌, ◌≢◌, ◌↔◌, ℕ, true, false, List, length, slice_index_or, Option, Some, None, Result, Ok, Err}
 use Rattle.cf_base.specs.declared.file.FileId.{FileId}
 use Rattle.cf_base.specs.declared.file.FileId.TheVariants.{Body2}
@@ -11,7 +12,7 @@ use Rattle.reel_disk.specs.Runs.{Narrows}
 use Rattle.resume_ledger.specs.declared.layout.Version.{Version}
 use Rattle.resume_ledger.specs.declared.layout.Version.TheVariants.{One, Two}
 use Rattle.resume_ledger.specs.Body.{Layout, layout_of, IsWellFormed, closed_body, digest_of}
-use Rattle.resume_ledger.specs.Ledger.{LedgerState, IsInForce, IsSealed, IsFit, HasRecord, Agrees, Acks}
+use Rattle.resume_ledger.specs.Ledger.{LedgerState, IsInForce, IsSealed, IsFit, IsWrittenLedgerFile, HasRecord, Agrees, Acks}
 use Rattle.resume_ledger.specs.Sound.{HasSize, file_at}
 use Rattle.resume_ledger.specs.declared.attach.OpenFault.{OpenFault}
 use Rattle.resume_ledger.specs.declared.attach.OpenFault.TheVariants.{OtherJob, BadLedger, DiskFault, NoMemory}
@@ -105,3 +106,11 @@ IsRefusalFor digest NoMemory = Unit {0}
 abbrev pub IsAnswerTo : List ℕ → ℕ → Result LedgerState OpenFault → Type 0
 IsAnswerTo digest count (Ok ledger) = IsOpenFor digest count ledger
 IsAnswerTo digest count (Err fault) = IsRefusalFor digest fault
+
+-- Which files an opening may write, by its answer: none where it is refused or no memory was left, else those of version 2.
+abbrev pub OpeningMayWrite : Result LedgerState OpenFault → FileId → Type 0
+OpeningMayWrite (Ok ledger) q = IsWrittenLedgerFile q
+OpeningMayWrite (Err (OtherJob kept wanted)) q = ⊥
+OpeningMayWrite (Err (BadLedger len)) q = ⊥
+OpeningMayWrite (Err DiskFault) q = IsWrittenLedgerFile q
+OpeningMayWrite (Err NoMemory) q = ⊥

@@ -4,7 +4,8 @@ ghost use Rattle.reel_disk.specs.State.{LeavesDisk};
 ghost use Rattle.reel_disk.specs.Runs.{Spares};
 ghost use Rattle.resume_ledger.specs.Ledger.{IsLedgerFile, IsWrittenLedgerFile, IsInForce};
 ghost use Rattle.resume_ledger.specs.Sound.{IsFrameFile, file_at, IsOpeningRunOf, AddsNone, OnlyReadsSecond, WritesOnly};
-ghost use Rattle.resume_ledger.specs.Attach.{HasAttachedTo, IsAnswerTo};
+ghost use Rattle.resume_ledger.specs.Attach.{HasAttachedTo, IsAnswerTo, OpeningMayWrite};
+ghost use Rattle.reel_disk.specs.Call.{OnlyWrites};
 ghost use Rattle.reel_disk.specs.Disk.{view_of};
 ghost use Rattle.resume_ledger.specs.OpeningCalls.{Attaches, FreshCalls, FirstCalls, SecondCalls};
 
@@ -68,6 +69,9 @@ impl Ledger {
         ensures only_reads { D.tells ≡ true → OnlyReadsSecond (D.state disk.old).history (D.state disk.new).history }
         ensures writes { D.tells ≡ true → WritesOnly (D.state disk.old).history (D.state disk.new).history IsWrittenLedgerFile }
         ensures spares { D.tells ≡ true → Spares (D.state disk.old).history (D.state disk.new).history IsLedgerFile }
+
+        // Over every disk no file is written but those of version 2, and none where it is refused or no memory was left.
+        ensures own { OnlyWrites (OpeningMayWrite result) (D.state disk.old).calls (D.state disk.new).calls }
 
         // The job's digest, the size of the ledger and that it is open are known over every disk.
         ensures known { IsAnswerTo digest (length files.now) result }

@@ -1,6 +1,7 @@
 //! The ledger of a job: one gate for each frame.
 ghost use Rattle.std.specs.Prelude.{◌≡◌, ◌<◌, ◌≤◌, true, false, length, set, slice_index_or, OnOk, OnErr, IsErr, count_by};
 ghost use Rattle.cf_base.specs.declared.file.FileId.TheVariants.{Body2};
+ghost use Rattle.reel_disk.specs.Call.{OnlyWrites};
 ghost use Rattle.reel_disk.specs.State.{LeavesDisk};
 ghost use Rattle.reel_disk.specs.Disk.{moment_of, view_of};
 ghost use Rattle.reel_disk.specs.Runs.{Extends, Spares, StaysFirm};
@@ -94,6 +95,7 @@ impl Ledger {
         // No frame is acknowledged, and no file but the second body is written, also after a fault.
         ensures others { D.tells ≡ true → OpensNone self.old (D.state disk.old).history (D.state disk.new).history }
         ensures spares { D.tells ≡ true → Spares (D.state disk.old).history (D.state disk.new).history (λ q. q ≡ Body2) }
+        ensures own { OnlyWrites (λ q. q ≡ Body2) (D.state disk.old).calls (D.state disk.new).calls }
 
         ensures noted { OnOk result (D.tells ≡ true → HasRecord i hash (view_of (D.state disk.new).history)) }
         ensures firm { OnOk result (D.tells ≡ true → StaysFirm (D.state disk.old).history (D.state disk.new).history) }
@@ -135,6 +137,7 @@ impl Ledger {
         // All other frames stay as they were, also after a fault.
         ensures others { D.tells ≡ true → OpensAtMost i self.old (D.state disk.old).history (D.state disk.new).history }
         ensures spares { D.tells ≡ true → Spares (D.state disk.old).history (D.state disk.new).history (λ q. q ≡ Body2) }
+        ensures own { OnlyWrites (λ q. q ≡ Body2) (D.state disk.old).calls (D.state disk.new).calls }
 
         ensures acked { OnOk result (D.tells ≡ true → SurelyAcks i self.old (D.state disk.new).history) }
         ensures written { OnOk result (D.tells ≡ true → HasWrittenGate i (D.state disk.old).history (D.state disk.new).history) }

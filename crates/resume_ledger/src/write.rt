@@ -6,7 +6,7 @@ ghost use Rattle.reel_disk.specs.Disk.{view_of, IsInFile};
 ghost use Rattle.reel_disk.specs.Runs.{Spares};
 ghost use Rattle.resume_ledger.specs.Steps.{IsPut, IsFirmly};
 ghost use Rattle.resume_ledger.specs.inside.Steps.{IsPatchedFirmly};
-ghost use Rattle.reel_disk.specs.Call.{Wrote, Patched};
+ghost use Rattle.reel_disk.specs.Call.{Wrote, Patched, OnlyWrites};
 ghost use Rattle.resume_ledger.specs.Calls.{Puts};
 
 use cf_base::FileId;
@@ -18,6 +18,7 @@ use reel_disk::{Did, Disk, DiskFault};
 pub fn write_firmly<D: Disk>(disk: &mut D, id: FileId, bytes: &[u8]) -> Result<(), DiskFault>
     ensures put { D.tells ≡ true → IsPut (D.state disk.old).history (D.state disk.new).history (Whole id) }
     ensures spares { D.tells ≡ true → Spares (D.state disk.old).history (D.state disk.new).history (λ q. q ≡ id) }
+    ensures own { OnlyWrites (λ q. q ≡ id) (D.state disk.old).calls (D.state disk.new).calls }
     ensures firmly { OnOk result (D.tells ≡ true → IsFirmly (D.state disk.old).history (D.state disk.new).history id (Some bytes.now)) }
     ensures calls { Puts (Wrote id bytes.now) id result (D.state disk.old).calls (D.state disk.new).calls }
     ensures disk { LeavesDisk (IsErr result) (D.state disk.old) (D.state disk.new) }
@@ -41,6 +42,7 @@ pub(crate) fn patch_firmly<D: Disk>(
     requires there { D.tells ≡ true → IsInFile (view_of (D.state disk.old).history id) start (length bytes.now) }
     ensures put { D.tells ≡ true → IsPut (D.state disk.old).history (D.state disk.new).history (Range id start (length bytes.now)) }
     ensures spares { D.tells ≡ true → Spares (D.state disk.old).history (D.state disk.new).history (λ q. q ≡ id) }
+    ensures own { OnlyWrites (λ q. q ≡ id) (D.state disk.old).calls (D.state disk.new).calls }
     ensures firmly { OnOk result
         (D.tells ≡ true → IsPatchedFirmly (D.state disk.old).history (D.state disk.new).history id start bytes.now) }
     ensures calls { Puts (Patched id start bytes.now) id result (D.state disk.old).calls (D.state disk.new).calls }
