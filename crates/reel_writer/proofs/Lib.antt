@@ -1,6 +1,7 @@
 mod Checking
 pub mod Finishing
 pub mod Keeping
+pub mod OwnFiles
 pub mod ReelLaws
 mod Rooms
 pub mod Writing

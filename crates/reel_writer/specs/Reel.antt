@@ -2,11 +2,12 @@
 -- rule.
 -- * run of calls on a reel: what a part of a finish keeps; no acknowledgement is lost; begun on sound and fit files, whatever a
 --   crash leaves at any moment is sound and fit, for the frame files of the definition; a file that is there with just these
---   bytes; what the call that acknowledges a frame makes of the ledger
+--   bytes; what the call that acknowledges a frame makes of the ledger; which files a run over some of the frames may write
 --     frames_of job      how many frames the reel has
 --     reel_of job files      for each frame its file and its bytes
 --     IsReelRun job told old new      what each call on the reel keeps, and so does each run of them
-use Rattle.std.specs.Prelude.{◌≡◌, ◌⊎◌, ℕ, List, Option, Some, IfSome, Result}
+--     IsRunFile job low high      a file that a run over the frames from low to high, exclusive, may write
+use Rattle.std.specs.Prelude.{◌≡◌, ◌⊎◌, ℕ, ◌<◌, ◌≤◌, List, Option, Some, IfSome, Result}
 use Rattle.cf_base.specs.declared.file.FileId.{FileId}
 use Rattle.cf_base.specs.declared.file.FileId.TheVariants.{Body2}
 use Rattle.scan_source.specs.World.{World, file_at}
@@ -17,7 +18,7 @@ use Rattle.frame_render.specs.Frame.{frame_file, frame_size}
 use Rattle.reel_disk.specs.Disk.{Files, History, view_of}
 use Rattle.reel_disk.specs.Runs.{Extends, NeverForgets, StaysSo}
 use Rattle.resume_ledger.specs.Attach.{HasAttached}
-use Rattle.resume_ledger.specs.Ledger.{Acks, LedgerState}
+use Rattle.resume_ledger.specs.Ledger.{Acks, IsWrittenLedgerFile, LedgerState}
 use Rattle.resume_ledger.specs.declared.attach.OpenFault.{OpenFault}
 use Rattle.resume_ledger.specs.Sound.{Reel, IsSoundAndFit, HasItsFiles}
 
@@ -61,6 +62,11 @@ pub record IsReelRun (job : JobData) (told : Option World) (old new : History) :
   pub extends : Extends old new
   pub keeps : HasFrameFiles job (view_of old) → KeepsReel job old new
   pub sound : IfSome told (λ world. StaysSo old new (IsSoundReel job world))
+
+-- What a run over the frames from low to high, exclusive, may write: of the ledger's files those of version 2, and the files of
+-- these frames.
+abbrev pub IsRunFile : JobData → (low high : ℕ) → FileId → Type 0
+IsRunFile job low high q = IsWrittenLedgerFile q ⊎ ((i : ℕ) × (low ≤ i) × (i < high) × (q ≡ file_of job i))
 
 -- The rest is said of the steps of a finish.
 

@@ -1,5 +1,6 @@
 //! The files of a job's frames.
 ghost use Rattle.std.specs.Prelude.{◌≡◌, ◌≢◌, ◌<◌, ◌≤◌, ℕ, true, length, IfOk, IsErrOf, Err};
+ghost use Rattle.reel_disk.specs.Call.{OnlyWrites};
 ghost use Rattle.reel_disk.specs.State.{LeavesDisk};
 ghost use Rattle.conform_job.specs.Job.{file_of};
 ghost use Rattle.conform_job.specs.Refusals.{Files as Sources};
@@ -8,7 +9,7 @@ ghost use Rattle.reel_disk.specs.Disk.{view_of};
 ghost use Rattle.reel_disk.specs.Runs.{Narrows, Spares};
 ghost use Rattle.resume_ledger.specs.Ledger.{IsInForce, IsLedgerFile, IsWrittenLedgerFile};
 ghost use Rattle.resume_ledger.specs.Sound.{file_at, IsOpeningRun, AddsNone, WritesOnly};
-ghost use Rattle.resume_ledger.specs.Attach.{IsAnswerTo};
+ghost use Rattle.resume_ledger.specs.Attach.{IsAnswerTo, OpeningMayWrite};
 ghost use Rattle.reel_writer.specs.Calls.{Opens};
 ghost use Rattle.reel_writer.specs.Reel.{frames_of, HasBegun};
 
@@ -54,6 +55,7 @@ pub(crate) fn attach_for<D: Disk>(
         → WritesOnly (D.state disk.old).history (D.state disk.new).history IsWrittenLedgerFile }
     ensures spares { D.tells ≡ true
         → Spares (D.state disk.old).history (D.state disk.new).history IsLedgerFile }
+    ensures own { OnlyWrites (OpeningMayWrite result) (D.state disk.old).calls (D.state disk.new).calls }
     ensures known { IsAnswerTo job.now.parts.digest (frames_of job.now) result }
     ensures calls { Opens job.now size result (D.state disk.old).calls (D.state disk.new).calls }
     ensures disk { LeavesDisk (IsErrOf result OpenFault.DiskFault) (D.state disk.old) (D.state disk.new) }

@@ -1,5 +1,6 @@
 //! The reel of a job.
 ghost use Rattle.std.specs.Prelude.{◌≡◌, ◌≢◌, ◌<◌, true, false, Some, Err, length, slice_index_or, OnOk, OnErr, IfOk, IsErr, IsErrOf};
+ghost use Rattle.reel_disk.specs.Call.{OnlyWrites};
 ghost use Rattle.reel_disk.specs.State.{LeavesDisk};
 ghost use Rattle.conform_job.specs.Job.{file_of};
 ghost use Rattle.reel_disk.specs.Disk.{Files, moment_of, view_of};
@@ -8,7 +9,7 @@ ghost use Rattle.frame_render.specs.Frame.{frame_size};
 ghost use Rattle.scan_source.specs.World.{World};
 ghost use Rattle.resume_ledger.specs.Ledger.{IsInForce, IsLedgerFile, IsWrittenLedgerFile};
 ghost use Rattle.resume_ledger.specs.Sound.{AddsNone, AddsAtMost, WritesOnly};
-ghost use Rattle.resume_ledger.specs.Attach.{IsAnswerTo};
+ghost use Rattle.resume_ledger.specs.Attach.{IsAnswerTo, OpeningMayWrite};
 ghost use Rattle.reel_writer.specs.Calls.{Finishes, Opens};
 ghost use Rattle.reel_writer.specs.Reel.{frames_of, HasAcked, HasFrameFiles, HasStored, IsSoundReel, IsReelRun, KeepsReel, IsWrittenFile, HasBegun};
 ghost use Rattle.reel_writer.specs.View.{ReelView, IsReelOf, IsOpening, after_finish, after_fault, ledger_in, disk_in};
@@ -94,6 +95,9 @@ impl<D: Disk, N: Work> Reel<D, N> {
         ensures spares { D.tells ≡ true
             → Spares (D.state disk).history (D.state (disk_in result)).history IsLedgerFile }
 
+        // Over every disk no file is written but those of version 2, and none where it is refused or no memory was left.
+        ensures own { OnlyWrites (OpeningMayWrite (ledger_in result)) (D.state disk).calls (D.state (disk_in result)).calls }
+
         // The job's digest, the size of the ledger and that it is open are known over every disk.
         ensures known { IsAnswerTo N.job.parts.digest (frames_of N.job) (ledger_in result) }
         ensures opening { IfOk result IsOpening }
@@ -161,6 +165,10 @@ impl<D: Disk, N: Work> Reel<D, N> {
         ensures finished { OnOk result (self.new
             ≡ after_finish self.old frame.now.index self.new.disk) }
         ensures closed { OnErr result (self.new ≡ after_fault self.old self.new.disk) }
+
+        // Over every disk no file is written but the frame's and the second body.
+        ensures own { OnlyWrites (IsWrittenFile (file_of N.job frame.now.index))
+            (D.state self.old.disk).calls (D.state self.new.disk).calls }
 
         // Which calls are made, in which order, over every disk.
         ensures calls { Finishes frame.now.index (file_of N.job frame.now.index) frame.now.bytes result

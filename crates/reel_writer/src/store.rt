@@ -6,9 +6,10 @@ ghost use Rattle.reel_disk.specs.Disk.{moment_of, view_of};
 ghost use Rattle.reel_disk.specs.Runs.{Extends, Spares, Surely};
 ghost use Rattle.resume_ledger.specs.Ledger.{Agrees};
 ghost use Rattle.resume_ledger.specs.Sound.{IsFrameFile};
+ghost use Rattle.reel_disk.specs.Call.{OnlyWrites};
 ghost use Rattle.reel_disk.specs.State.{LeavesDisk};
 ghost use Rattle.reel_writer.specs.Calls.{Acknowledging, Finishes};
-ghost use Rattle.reel_writer.specs.Reel.{HasStored};
+ghost use Rattle.reel_writer.specs.Reel.{HasStored, IsWrittenFile};
 ghost use Rattle.reel_writer.specs.inside.Reel.{Acknowledges, FinishesStored, IsFinishing};
 
 use cf_base::FileId;
@@ -40,6 +41,7 @@ pub(crate) fn store<D: Disk>(
     ensures stored { OnOk result (D.tells ≡ true
         → Surely (moment_of (D.state disk.new).history) (HasStored file bytes.now)) }
     ensures ledger { Acknowledges D.tells i result (moment_of (D.state disk.new).history) ledger.old ledger.new }
+    ensures own { OnlyWrites (IsWrittenFile file) (D.state disk.old).calls (D.state disk.new).calls }
     ensures calls { Finishes i file bytes.now result (D.state disk.old).calls (D.state disk.new).calls }
     ensures disk { LeavesDisk (IsErr result) (D.state disk.old) (D.state disk.new) }
 {
@@ -70,6 +72,7 @@ fn acknowledge<D: Disk>(
         → Spares (D.state disk.old).history (D.state disk.new).history (λ q. q ≡ Body2) }
 
     ensures ledger { Acknowledges D.tells i result (moment_of (D.state disk.new).history) ledger.old ledger.new }
+    ensures own { OnlyWrites (λ q. q ≡ Body2) (D.state disk.old).calls (D.state disk.new).calls }
     ensures calls { Acknowledging i hash result (D.state disk.old).calls (D.state disk.new).calls }
     ensures disk { LeavesDisk (IsErr result) (D.state disk.old) (D.state disk.new) }
 {

@@ -1,6 +1,7 @@
 use Rattle.std.proofs.Common.{◌≡◌, ◌∙◌, ℕ, rules, true, List, length, subst}
 use Rattle.reel_disk.specs.Disk.{moment_of, view_of}
 use Rattle.reel_disk.specs.Runs.{Surely}
+use Rattle.reel_disk.proofs.Writing.{writing_then}
 use Rattle.resume_ledger.specs.Ledger.{LedgerState, HasRecord, Acks}
 use Rattle.reel_writer.specs.inside.Reel.{FinishesStored, IsFinishing}
 use Rattle.reel_writer.proofs.Finishing.{finishing_along, noted, acked, shown_still}
@@ -41,3 +42,13 @@ returns-in-Ok-ack-clause-ledger g c = record {
   digest = tt;
   gates = tt;
 }
+
+-- which files are written
+pub returns-in_default-clause-own : goal.returns-in_default-clause-own
+returns-in_default-clause-own g c = c.note.ensures.own
+
+pub returns-in-Ok-ack-clause-own : goal.returns-in-Ok-ack-clause-own
+returns-in-Ok-ack-clause-own g c = writing_then c.note.ensures.own c.ack.ensures.own
+
+pub returns-in-Err-clause-own : goal.returns-in-Err-clause-own
+returns-in-Err-clause-own g c = writing_then c.note.ensures.own c.ack.ensures.own

@@ -6,6 +6,7 @@ use Rattle.conform_job.specs.Job.{JobData, file_of}
 use Rattle.conform_job.specs.Refusals as sources
 use Rattle.frame_render.specs.Frame.{frame_file, frame_size}
 use Rattle.resume_ledger.specs.Sound.{IsOpeningRun, AddsNone}
+use Rattle.reel_disk.proofs.Writing.{writing_none}
 use Rattle.resume_ledger.proofs.Reading.{reading_itself, reading_part}
 use Rattle.reel_writer.specs.Calls.{Opens}
 use Rattle.reel_writer.specs.Reel.{frames_of}
@@ -28,6 +29,9 @@ returns-in-Ok-attach_for-clause-sound_has g c = sound_has g.N.Work.job (subst (�
 pub returns-in-Err-clause-sound_has : goal.returns-in-Err-clause-sound_has
 returns-in-Err-clause-sound_has g c = sound_has g.N.Work.job (subst (λ (j : JobData). (s : sources.Files) (i : ℕ) → length (frame_file j s i) ≡ frame_size j) c.requires.job c.frame_len-size.ensures.each)
 
+pub returns-in_default-clause-own : goal.returns-in_default-clause-own
+returns-in_default-clause-own g c = writing_none
+
 -- the folder was opened
 pub returns-in-Ok-attach_for-clause-run : goal.returns-in-Ok-attach_for-clause-run
 returns-in-Ok-attach_for-clause-run g c told =
@@ -44,7 +48,13 @@ returns-in-Ok-attach_for-clause-calls g c =
     (g.D.Disk.state c.args.disk).calls (g.D.Disk.state c.attach_for.new.disk).calls) c.in-Ok-attach_for.ensures.known.is_open
     (opens_for c.args.job.now g.N.Work.job _ (Ok c.in-Ok-attach_for.ledger) _ _ c.requires.job c.frame_len-size.ensures.size c.in-Ok-attach_for.ensures.calls)
 
+pub returns-in-Ok-attach_for-clause-own : goal.returns-in-Ok-attach_for-clause-own
+returns-in-Ok-attach_for-clause-own g c = c.in-Ok-attach_for.ensures.own
+
 -- or not
+pub returns-in-Err-clause-own : goal.returns-in-Err-clause-own
+returns-in-Err-clause-own g c = c.in-Err.ensures.own
+
 pub returns-in-Err-clause-calls : goal.returns-in-Err-clause-calls
 returns-in-Err-clause-calls g c =
     opens_for c.args.job.now g.N.Work.job _ (Err c.in-Err.fault) _ _ c.requires.job c.frame_len-size.ensures.size c.in-Err.ensures.calls

@@ -4,7 +4,7 @@ use Rattle.std.proofs.lemmas.List.{length-set}
 use Rattle.cf_base.specs.declared.file.FileId.{FileId}
 use Rattle.conform_job.specs.Job.{file_of}
 use Rattle.frame_render.specs.Frame.{FrameBytes, IsFileOf}
-use Rattle.reel_disk.specs.Call.{Call}
+use Rattle.reel_disk.specs.Call.{Call, OnlyWrites}
 use Rattle.reel_disk.specs.Runs.{Spares}
 use Rattle.resume_ledger.specs.Sound.{AddsAtMost}
 use Rattle.reel_disk.specs.Disk.{moment_of}
@@ -61,7 +61,17 @@ called g c result after bytes made =
     (subst (λ (q : FileId). Finishes c.index-i.result q all result before after) (file_is g c)
     (subst (λ (l : List ℕ). Finishes c.index-i.result c.file.result l result before after) bytes made)))
 
+-- the files that were written
+own : (g : given.Over) (c : After-bytes g) (after : List Call) → OnlyWrites (IsWrittenFile c.file.result) (g.D.Disk.state c.self.inside.disk).calls after
+    → OnlyWrites (IsWrittenFile (file_of g.N.Work.job c.args.frame.now.index)) (g.D.Disk.state c.args.self.now.disk).calls after
+own g c after writing =
+    disk_along _ _ c.self.view_is (λ d. OnlyWrites (IsWrittenFile (file_of g.N.Work.job c.args.frame.now.index)) (g.D.Disk.state d).calls after)
+    (subst (λ (q : FileId). OnlyWrites (IsWrittenFile q) (g.D.Disk.state c.self.inside.disk).calls after) (file_is g c) writing)
+
 -- it was done
+pub returns-in-Ok-clause-own : goal.returns-in-Ok-clause-own
+returns-in-Ok-clause-own g c = own g (goal.at.returns-in-Ok-clause-own g c).After-bytes (g.D.Disk.state c.store.new.disk).calls c.store.ensures.own
+
 pub returns-in-Ok-clause-run : goal.returns-in-Ok-clause-run
 returns-in-Ok-clause-run g c told = ran g (goal.at.returns-in-Ok-clause-run g c).After-bytes c.store.new.disk (c.store.ensures.finishing told)
 
@@ -79,6 +89,9 @@ returns-in-Ok-clause-calls g c =
     called g (goal.at.returns-in-Ok-clause-calls g c).After-bytes {A = Unit {0}} {B = Unit {0}} (Ok tt) (g.D.Disk.state c.store.new.disk).calls (search rules) c.in-Ok.ensures.calls
 
 -- the disk failed
+pub returns-in-Err-clause-own : goal.returns-in-Err-clause-own
+returns-in-Err-clause-own g c = own g (goal.at.returns-in-Err-clause-own g c).After-bytes (g.D.Disk.state c.store.new.disk).calls c.store.ensures.own
+
 pub returns-in-Err-clause-calls : goal.returns-in-Err-clause-calls
 returns-in-Err-clause-calls g c =
     called g (goal.at.returns-in-Err-clause-calls g c).After-bytes {A = Unit {0}} {B = Unit {0}} (Err tt) (g.D.Disk.state c.store.new.disk).calls (search rules) c.in-Err.ensures.calls
