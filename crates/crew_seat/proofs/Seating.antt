@@ -11,6 +11,7 @@ use Rattle.station.specs.Marks.{HasMoreThan, Tallies, fresh, joined}
 use Rattle.crew_seat.specs.Seats.{HasGiven, HasTaken, IsOnePart}
 use Rattle.scan_source.specs.World.{World}
 use Rattle.crew_seat.specs.Stepped.{HasWorked, IsFresh, WasCounted}
+use Rattle.crew_seat.specs.Worked.{seat_loads}
 use Rattle.crew_seat.specs.declared.seat.Seat.{Seat}
 
 -- A loop that takes its items out of a list: the next one is of that list, and at the end all of them came.
@@ -31,8 +32,8 @@ all_came all came left n whole size none = sym (append-nil came) ∙ ap (λ (l :
 pub has_room : (len cap room came all size : ℕ) → len ≡ came → cap ≡ room → came < all → size ≡ all → size ≤ room → len < cap
 has_room len cap room came all size is same within e fits = omega arith
 
--- 16 seats with at most 2^21 loads each
-pub few_loads : (loads more came all : ℕ) → loads ≤ 2097152 * came → more ≤ 2097152 → came < all → all ≤ 16 → loads + more < 2 ^ 64
+-- 16 seats with at most so many loads each
+pub few_loads : (loads more came all : ℕ) → loads ≤ seat_loads * came → more ≤ seat_loads → came < all → all ≤ 16 → loads + more < 2 ^ 64
 few_loads loads more came all few lent within most = omega arith
 
 pub next_number : (number came all size : ℕ) → number ≡ came → came < all → size ≡ all → size ≤ 16 → number + 1 < 2 ^ 16
@@ -106,7 +107,7 @@ units_closed before now out joins none = let pending = ap (λ (u : Tally). u.pen
 
 -- a seat that was worked in from its first state on is to be handed in
 pub was_counted : {S N C A B D E F : Type 0} (told : Option World) (state : S → ScanState) (old new : Seat S N C A B D E F)
-    → IsFresh old → HasWorked told state 2097152 old new → WasCounted new
+    → IsFresh old → HasWorked told state seat_loads old new → WasCounted new
 was_counted told state old new is work = record {
   few = work.few;
   marks = record {

@@ -56,6 +56,7 @@ module _ {S : Type 0} (told : Option World) (state : S → ScanState) where
     failed = rose a b first second;
     steady = λ never. second.steady (λ is. never (or_right a b is)) ∙ first.steady (λ is. never (or_left a b is));
     told = second.told ∙ first.told;
+    lent = second.lent ∙ first.lent;
   }
     where
       rose : (a b : Bool) → IsScanned n (a ≡ true) (state old) (state mid) → IsScanned m (b ≡ true) (state mid) (state new) → (a || b) ≡ true → HasRisen (state old).faults (state new).faults
@@ -129,7 +130,7 @@ module _ {S N C A B D E F : Type 0} (told : Option World) (state : S → ScanSta
   Worked most old new = HasWorked told state most old new
 
   -- nothing was loaded, and a stop may be counted that is not for a source file
-  pub stepped_marked : (most : ℕ) (old new : Seat S N C A B D E F) → new.scan ≡ old.scan → new.units ≡ old.units → new.loads ≡ old.loads → new.has_failed ≡ old.has_failed → HasCauses told 0 false old.marks new.marks → Stepped most old new
+  pub stepped_marked : (most : ℕ) (old new : Seat S N C A B D E F) → new.loader.scan ≡ old.loader.scan → new.loader.units ≡ old.loader.units → new.loader.loads ≡ old.loader.loads → new.has_failed ≡ old.has_failed → HasCauses told 0 false old.marks new.marks → Stepped most old new
   stepped_marked most old new scan units count has causes = record {
     more = 0;
     failed = false;
@@ -137,8 +138,7 @@ module _ {S N C A B D E F : Type 0} (told : Option World) (state : S → ScanSta
     counts = omega (arith, count);
     fails = has ∙ or_none old.has_failed;
     units = record { parts = ap (λ (u : Tally). u.parts) units; amount = let amount = ap (λ (u : Tally). u.amount) units in omega (arith, amount) };
-    scanned = subst (λ (s : S). IsScanned 0 (false ≡ true) (state old.scan) (state s)) (sym scan) (scanned_itself (false ≡ true) (λ e. true≢false (sym e)) (state old.scan));
-    lent = subst (λ (s : S). (state s).loans ≡ (state old.scan).loans) (sym scan) refl;
+    scanned = subst (λ (s : S). IsScanned 0 (false ≡ true) (state old.loader.scan) (state s)) (sym scan) (scanned_itself (false ≡ true) (λ e. true≢false (sym e)) (state old.loader.scan));
     causes = causes;
   }
 
@@ -146,7 +146,7 @@ module _ {S N C A B D E F : Type 0} (told : Option World) (state : S → ScanSta
   stepped_itself most seat = stepped_marked most seat seat refl refl refl refl (causes_none told seat.marks seat.marks 0 false (record { source = refl; disk = refl; memory = refl; changed = refl }) (record { source = refl; changed = refl }))
 
   -- the worker has stopped for want of memory, or was turned away
-  pub stepped_left : (most : ℕ) (old new : Seat S N C A B D E F) (leave : Leave) → new.scan ≡ old.scan → new.units ≡ old.units → new.loads ≡ old.loads → new.has_failed ≡ old.has_failed
+  pub stepped_left : (most : ℕ) (old new : Seat S N C A B D E F) (leave : Leave) → new.loader.scan ≡ old.loader.scan → new.loader.units ≡ old.loader.units → new.loader.loads ≡ old.loader.loads → new.has_failed ≡ old.has_failed
       → HasLeft (λ why. why ≡ Memory) old.marks new.marks leave → Stepped most old new
   stepped_left most old new leave scan units count has left =
       stepped_marked most old new scan units count has (by leave left)
@@ -163,45 +163,42 @@ module _ {S N C A B D E F : Type 0} (told : Option World) (state : S → ScanSta
     counts = let p = first.counts in let q = second.counts in omega (arith, p, q);
     fails = second.fails ∙ ap (λ (o : Bool). o || second.failed) first.fails ∙ or_same old.has_failed first.failed second.failed;
     units = record { parts = second.units.parts ∙ first.units.parts; amount = let p = first.units.amount in let q = second.units.amount in omega (arith, p, q) };
-    scanned = both_scanned told state old.scan mid.scan new.scan first.more second.more first.failed second.failed first.scanned second.scanned;
-    lent = second.lent ∙ first.lent;
+    scanned = both_scanned told state old.loader.scan mid.loader.scan new.loader.scan first.more second.more first.failed second.failed first.scanned second.scanned;
     causes = both_cause told state old.marks mid.marks new.marks first.more second.more first.failed second.failed first.causes second.causes;
   }
 
   pub stepped_within : (most more : ℕ) (old new : Seat S N C A B D E F) → most ≤ more → Stepped most old new → Stepped more old new
-  stepped_within most more old new le step = record { more = step.more; failed = step.failed; few = let few = step.few in omega (arith, few, le); counts = step.counts; fails = step.fails; units = step.units; scanned = step.scanned; lent = step.lent; causes = step.causes }
+  stepped_within most more old new le step = record { more = step.more; failed = step.failed; few = let few = step.few in omega (arith, few, le); counts = step.counts; fails = step.fails; units = step.units; scanned = step.scanned; causes = step.causes }
 
   -- a frame was made or could not be, and its stop was counted
   pub stepped_made : {T : Type 0} (most : ℕ) (old new : Seat S N C A B D E F) (made : Result T RunEnd) (fault : Bool) → (fault ≡ true) ↔ (made ≡ Err SourceFault) → new.has_failed ≡ (old.has_failed || fault)
-      → HasFetched most made old.loads new.loads old.units new.units (state old.scan) (state new.scan) → HasMarked told made old.marks new.marks → Stepped most old new
+      → HasFetched most made old.loader.loads new.loader.loads old.loader.units new.loader.units (state old.loader.scan) (state new.loader.scan) → HasMarked told made old.marks new.marks → Stepped most old new
   stepped_made {T = T} most old new made fault is has fetched marked =
       let counted = fetched.loaded in
       record {
-        more = new.loads - old.loads;
+        more = new.loader.loads - old.loader.loads;
         failed = fault;
         few = omega (arith, counted.few, counted.later);
         counts = omega (arith, counted.later);
         fails = has;
         units = record { parts = counted.parts; amount = omega (arith, counted.misses, counted.later) };
-        scanned = scanned_as (state old.scan) (state new.scan) _ _ _ (fault ≡ true) refl is.0 is.1 fetched.scan;
-        lent = fetched.lent;
-        causes = marked (new.loads - old.loads) fault is.1 (loaded made fetched.changed);
+        scanned = scanned_as (state old.loader.scan) (state new.loader.scan) _ _ _ (fault ≡ true) refl is.0 is.1 fetched.scan;
+        causes = marked (new.loader.loads - old.loader.loads) fault is.1 (loaded made fetched.changed);
       }
     where
-      loaded : (made : Result T RunEnd) → IfErr made (λ end. IsChange end → old.loads < new.loads) → IfErr made (λ end. IsChange end → 1 ≤ new.loads - old.loads)
+      loaded : (made : Result T RunEnd) → IfErr made (λ end. IsChange end → old.loader.loads < new.loader.loads) → IfErr made (λ end. IsChange end → 1 ≤ new.loader.loads - old.loader.loads)
       loaded (Ok frame) more = tt
       loaded (Err end) more = λ change. let lt = more change in omega (arith, lt)
 
   -- from nothing on, the steps are all that the worker did
-  pub worked_first : (most more : ℕ) (old new : Seat S N C A B D E F) → most ≤ more → old.loads ≡ 0 → old.has_failed ≡ false → Stepped most old new → Worked more old new
+  pub worked_first : (most more : ℕ) (old new : Seat S N C A B D E F) → most ≤ more → old.loader.loads ≡ 0 → old.has_failed ≡ false → Stepped most old new → Worked more old new
   worked_first most more old new le none unfailed step =
-      let count : new.loads ≡ step.more = omega (arith, step.counts, none) in
+      let count : new.loader.loads ≡ step.more = omega (arith, step.counts, none) in
       let has : new.has_failed ≡ step.failed = step.fails ∙ ap (λ (b : Bool). b || step.failed) unfailed in
       record {
         few = omega (arith, step.few, count, le);
         units = record { parts = step.units.parts; amount = omega (arith, step.units.amount, count) };
-        scanned = subst (λ (n : ℕ). IsScanned n (new.has_failed ≡ true) (state old.scan) (state new.scan)) (sym count) (subst (λ (b : Bool). IsScanned step.more (b ≡ true) (state old.scan) (state new.scan)) (sym has) step.scanned);
-        lent = step.lent;
+        scanned = subst (λ (n : ℕ). IsScanned n (new.has_failed ≡ true) (state old.loader.scan) (state new.loader.scan)) (sym count) (subst (λ (b : Bool). IsScanned step.more (b ≡ true) (state old.loader.scan) (state new.loader.scan)) (sym has) step.scanned);
         causes = subst (λ (n : ℕ). HasCauses told n new.has_failed old.marks new.marks) (sym count) (subst (λ (b : Bool). HasCauses told step.more b old.marks new.marks) (sym has) step.causes);
       }
 
@@ -211,11 +208,10 @@ module _ {S N C A B D E F : Type 0} (told : Option World) (state : S → ScanSta
       record {
         few = omega (arith, first.few, second.few, count, le);
         units = record { parts = second.units.parts ∙ first.units.parts; amount = let p = first.units.amount in let q = second.units.amount in omega (arith, p, q, count) };
-        scanned = subst (λ (n : ℕ). IsScanned n (new.has_failed ≡ true) (state old.scan) (state new.scan)) (sym count)
-            (subst (λ (b : Bool). IsScanned (mid.loads + second.more) (b ≡ true) (state old.scan) (state new.scan)) (sym second.fails)
-            (both_scanned told state old.scan mid.scan new.scan mid.loads second.more mid.has_failed second.failed first.scanned second.scanned));
-        lent = second.lent ∙ first.lent;
+        scanned = subst (λ (n : ℕ). IsScanned n (new.has_failed ≡ true) (state old.loader.scan) (state new.loader.scan)) (sym count)
+            (subst (λ (b : Bool). IsScanned (mid.loader.loads + second.more) (b ≡ true) (state old.loader.scan) (state new.loader.scan)) (sym second.fails)
+            (both_scanned told state old.loader.scan mid.loader.scan new.loader.scan mid.loader.loads second.more mid.has_failed second.failed first.scanned second.scanned));
         causes = subst (λ (n : ℕ). HasCauses told n new.has_failed old.marks new.marks) (sym count)
-            (subst (λ (b : Bool). HasCauses told (mid.loads + second.more) b old.marks new.marks) (sym second.fails)
-            (both_cause told state old.marks mid.marks new.marks mid.loads second.more mid.has_failed second.failed first.causes second.causes));
+            (subst (λ (b : Bool). HasCauses told (mid.loader.loads + second.more) b old.marks new.marks) (sym second.fails)
+            (both_cause told state old.marks mid.marks new.marks mid.loader.loads second.more mid.has_failed second.failed first.causes second.causes));
       }

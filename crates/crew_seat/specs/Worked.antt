@@ -23,3 +23,20 @@ pub record HasCauses (told : Option World) (loads : ℕ) (failed : Bool) (before
 pub record HasCounted (before : Tally) (more : ℕ) (now : Tally) : Type 0 where
   pub parts : now.parts ≡ before.parts
   pub amount : now.amount ≡ before.amount + more
+
+-- How many loads are made at most: two for each of the 262,144 frames that a job has at most, by a worker; then two for each frame
+-- that one of 16 workers still holds; then two for each free frame, and for one claim more; and all of these from one seat.
+abbrev pub worker_loads : ℕ
+worker_loads = 524288
+
+abbrev pub held_loads : ℕ
+held_loads = 32
+
+abbrev pub free_loads : ℕ
+free_loads = 524290
+
+abbrev pub rest_loads : ℕ
+rest_loads = held_loads + free_loads
+
+abbrev pub seat_loads : ℕ
+seat_loads = worker_loads + rest_loads

@@ -6,10 +6,11 @@ ghost use Rattle.crew_seat.specs.Stepped.{IsFresh, WasCounted};
 
 use crate::seat::Seat;
 use conform_job::Work;
+use frame_fetch::Loader;
 use frame_share::Units;
 use scan_source::Scans;
 use station::{Crewed, Marks};
-use std::marker::PhantomData;
+use std::alloc::Global;
 use std::thread::{Threads, available_parallelism};
 
 /// In how many threads each of so many workers renders a frame: as many as there are processors for it, as far as the system
@@ -26,6 +27,7 @@ pub fn threads_each<R: Threads>(rt: &R, workers: usize) -> u32
 
 /// A seat for each scan, in their order, with so many threads each. Takes no memory.
 pub fn seat_all<S: Scans, N: Work, C: Crewed>(
+    alloc: Global,
     room: Vec<Seat<S, N, C>>,
     scans: Vec<S>,
     threads: u32,
@@ -38,7 +40,7 @@ pub fn seat_all<S: Scans, N: Work, C: Crewed>(
     requires parts { HasMoreThan (vec_len scans) marks.old }
     requires shares { vec_len scans < units.old.parts }
     requires closed { units.old.pending ≡ 0 }
-    ensures scans { map (λ s. s.scan) result.items ≡ scans.items }
+    ensures scans { map (λ s. s.loader.scan) result.items ≡ scans.items }
     ensures len { vec_len result ≡ vec_len scans }
     ensures numbers { (k : ℕ) (d : _) → k < vec_len scans → (slice_index_or result.items k d).number ≡ k }
     ensures fresh { All (λ s. IsFresh s) result.items }
@@ -52,12 +54,9 @@ pub fn seat_all<S: Scans, N: Work, C: Crewed>(
         let seat = Seat {
             number,
             threads,
-            scan,
             marks: marks.split(),
-            units: units.split(),
-            loads: 0,
+            loader: Loader::new(alloc, scan, units.split()),
             has_failed: false,
-            of: PhantomData,
         };
         seats.push_reserved(seat);
         number += 1;
@@ -77,8 +76,8 @@ pub fn unseat<S: Scans, N: Work, C: Crewed>(
     requires room { vec_len seats ≤ vec_capacity room }
     requires some { vec_len seats ≤ 16 }
     requires counted { All (λ s. WasCounted s) seats.items }
-    ensures scans { result.0.items ≡ map (λ s. s.scan) seats.items }
-    ensures loads { result.1 ≡ sum_by (λ s. s.loads) seats.items }
+    ensures scans { result.0.items ≡ map (λ s. s.loader.scan) seats.items }
+    ensures loads { result.1 ≡ sum_by (λ s. s.loader.loads) seats.items }
     ensures source { marks.new.source.amount ≡ marks.old.source.amount + sum_by (λ s. s.marks.source.amount) seats.items }
     ensures changed { marks.new.changed.amount ≡ marks.old.changed.amount + sum_by (λ s. s.marks.changed.amount) seats.items }
     ensures taken { HasTaken marks.old (vec_len seats) marks.new }
@@ -91,13 +90,11 @@ pub fn unseat<S: Scans, N: Work, C: Crewed>(
         let Seat {
             number: _,
             threads: _,
-            scan,
             marks: theirs,
-            units: asked,
-            loads: more,
+            loader,
             has_failed: _,
-            of: _,
         } = seat;
+        let (scan, asked, more) = loader.into_parts();
         marks.join(theirs);
         units.join(asked);
         loads += more;

@@ -3,7 +3,6 @@
 
 mod rounds;
 mod shared_frames;
-mod sharing;
 mod turns;
 
 pub use rounds::Shared;

@@ -10,20 +10,19 @@ ghost use Rattle.frame_fetch.specs.Ends.{IsUnrendered};
 ghost use Rattle.station.specs.Leaving.{HasLeft};
 ghost use Rattle.station.specs.StationSteps.{MayStop};
 ghost use Rattle.crew_seat.specs.Stepped.{HasStepped, HasWorked};
+ghost use Rattle.crew_seat.specs.Worked.{worker_loads};
 ghost use Rattle.crew_seat.specs.inside.Worked.{HasMarked};
 
-use crate::shared_frames::SharedFrames;
-use crate::sharing::make_shared;
+use crate::shared_frames::{Asker, SharedFrames};
 use conform_job::{Job, Work};
 use crew_seat::{Seat, is_source_fault, why_of};
 use frame_fetch::RunEnd;
-use frame_render::{FrameBuf, Rendered, Rooms};
+use frame_render::{FrameBuf, Rendered};
 use reel_disk::{Disk, Start};
 use reel_writer::Hashed;
 use render_board::Why;
 use scan_source::Scans;
 use station::{Away, Crewed, Held, Leave, Marks, Station};
-use std::alloc::Global;
 use std::sync::{Mutex, Wait};
 use std::thread::Threads;
 
@@ -32,8 +31,6 @@ use std::thread::Threads;
 pub struct Shared<'a, D: Disk, N: Work + Start, C: Crewed, R: Threads + Wait + Sync> {
     /// Threads, and waiting for a lock.
     pub rt: &'a R,
-    /// Where memory comes from.
-    pub alloc: Global,
     /// N's job.
     pub job: &'a Job,
     /// The reel, and who renders which frame.
@@ -104,22 +101,17 @@ impl<D: Disk, N: Work + Start, C: Crewed, R: Threads + Wait + Sync> Shared<'_, D
 
     /// One round: takes a frame, makes it and finishes it. The room is handed back where the worker goes on; else it has stopped, or
     /// was turned away.
-    fn round<S: Scans>(
-        &self,
-        seat: &mut Seat<S, N, C>,
-        rooms: &mut Rooms<N>,
-        room: FrameBuf,
-    ) -> Result<FrameBuf, Leave>
+    fn round<S: Scans>(&self, seat: &mut Seat<S, N, C>, room: FrameBuf) -> Result<FrameBuf, Leave>
         requires job { self.now.job.now ≡ N.job }
-        requires files { Tells N.files (S.state seat.old.scan).world }
+        requires files { Tells N.files (S.state seat.old.loader.scan).world }
         requires infos { AreInfosOf N.job.parts N.files N.job.infos }
         requires room { length room ≡ frame_size N.job }
-        requires few { seat.old.loads + 2 < 2 ^ 64 }
+        requires few { seat.old.loader.loads + 2 < 2 ^ 64 }
         requires unfailed { seat.old.has_failed ≡ false }
-        requires closed { seat.old.units.pending ≡ 0 }
+        requires closed { seat.old.loader.units.pending ≡ 0 }
         ensures number { seat.new.number ≡ seat.old.number }
         ensures stepped { HasStepped N.files S.state 2 seat.old seat.new }
-        ensures closed { OnOk result (seat.new.units.pending ≡ 0) }
+        ensures closed { OnOk result (seat.new.loader.units.pending ≡ 0) }
         ensures room { IfOk result (λ back. length back ≡ frame_size N.job) }
         ensures goes_on { OnOk result ((seat.new.marks ≡ seat.old.marks) × (seat.new.has_failed ≡ false)) }
         ensures left { IfErr result (HasLeft (λ why. seat.new.has_failed ≡ true → why ≡ whys.Source) seat.old.marks seat.new.marks) }
@@ -128,19 +120,18 @@ impl<D: Disk, N: Work + Start, C: Crewed, R: Threads + Wait + Sync> Shared<'_, D
             Ok(held) => held,
             Err(away) => return Err(Leave::Away(away)),
         };
-        let made = make_shared::<N, C::Misses, S, R>(
+        let mut asker = Asker {
+            rt: self.rt,
+            frames: self.share,
+            worker: seat.number,
+        };
+        let made = seat.loader.make_forked(
             self.rt,
-            self.alloc,
             self.job,
-            &mut seat.scan,
-            seat.number,
+            &mut asker,
             held.frame(),
-            rooms,
             room,
             seat.threads,
-            self.share,
-            &mut seat.units,
-            &mut seat.loads,
         );
         seat.has_failed = is_source_fault(&made);
         self.deliver(seat.number, &mut seat.marks, held, made)
@@ -149,20 +140,19 @@ impl<D: Disk, N: Work + Start, C: Crewed, R: Threads + Wait + Sync> Shared<'_, D
     /// Rounds, from the first one on, in this room, until the worker stops or is turned away.
     fn rounds<S: Scans>(&self, seat: &mut Seat<S, N, C>, room: FrameBuf) -> Leave
         requires job { self.now.job.now ≡ N.job }
-        requires files { Tells N.files (S.state seat.old.scan).world }
+        requires files { Tells N.files (S.state seat.old.loader.scan).world }
         requires infos { AreInfosOf N.job.parts N.files N.job.infos }
         requires room { length room ≡ frame_size N.job }
-        requires none { seat.old.loads ≡ 0 }
+        requires none { seat.old.loader.loads ≡ 0 }
         requires unfailed { seat.old.has_failed ≡ false }
-        requires closed { seat.old.units.pending ≡ 0 }
+        requires closed { seat.old.loader.units.pending ≡ 0 }
         ensures number { seat.new.number ≡ seat.old.number }
-        ensures worked { HasWorked N.files S.state 524288 seat.old seat.new }
+        ensures worked { HasWorked N.files S.state worker_loads seat.old seat.new }
         ensures left { HasLeft (λ why. seat.new.has_failed ≡ true → why ≡ whys.Source) seat.old.marks seat.new.marks result }
     {
         let mut room = room;
-        let mut rooms = Rooms::new(self.alloc);
         for _ in 0..self.job.timeline().count() {
-            match self.round(seat, &mut rooms, room) {
+            match self.round(seat, room) {
                 Ok(back) => room = back,
                 Err(leave) => return leave,
             }
@@ -183,16 +173,16 @@ impl<D: Disk, N: Work + Start, C: Crewed, R: Threads + Wait + Sync> Shared<'_, D
     /// has turned it away: a frame that it took can't be let go, and a station alone says that it has no step for a worker.
     pub fn worker<S: Scans>(&self, seat: &mut Seat<S, N, C>) -> Leave
         requires job { self.now.job.now ≡ N.job }
-        requires files { Tells N.files (S.state seat.old.scan).world }
+        requires files { Tells N.files (S.state seat.old.loader.scan).world }
         requires infos { AreInfosOf N.job.parts N.files N.job.infos }
-        requires none { seat.old.loads ≡ 0 }
+        requires none { seat.old.loader.loads ≡ 0 }
         requires unfailed { seat.old.has_failed ≡ false }
-        requires closed { seat.old.units.pending ≡ 0 }
+        requires closed { seat.old.loader.units.pending ≡ 0 }
         ensures number { seat.new.number ≡ seat.old.number }
-        ensures worked { HasWorked N.files S.state 524288 seat.old seat.new }
+        ensures worked { HasWorked N.files S.state worker_loads seat.old seat.new }
         ensures left { HasLeft (λ why. seat.new.has_failed ≡ true → why ≡ whys.Source) seat.old.marks seat.new.marks result }
     {
-        match FrameBuf::new(self.alloc, self.job) {
+        match FrameBuf::new(seat.loader.alloc, self.job) {
             Ok(room) => self.rounds(seat, room),
             Err(_) => self.give_up(seat.number, &mut seat.marks, None, Why::Memory),
         }

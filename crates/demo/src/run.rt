@@ -10,8 +10,9 @@ use crate::scans::UnfailingScans;
 use cf_base::{Fail, Never};
 use conform_job::Job;
 use frame_fetch::RunEnd;
+use frame_range::FrameRange;
 use reel_disk::MemoryDisk;
-use run_alone::run_alone;
+use run_alone::{Task, run_alone};
 use scan_source::Scans;
 use std::alloc::Global;
 use std::marker::Brand;
@@ -31,15 +32,15 @@ pub(crate) fn run(
     ensures acknowledged { IfOk result (λ acknowledged. acknowledged ≡ frames_of job.now) }
     ensures whole { OnOk result (IfSome (⟦<UnfailingScans as Scans>⟧.state scan.old).world (IsWholeOn disk.new job.now)) }
 {
-    let (end, report, _) = run_alone::<Brand, UnfailingScans, MemoryDisk>(
-        alloc,
+    let task = Task {
         job,
-        scan,
-        disk,
-        SHARE,
-        0,
-        job.count(),
-    );
+        range: FrameRange {
+            low: 0,
+            high: job.count(),
+        },
+        share: SHARE,
+    };
+    let (end, report, _) = run_alone::<Brand, UnfailingScans, MemoryDisk>(alloc, &task, scan, disk);
     match end {
         RunEnd::Done => Ok(report.kept + report.rendered),
         // A disk in memory of which no call fails by its number fails for want of memory alone.

@@ -5,3 +5,4 @@ mod Heads
 pub mod Logs
 pub mod Scanning
 pub mod Shared
+pub mod Tellings

@@ -2,12 +2,9 @@
 //! ends stands here too, since a frame that can't be made ends it.
 #![tactic(auto)]
 
+mod loader;
 mod loading;
-mod making;
 mod run_end;
-mod sharing;
 
-pub use loading::fetch_to_share;
-pub use making::make_frame;
+pub use loader::Loader;
 pub use run_end::RunEnd;
-pub use sharing::lent;

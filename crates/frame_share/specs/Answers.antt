@@ -1,7 +1,7 @@
 -- What the calls on a share answer.
--- * answers of a share; units [Units]: what an ask and a put answer, and what each makes of the log; shares of the total of
---   misses, and how many misses have had no put
-use Rattle.std.specs.Prelude.{◌≡◌, true, false}
+-- * answers of a share; units [Units]: what an ask and a put answer, and what each makes of the log, where that is told; shares of
+--   the total of misses, and how many misses have had no put
+use Rattle.std.specs.Prelude.{◌≡◌, true, false, Option, Some, None}
 use Rattle.cf_base.specs.declared.key.Key.{Key}
 use Rattle.frame_share.specs.declared.share.Ask.{Ask as Answer}
 use Rattle.frame_share.specs.declared.share.Ask.TheVariants as answers
@@ -34,3 +34,16 @@ abbrev pub IsPutBy : Tally → Placed → Tally → Type 0
 IsPutBy before Kept after = IsPlaced before after
 IsPutBy before Left after = IsPlaced before after
 IsPutBy before NoMemory after = after ≡ before
+
+-- What an answer says by itself, also where nothing is known of the share: the frame has the key, and so has the ticket.
+abbrev pub HasKey : {N : Type 0} → Key → Answer N → Type 0
+HasKey key (answers.Hit frame) = frame.value.key ≡ key
+HasKey key (answers.Miss ticket) = ticket ≡ key
+HasKey key answers.NoMemory = Unit {0}
+
+-- said of what a share was before and is after, where both are told; told of one alone it never is
+abbrev pub AsTold : (ShareView → ShareView → Type 0) → Option ShareView → Option ShareView → Type 0
+AsTold Said None None = Unit {0}
+AsTold Said None (Some after) = ⊥
+AsTold Said (Some before) None = ⊥
+AsTold Said (Some before) (Some after) = Said before after

@@ -1,4 +1,3 @@
 -- The words of private clauses, of this crate or of one above: nothing public is said by them.
-pub mod Answers
 pub mod Share
 pub mod Units

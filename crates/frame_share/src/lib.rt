@@ -5,12 +5,14 @@
 mod laws;
 mod place;
 mod share;
+mod shares;
 mod step;
 mod ticket;
 mod units;
 
 pub use laws::share_laws;
 pub use share::{Ask, Placed, Share};
+pub use shares::Shares;
 pub use step::{ShareLog, ShareStep};
 pub use ticket::Ticket;
 pub use units::Units;

@@ -14,10 +14,11 @@ ghost use Rattle.project_adopt.specs.inside.Adopt.{Ends, IsJobOver};
 use crate::report::{outcome_of_fault, reply_of};
 use conform_job::{Job, Work};
 use frame_hash::Hasher;
+use frame_range::FrameRange;
 use outcome::Outcome;
 use reconform::Adopted;
 use reel_disk::Disk;
-use run_alone::run_alone;
+use run_alone::{Task, run_alone};
 use scan_source::Scans;
 use std::alloc::Global;
 use std::marker::Brand;
@@ -107,6 +108,14 @@ fn run_rest<S: Scans, D: Disk>(
 
     ensures disk { LeavesDisk (result ≡ Err Outcome.DiskFault) (D.state disk.old) (D.state disk.new) }
 {
-    let (end, report, _) = run_alone::<Brand, S, D>(alloc, job, scan, disk, SHARE, 0, job.count());
+    let task = Task {
+        job,
+        range: FrameRange {
+            low: 0,
+            high: job.count(),
+        },
+        share: SHARE,
+    };
+    let (end, report, _) = run_alone::<Brand, S, D>(alloc, &task, scan, disk);
     reply_of(alloc, job, done, end, &report)
 }

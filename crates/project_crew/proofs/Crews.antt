@@ -6,6 +6,7 @@ use Rattle.scan_source.specs.World.{World, file_at}
 use Rattle.conform_job.specs.Answers.{count_after}
 use Rattle.conform_job.specs.Job.{JobData}
 use Rattle.frame_share.specs.declared.step.ShareStep.{ShareStep}
+use Rattle.reel_disk.specs.Call.{OnlyWrites}
 use Rattle.reel_disk.specs.Disk.{Files, moment_of, view_of}
 use Rattle.reel_disk.specs.Runs.{Spares}
 use Rattle.resume_ledger.specs.Sound.{WritesOnly}
@@ -16,7 +17,7 @@ use Rattle.reel_writer.specs.Reel.{frames_of, HasFrameFiles, IsReelRun, IsSoundR
 use Rattle.render_board.specs.declared.step.Step.{Step}
 use Rattle.run_crew.specs.Crews.{AreWorked, TookNoSteps, TookSteps}
 use Rattle.frame_fetch.specs.Ends.{IsChange}
-use Rattle.run_alone.specs.Run.{AreAllAcked, HasWhole, IsOwnFileOf, MayWriteOf}
+use Rattle.run_alone.specs.Run.{AreAllAcked, HasWhole, IsOwnFileOf, MayWriteOf, RunMayWrite}
 use Rattle.run_alone.specs.declared.report.Report.{Report}
 use Rattle.frame_fetch.specs.declared.run_end.RunEnd.{RunEnd}
 use Rattle.frame_fetch.specs.declared.run_end.RunEnd.TheVariants as ends
@@ -51,11 +52,12 @@ module _ {S : Type 0} (state : S → ScanState) where
       → ((world : World) (files : Files) → IsSoundReel job world files → HasFrameFiles job files)
       → (disk.tells ≡ true → Spares disk.history disk_after.history (IsOwnFileOf job range.low range.high (view_of disk.history)))
       → (disk.tells ≡ true → WritesOnly disk.history disk_after.history (MayWriteOf job range.low range.high (view_of disk.history)))
+      → OnlyWrites (RunMayWrite job range.low range.high how) disk.calls disk_after.calls
       → AreWorked state (min workers count) report.loads (how ≡ ends.SourceFault) old new
       → (IsChange how → 1 ≤ report.loads)
       → (reached : Outcome) (output : List ℕ) → ReportsEnd job how (report_text extent range report) reached output
       → IsJobRunByCrew state job extent range told workers share old new disk disk_after reached output
-  crew_job_run log job extent range told workers share given count old new disk disk_after how report steps all shared frames ran run acked whole sound_has spares writes scans changed reached output reply = record {
+  crew_job_run log job extent range told workers share given count old new disk disk_after how report steps all shared frames ran run acked whole sound_has spares writes own scans changed reached output reply = record {
     how = how;
     report = report;
     reply = reply;
@@ -65,7 +67,7 @@ module _ {S : Type 0} (state : S → ScanState) where
     ran =
         subst (λ n. MatchOption steps (TookNoSteps job disk.tells disk.history disk_after.history how report log) (λ all. TookSteps job range.low range.high told (min workers n) share disk.tells disk.history disk_after.history all how report log)) all
         (subst (λ n. MatchOption steps (TookNoSteps job disk.tells disk.history disk_after.history how report log) (λ all. TookSteps job range.low range.high told (min workers count) n disk.tells disk.history disk_after.history all how report log)) shared ran);
-    keeps = record { run = run; acked = acked; whole = whole; sound_has = sound_has; spares = spares; writes = writes };
+    keeps = record { run = run; acked = acked; whole = whole; sound_has = sound_has; spares = spares; writes = writes; own = own };
     scans = subst (λ n. AreWorked state (min workers n) report.loads (how ≡ ends.SourceFault) old new) all scans;
     changed = changed;
   }

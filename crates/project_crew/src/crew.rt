@@ -16,7 +16,7 @@ use outcome::Outcome;
 use project_job::planned;
 use project_run::reply_of;
 use reel_disk::Disk;
-use run_crew::{Crew, run_crew};
+use run_crew::{Crew, Task, run_crew};
 use scan_source::Scans;
 use std::alloc::Global;
 use std::marker::Brand;
@@ -115,6 +115,11 @@ fn run_job<S: Scans + Send, D: Disk + Send, R: Threads + Wait + Sync>(
     ensures disk_same { (D.state result.disk).loans ≡ (D.state disk).loans }
 {
     job.recall();
+    let task = Task {
+        job,
+        range,
+        share: u32::from(share),
+    };
     let Crew {
         end,
         report,
@@ -122,17 +127,7 @@ fn run_job<S: Scans + Send, D: Disk + Send, R: Threads + Wait + Sync>(
         log: _,
         scans,
         disk,
-    } = run_crew::<Brand, S, D, R>(
-        rt,
-        alloc,
-        job,
-        scans,
-        workers,
-        disk,
-        u32::from(share),
-        range.low,
-        range.high,
-    );
+    } = run_crew::<Brand, S, D, R>(rt, alloc, &task, scans, workers, disk);
     let result = reply_of(alloc, job, extent, range, end, &report);
     CrewEnded {
         result,

@@ -12,6 +12,7 @@ use Rattle.cf_base.specs.Count.{HasRisen}
 use Rattle.cf_base.specs.declared.reel.ReelEntry.{ReelEntry}
 use Rattle.scan_source.specs.World.{World, file_at}
 use Rattle.frame_share.specs.declared.step.ShareStep.{ShareStep}
+use Rattle.reel_disk.specs.Call.{OnlyWrites}
 use Rattle.reel_disk.specs.Disk.{Files, moment_of, view_of}
 use Rattle.reel_disk.specs.Runs.{Spares}
 use Rattle.resume_ledger.specs.Sound.{WritesOnly}
@@ -24,7 +25,7 @@ use Rattle.conform_job.specs.Answers.{count_after}
 use Rattle.conform_job.specs.Job.{JobData}
 use Rattle.conform_job.specs.Keys.{info_at}
 use Rattle.frame_fetch.specs.Ends.{IsChange}
-use Rattle.run_alone.specs.Run.{WasRun, AreAllAcked, HasWhole, IsOwnFileOf, MayWriteOf}
+use Rattle.run_alone.specs.Run.{WasRun, AreAllAcked, HasWhole, IsOwnFileOf, MayWriteOf, RunMayWrite}
 use Rattle.run_alone.specs.declared.report.Report.{Report}
 use Rattle.frame_fetch.specs.declared.run_end.RunEnd.{RunEnd}
 use Rattle.frame_fetch.specs.declared.run_end.RunEnd.TheVariants as ends
@@ -96,6 +97,8 @@ pub record IsSafeRun (job : JobData) (range : FrameRange) (told : Option World) 
   pub spares : disk.tells ≡ true → Spares disk.history disk_after.history (IsOwnFileOf job range.low range.high (view_of disk.history))
   -- what it wrote: of the ledger's files those of version 2 alone
   pub writes : disk.tells ≡ true → WritesOnly disk.history disk_after.history (MayWriteOf job range.low range.high (view_of disk.history))
+  -- by its calls, also where the disk tells nothing: no file but these, and none where the folder was refused
+  pub own : OnlyWrites (RunMayWrite job range.low range.high how) disk.calls disk_after.calls
 
 -- The job was run in the folder, over a range of its frames.
 pub record IsJobRun (job : JobData) (extent : Extent) (range : FrameRange) (share : ℕ) (told : Option World)

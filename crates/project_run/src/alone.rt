@@ -15,7 +15,7 @@ use frame_range::{Extent, FrameRange, range_of};
 use outcome::Outcome;
 use project_job::planned;
 use reel_disk::Disk;
-use run_alone::run_alone;
+use run_alone::{Task, run_alone};
 use scan_source::Scans;
 use std::alloc::Global;
 use std::marker::Brand;
@@ -75,14 +75,11 @@ fn run_job<S: Scans, D: Disk>(
 
     ensures disk { LeavesDisk (result ≡ Err Outcome.DiskFault) (D.state disk.old) (D.state disk.new) }
 {
-    let (end, report, _) = run_alone::<Brand, S, D>(
-        alloc,
+    let task = Task {
         job,
-        scan,
-        disk,
-        u32::from(share),
-        range.low,
-        range.high,
-    );
+        range,
+        share: u32::from(share),
+    };
+    let (end, report, _) = run_alone::<Brand, S, D>(alloc, &task, scan, disk);
     reply_of(alloc, job, extent, range, end, &report)
 }

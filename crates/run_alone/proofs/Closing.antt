@@ -149,6 +149,13 @@ refused job tells old new (open_fault.BadLedger len) known is adds = is
 refused job tells old new open_fault.DiskFault known is adds = adds
 refused job tells old new open_fault.NoMemory known is adds = is
 
+-- a disk that failed is the only way to such an end
+pub refused_disk : (fault : OpenFault) → refused_by fault ≡ DiskFault → fault ≡ open_fault.DiskFault
+refused_disk (open_fault.OtherJob kept wanted) is = cc
+refused_disk (open_fault.BadLedger len) is = cc
+refused_disk open_fault.DiskFault is = refl
+refused_disk open_fault.NoMemory is = cc
+
 pub was_refused : (job : JobData) (tells : Bool) (old new : History) (fault : OpenFault) (end : RunEnd) (report : Report) (log : List ShareStep) → end ≡ refused_by fault
     → IsRefusalFor job.parts.digest fault → (tells ≡ true → IsRefused job.parts.digest (frames_of job) old new fault) → (tells ≡ true → AddsNone job.parts.digest (frames_of job) old new)
     → (report.kept ≡ 0) × (report.rendered ≡ 0) → (report.loads ≡ 0) × (report.misses ≡ 0) → log ≡ [] → WasUnopened job tells old new end report log

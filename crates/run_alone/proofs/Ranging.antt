@@ -1,12 +1,19 @@
 -- Which files a run over a range writes.
 use Rattle.std.proofs.Common.{◌≡◌, inl, inr, ℕ, ◌<◌, ◌≤◌, Bool, true, false, List, get_or, ◌∙◌, ap}
-use Rattle.std.specs.Prelude.{◌↔◌}
+use Rattle.std.specs.Prelude.{◌↔◌, Option, Err}
+use Rattle.scan_source.specs.World.{World}
+use Rattle.resume_ledger.specs.Attach.{OpeningMayWrite}
+use Rattle.resume_ledger.specs.declared.attach.OpenFault.{OpenFault}
+use Rattle.resume_ledger.specs.declared.attach.OpenFault.TheVariants as open_fault
+use Rattle.frame_fetch.specs.declared.run_end.RunEnd.{RunEnd}
+use Rattle.frame_fetch.specs.declared.run_end.RunEnd.TheVariants.{Done, OtherJob, BadLedger, Changed, SourceFault, DiskFault, NoMemory}
 use Rattle.cf_base.specs.declared.file.FileId.{FileId}
 use Rattle.conform_job.specs.Job.{JobData, file_of}
 use Rattle.reel_disk.specs.Disk.{Files}
 use Rattle.reel_writer.specs.Changes.{HasKept}
-use Rattle.reel_writer.specs.Reel.{IsWrittenFile}
-use Rattle.run_alone.specs.Run.{IsOwnFileOf, IsUnkeptOf, MayWriteOf}
+use Rattle.reel_writer.specs.Reel.{IsRunFile, IsWrittenFile}
+use Rattle.run_alone.specs.Ends.{IsEnd, refused_by}
+use Rattle.run_alone.specs.Run.{IsOwnFileOf, IsUnkeptOf, MayWriteOf, RunMayWrite}
 use Rattle.run_alone.specs.inside.Run.{IsRangeFile}
 
 -- what a finish of a frame of the range writes is the run's
@@ -32,3 +39,20 @@ module _ (job : JobData) (low high : ℕ) (gates : List Bool) (before : Files) (
   pub written_of : IsRangeFile job low high gates q → MayWriteOf job low high before q
   written_of (inl body) = inl (inr body)
   written_of (inr frame) = inr (unkept frame)
+
+-- what a run may write by its end: once the folder is open, and where it isn't opened
+module _ (job : JobData) (low high : ℕ) (q : FileId) where
+  pub may_run : (told : Option World) (end : RunEnd) → IsEnd job told end → IsRunFile job low high q → RunMayWrite job low high end q
+  may_run told Done is own = own
+  may_run told (OtherJob kept wanted) is own = absurd is
+  may_run told (BadLedger len) is own = absurd is
+  may_run told (Changed key was now) is own = own
+  may_run told SourceFault is own = own
+  may_run told DiskFault is own = own
+  may_run told NoMemory is own = own
+
+  pub may_open : (fault : OpenFault) → OpeningMayWrite (Err fault) q → RunMayWrite job low high (refused_by fault) q
+  may_open (open_fault.OtherJob kept wanted) own = absurd own
+  may_open (open_fault.BadLedger len) own = absurd own
+  may_open open_fault.DiskFault own = inl own
+  may_open open_fault.NoMemory own = absurd own

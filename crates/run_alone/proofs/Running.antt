@@ -19,6 +19,8 @@ use Rattle.run_alone.specs.inside.Asks.{frame_if_closed}
 use Rattle.frame_fetch.specs.Asks.{keys_of_need}
 use Rattle.run_alone.specs.Ran.{WereFinished}
 use Rattle.run_alone.specs.inside.Ran.{IsUnfinished, ArePast}
+use Rattle.reel_disk.proofs.Leaving.{disk_still}
+use Rattle.reel_disk.proofs.Writing.{writing_none}
 use Rattle.run_alone.specs.inside.Run.{AreOpened, HasRunFrame, HasRunOver, IsRangeFile}
 use Rattle.frame_fetch.specs.Sharing.{HasTried, IsPaired, asks_of}
 use Rattle.frame_fetch.specs.declared.run_end.RunEnd.{RunEnd}
@@ -116,9 +118,8 @@ unmade i job told tells state end reel stop fresh is_open = record {
   run = λ _. reel_run_itself job told (state reel.disk).history;
   none_lost = λ _. kept_itself job (state reel.disk).history;
   spares = λ _. spares_itself (state reel.disk).history (IsWrittenFile (file_of job i));
-  same = refl;
-  cause = record { later = omega arith; failed = λ failed. absurd (unrendered_other job told end stop failed) };
-  steady = λ _. refl;
+  own = writing_none;
+  disk = disk_still (unrendered_other job told end stop);
 }
 
 -- nothing was done yet
@@ -132,9 +133,8 @@ not_begun job low high told tells state end reel other none is_open = record {
   failed = λ _ failed. absurd (other failed);
   run = λ _. reel_run_itself job told (state reel.disk).history;
   spares = λ _. spares_itself (state reel.disk).history (IsRangeFile job low high reel.ledger.gates);
-  same = refl;
-  cause = record { later = omega arith; failed = λ failed. absurd (other failed) };
-  steady = λ _. refl;
+  own = writing_none;
+  disk = disk_still other;
 }
 
 -- a run that was stopped before its first frame

@@ -5,6 +5,7 @@
 --     WasOpened      a run whose folder was opened: what it finished, asked for and left acknowledged
 --     WasUnopened      a run whose folder was not
 --     WasRun      one of both
+--     RunMayWrite      which files a run may write over any disk
 --     kept_in      how many frames of a range the opening kept
 --     IsWhole      the folder has the whole range
 use Rattle.std.specs.Prelude.{◌≡◌, ◌≢◌, ◌⊎◌, ◌↔◌, ℕ, ◌+◌, ◌-◌, ◌<◌, ◌≤◌, Bool, true, false, List, [], length, take, count_by, Contains, slice_index_or, Option, Some, IfSome}
@@ -20,7 +21,7 @@ use Rattle.resume_ledger.specs.Ledger.{IsFit, IsLedgerFile, IsWrittenLedgerFile}
 use Rattle.resume_ledger.specs.Attach.{IsOtherJob, IsBadLedger, IsUnwritten}
 use Rattle.resume_ledger.specs.Sound.{AddsNone}
 use Rattle.reel_writer.specs.Changes.{HasKept}
-use Rattle.reel_writer.specs.Reel.{frames_of, HasAcked, IsSoundReel}
+use Rattle.reel_writer.specs.Reel.{frames_of, HasAcked, IsRunFile, IsSoundReel}
 use Rattle.run_alone.specs.Asks.{IsNext, closed_frames}
 use Rattle.run_alone.specs.Ends.{IsEnd}
 use Rattle.run_alone.specs.Ran.{WereFinished}
@@ -46,6 +47,12 @@ IsOwnFileOf job low high before q = IsLedgerFile q ⊎ IsUnkeptOf job low high b
 -- what it writes: of the ledger's files those of version 2 alone
 abbrev pub MayWriteOf : JobData → (low high : ℕ) → Files → FileId → Type 0
 MayWriteOf job low high before q = IsWrittenLedgerFile q ⊎ IsUnkeptOf job low high before q
+
+-- Which files a run over a range may write over any disk, by its end: none where the folder is another job's or has a bad ledger.
+abbrev pub RunMayWrite : JobData → (low high : ℕ) → RunEnd → FileId → Type 0
+RunMayWrite job low high (OtherJob kept wanted) q = ⊥
+RunMayWrite job low high (BadLedger len) q = ⊥
+RunMayWrite job low high end q = IsRunFile job low high q
 
 -- how many frames of a range the opening kept
 abbrev pub kept_in : (low high : ℕ) → List Bool → ℕ

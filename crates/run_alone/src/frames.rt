@@ -1,8 +1,6 @@
 //! The frames of a run, in order.
 ghost use Rattle.std.specs.Prelude.{◌≡◌, ◌<◌, ◌≤◌, [], false, length, slice_index_or, IfOk, IfErr, OnOk, OnErr};
-ghost use Rattle.conform_job.specs.Answers.{AreInfosOf};
 ghost use Rattle.conform_job.specs.Job.{need_at};
-ghost use Rattle.conform_job.specs.Names.{Tells};
 ghost use Rattle.frame_render.specs.Frame.{frame_size};
 ghost use Rattle.reel_writer.specs.Reel.{frames_of};
 ghost use Rattle.reel_writer.specs.View.{IsReelOf};
@@ -12,17 +10,19 @@ ghost use Rattle.run_alone.specs.Ends.{IsEnd};
 ghost use Rattle.run_alone.specs.inside.Ends.{IsStop};
 ghost use Rattle.run_alone.specs.Ran.{WereFinished};
 ghost use Rattle.run_alone.specs.inside.Run.{HasRunFrame, HasRunOver};
-ghost use Rattle.frame_fetch.specs.Scanned.{CanFetch, HasFetched, IsScanned};
+ghost use Rattle.frame_fetch.specs.Loading.{CanLoad, HasLoadedFor};
+ghost use Rattle.frame_fetch.specs.Scanned.{IsScanned};
 ghost use Rattle.frame_fetch.specs.Sharing.{HasAsked, HasTried};
+ghost use Rattle.run_alone.specs.Task.{IsTask};
 
+use crate::task::Task;
 use conform_job::{Job, Work};
-use frame_fetch::{RunEnd, make_frame};
-use frame_render::{FrameBuf, Rooms};
-use frame_share::{Share, Units};
+use frame_fetch::{Loader, RunEnd};
+use frame_render::FrameBuf;
+use frame_share::Share;
 use reel_disk::{Disk, DiskFault};
 use reel_writer::{Hashed, Reel};
 use scan_source::Scans;
-use std::alloc::Global;
 use std::sync::ledger::Ledger;
 
 /// Whether a run passes over record frame `i`: just where it is acknowledged.
@@ -37,18 +37,14 @@ fn is_passed_over<N: Work, D: Disk>(reel: &Reel<D, N>, i: u32) -> bool
 /// Renders record frame `i`, which isn't acknowledged, and finishes it. The room is handed back for
 /// another frame.
 fn run_frame<N: Work, L: Ledger, S: Scans, D: Disk>(
-    alloc: Global,
     job: &Job,
-    scan: &mut S,
+    loader: &mut Loader<N, L, S>,
     reel: &mut Reel<D, N>,
-    i: u32,
-    rooms: &mut Rooms<N>,
-    room: FrameBuf,
     share: &mut Share<N, L>,
-    units: &mut Units<L>,
-    loads: &mut u64,
+    i: u32,
+    room: FrameBuf,
 ) -> Result<FrameBuf, RunEnd>
-    requires ready { CanFetch N.job N.files job.now (S.state scan.old).world 2 loads.old units.old }
+    requires ready { CanLoad S.state N.job N.files job.now 2 loader.old }
     requires index { i < frames_of N.job }
     requires room { length room ≡ frame_size N.job }
     requires is_open { reel.old.ledger.closed ≡ false }
@@ -58,14 +54,13 @@ fn run_frame<N: Work, L: Ledger, S: Scans, D: Disk>(
 
     ensures room { IfOk result (λ room. length room ≡ frame_size N.job) }
     ensures stop { IfErr result (IsStop N.job N.files) }
-    ensures reel { HasRunFrame i N.job N.files D.tells D.state result reel.old
-        reel.new }
+    ensures reel { HasRunFrame i N.job N.files D.tells D.state result reel.old reel.new }
 
     ensures asked { OnOk result (HasAsked share.old share.new (keys_of_need (need_at N.job i))) }
     ensures tried { OnErr result (HasTried share.old share.new (keys_of_need (need_at N.job i))) }
-    ensures fetched { HasFetched 2 result loads.old loads.new units.old units.new (S.state scan.old) (S.state scan.new) }
+    ensures loaded { HasLoadedFor S.state 2 result loader.old loader.new }
 {
-    let frame = match make_frame(alloc, job, scan, i, rooms, room, share, units, loads) {
+    let frame = match loader.make(job, share, i, room) {
         Ok(frame) => frame,
         Err(end) => return Err(end),
     };
@@ -78,52 +73,40 @@ fn run_frame<N: Work, L: Ledger, S: Scans, D: Disk>(
 
 /// Renders and finishes each frame of the range that isn't acknowledged, in order. The loads are counted.
 pub(crate) fn run_frames<N: Work, L: Ledger, S: Scans, D: Disk>(
-    alloc: Global,
-    job: &Job,
-    scan: &mut S,
+    task: &Task,
+    loader: &mut Loader<N, L, S>,
     reel: &mut Reel<D, N>,
     share: &mut Share<N, L>,
-    units: &mut Units<L>,
-    loads: &mut u64,
-    low: u32,
-    high: u32,
 ) -> RunEnd
-    requires range { (low ≤ high) × (high ≤ frames_of N.job) }
-    requires job { job.now ≡ N.job }
-    requires files { Tells N.files (S.state scan.old).world }
-    requires infos { AreInfosOf N.job.parts N.files N.job.infos }
+    requires task { IsTask N.job N.share task.now }
+    requires ready { CanLoad S.state N.job N.files task.now.job.now 0 loader.old }
+    requires none { (loader.old.loads ≡ 0) × (loader.old.units.amount ≡ 0) }
     requires is_open { reel.old.ledger.closed ≡ false }
     requires size { length reel.old.ledger.gates ≡ frames_of N.job }
-    requires none { reel.old.acks ≡ [] }
-    requires zero { (loads.old ≡ 0) × (units.old.amount ≡ 0) × (units.old.pending ≡ 0) }
+    requires unfinished { reel.old.acks ≡ [] }
     requires unasked { share.old.steps ≡ [] }
 
     ensures end { IsEnd N.job N.files result }
-    ensures finished { WereFinished N.job low high reel.old.ledger.gates result
+    ensures finished { WereFinished N.job task.now.range.low task.now.range.high reel.old.ledger.gates result
         (length reel.new.acks) share.new.steps }
-    ensures reel { HasRunOver N.job low high N.files D.tells D.state result reel.old
+    ensures reel { HasRunOver N.job task.now.range.low task.now.range.high N.files D.tells D.state result reel.old
         reel.new }
 
     ensures room { share.new.capacity ≡ share.old.capacity }
-    ensures parts { units.new.parts ≡ units.old.parts }
-    ensures counted { units.new.amount ≡ loads.new }
-    ensures changed { IsChange result → 1 ≤ loads.new }
-    ensures scan { IsScanned loads.new (result
-        ≡ RunEnd.SourceFault) (S.state scan.old) (S.state scan.new) }
-    ensures same_scan { (S.state scan.new).loans ≡ (S.state scan.old).loans }
+    ensures parts { loader.new.units.parts ≡ loader.old.units.parts }
+    ensures counted { loader.new.units.amount ≡ loader.new.loads }
+    ensures changed { IsChange result → 1 ≤ loader.new.loads }
+    ensures scan { IsScanned loader.new.loads (result ≡ RunEnd.SourceFault) (S.state loader.old.scan) (S.state loader.new.scan) }
 {
-    let mut room = match FrameBuf::new(alloc, job) {
+    let mut room = match FrameBuf::new(loader.alloc, task.job) {
         Ok(room) => room,
         Err(_) => return RunEnd::NoMemory,
     };
-    let mut rooms = Rooms::new(alloc);
-    for i in low..high {
+    for i in task.range.low..task.range.high {
         if is_passed_over(reel, i) {
             continue;
         }
-        match run_frame(
-            alloc, job, scan, reel, i, &mut rooms, room, share, units, loads,
-        ) {
+        match run_frame(task.job, loader, reel, share, i, room) {
             Ok(back) => room = back,
             Err(end) => return end,
         }

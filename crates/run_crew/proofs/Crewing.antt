@@ -4,7 +4,7 @@ use Rattle.std.specs.Prelude.{◌↔◌, Option, Some, None, IfSome, MatchOption
 use Rattle.std.proofs.lemmas.Bool.{false≢true, true≢false}
 use Rattle.std.proofs.lemmas.Option.{same_Some}
 use Rattle.cf_base.specs.declared.file.FileId.{FileId}
-use Rattle.reel_disk.specs.State.{DiskState}
+use Rattle.reel_disk.specs.State.{DiskState, LeavesDisk}
 use Rattle.scan_source.specs.World.{World}
 use Rattle.frame_share.specs.declared.step.ShareStep.{ShareStep}
 use Rattle.conform_job.specs.Job.{JobData, file_of}
@@ -25,15 +25,15 @@ use Rattle.render_board.specs.declared.step.Step.TheVariants.{Claim, Finish, Sto
 use Rattle.render_board.specs.declared.step.Why.{Why}
 use Rattle.render_board.specs.declared.step.Why.TheVariants.{Source, Disk, Memory, Changed}
 use Rattle.reel_writer.specs.Changes.{HasKept}
-use Rattle.reel_writer.specs.Reel.{frames_of, IsReelRun}
+use Rattle.reel_writer.specs.Reel.{frames_of, IsReelRun, IsRunFile}
 use Rattle.run_alone.specs.declared.report.Report.{Report}
 use Rattle.frame_fetch.specs.declared.run_end.RunEnd.{RunEnd}
 use Rattle.frame_fetch.specs.declared.run_end.RunEnd.TheVariants.{Done, NoMemory}
-use Rattle.run_crew.specs.Crews.{AreShared, TookNoSteps, TookSteps, WasRunByCrew, WasUnmade, end_by}
+use Rattle.run_crew.specs.Crews.{AreShared, HasDiskFailed, TookNoSteps, TookSteps, WasRunByCrew, WasUnmade, end_by}
 use Rattle.run_crew.specs.inside.Crews.{IsClosedStation}
 use Rattle.run_crew.specs.declared.crew.Crew.{Crew}
 use Rattle.run_alone.specs.Ends.{IsEnd}
-use Rattle.run_alone.specs.Run.{AreAllAcked, IsOwnFileOf, MayWriteOf}
+use Rattle.run_alone.specs.Run.{AreAllAcked, IsOwnFileOf, MayWriteOf, RunMayWrite}
 use Rattle.run_alone.specs.inside.Run.{IsRangeFile}
 use Rattle.station.specs.Station.{IsStation, StationView, HasChanges, IsCrewFile, IsRangeFile as IsLogFile, MayCrewWrite, ShowsDone}
 use Rattle.reel_writer.specs.View.{IsReelOf}
@@ -59,6 +59,11 @@ ends_so job told steps (Some Source) changes first = tt
 ends_so job told steps (Some Disk) changes first = tt
 ends_so job told steps (Some Memory) changes first = tt
 ends_so job told steps (Some (Changed key was now)) changes first = let at = first_at steps (Changed key was now) first in changes at.0 at.1 key was now at.2
+
+-- what is said of a disk by the steps of a board that was made
+pub disk_by_steps : (o : Option (List Step)) (end : RunEnd) (P : List Step → Type 0) {a b : DiskState} → is_some o ≡ true → IfSome o P → ((steps : List Step) → P steps → LeavesDisk (1 ≤ stops_of is_disk steps) a b) → LeavesDisk (HasDiskFailed o end) a b
+disk_by_steps None end P some made each = absurd (false≢true some)
+disk_by_steps (Some steps) end P some made each = each steps made
 
 -- a board that was made has steps
 pub by_steps : {A : Type 0} (o : Option A) (N : Type 0) (P Q : A → Type 0) → is_some o ≡ true → IfSome o P → ((a : A) → P a → Q a) → MatchOption o N Q
@@ -192,11 +197,11 @@ module _ {D : Type 0} (job : JobData) (low high : ℕ) (told : Option World) (wo
       rendered_then = made.rendered ∙ ap (λ (l : List Step). length (finished_of l)) (sym made.steps_are)
 
   -- the disk's count of faults: it was 0 at the start
-  pub crew_failed : 1 ≤ stops_of is_disk steps → 1 ≤ (state other).faults
+  crew_failed : 1 ≤ stops_of is_disk steps → 1 ≤ (state other).faults
   crew_failed some =
       subst (λ (d : D). 1 ≤ (state d).faults) made.disk_is (made.is.failed (made.is.closed.1 (subst (λ (l : List Step). 1 ≤ stops_of is_disk l) (sym made.steps_are) some)))
 
-  pub crew_steady : (1 ≤ stops_of is_disk steps → ⊥) → (state other).faults ≡ 0
+  crew_steady : (1 ≤ stops_of is_disk steps → ⊥) → (state other).faults ≡ 0
   crew_steady never =
       subst (λ (d : D). (state d).faults ≡ 0) made.disk_is (made.is.steady (open_still
       (let few : stops_of is_disk v.log.steps ≡ stops_of is_disk steps = ap (stops_of is_disk) made.steps_are in zero_of (stops_of is_disk v.log.steps) (λ some. never (omega (arith, some, few))))))
@@ -204,6 +209,16 @@ module _ {D : Type 0} (job : JobData) (low high : ℕ) (told : Option World) (wo
       zero_of : (n : ℕ) → (1 ≤ n → ⊥) → n ≡ 0
       zero_of zero none = refl
       zero_of (suc n) none = absurd (none (omega arith))
+
+  -- the disk failed just where a worker stopped for it
+  pub crew_disk : (state disk).faults ≡ 0 → (state other).loans ≡ (state disk).loans → LeavesDisk (1 ≤ stops_of is_disk steps) (state disk) (state other)
+  crew_disk none lent = record {
+    counts = record {
+      cause = record { later = omega (arith, none); failed = λ some. let rose = crew_failed some in omega (arith, none, rose) };
+      steady = λ never. crew_steady never ∙ sym none;
+    };
+    lent = lent;
+  }
 
 module _ {D : Type 0} (job : JobData) (told : Option World) (start : Option Moment) (tells : Bool) (state : D → DiskState) where
   -- where every frame is done and no worker stopped, every image acknowledges every frame
@@ -236,3 +251,11 @@ was_unmade job tells old new ledger end report log opened known ends none loads 
   loads = loads;
   unasked = unasked;
 }
+
+-- a crew whose folder is open is not refused
+pub may_crew : (job : JobData) (low high : ℕ) (why : Option Why) (q : FileId) → IsRunFile job low high q → RunMayWrite job low high (end_by why) q
+may_crew job low high None q own = own
+may_crew job low high (Some Source) q own = own
+may_crew job low high (Some Disk) q own = own
+may_crew job low high (Some Memory) q own = own
+may_crew job low high (Some (Changed key was now)) q own = own

@@ -62,10 +62,10 @@ mapped_at f R xs ys k s same lt each =
 module _ {S N C A B D E F : Type 0} (told : Option World) (state : S → ScanState) (xs ys : List (Seat S N C A B D E F)) (threads most : ℕ) (size : length ys ≡ length xs)
     (worked : EachBecame (length xs) (HasWorked told state most) xs ys) (idle : All (λ x. IsFresh x) xs) where
   abbrev scan_of : Seat S N C A B D E F → S
-  scan_of x = x.scan
+  scan_of x = x.loader.scan
 
   abbrev loads_of : Seat S N C A B D E F → ℕ
-  loads_of x = x.loads
+  loads_of x = x.loader.loads
 
   abbrev failed_of : Seat S N C A B D E F → Bool
   failed_of x = x.has_failed
@@ -109,7 +109,6 @@ module _ {S N C A B D E F : Type 0} (told : Option World) (state : S → ScanSta
         each = λ k s lt.
             let within : k < length xs = omega (arith, lt, length-map xs scan_of) in
             mapped_at scan_of (λ a b. IsScannedAt k a b) xs ys k s size within (λ d. at_seat k d within);
-        lent = λ k s lt. let within : k < length xs = omega (arith, lt, length-map xs scan_of) in mapped_at scan_of (λ a b. (state b).loans ≡ (state a).loans) xs ys k s size within (λ d. (worked k d within).lent);
         unused = λ k s late. same_at k s late (cases_lt k (length xs));
         failed = λ is.
             let found = source_seat (fails is) in
@@ -117,10 +116,10 @@ module _ {S N C A B D E F : Type 0} (told : Option World) (state : S → ScanSta
             (found.0, omega (arith, found.1, length-map xs scan_of), get_or-map failed_of ys found.0 d false (omega (arith, found.1, size)) ∙ found.2 d);
       }))
     where
-      at_seat : (k : ℕ) (d : Seat S N C A B D E F) → k < length xs → IsScannedAt k ((get_or xs k d).scan) ((get_or ys k d).scan)
+      at_seat : (k : ℕ) (d : Seat S N C A B D E F) → k < length xs → IsScannedAt k ((get_or xs k d).loader.scan) ((get_or ys k d).loader.scan)
       at_seat k d within =
-          subst (λ (n : ℕ). IsScanned n (get_or (map failed_of ys) k false ≡ true) (state ((get_or xs k d).scan)) (state ((get_or ys k d).scan))) (sym (get_or-map loads_of ys k d 0 (omega (arith, within, size))))
-          (subst (λ (b : Bool). IsScanned ((get_or ys k d).loads) (b ≡ true) (state ((get_or xs k d).scan)) (state ((get_or ys k d).scan))) (sym (get_or-map failed_of ys k d false (omega (arith, within, size))))
+          subst (λ (n : ℕ). IsScanned n (get_or (map failed_of ys) k false ≡ true) (state ((get_or xs k d).loader.scan)) (state ((get_or ys k d).loader.scan))) (sym (get_or-map loads_of ys k d 0 (omega (arith, within, size))))
+          (subst (λ (b : Bool). IsScanned ((get_or ys k d).loader.loads) (b ≡ true) (state ((get_or xs k d).loader.scan)) (state ((get_or ys k d).loader.scan))) (sym (get_or-map failed_of ys k d false (omega (arith, within, size))))
           (worked k d within).scanned)
 
       same_at : (k : ℕ) (s : S) → threads ≤ k → (k < length xs) ⊎ (length xs ≤ k) → get_or (map scan_of ys) k s ≡ get_or (map scan_of xs) k s
@@ -140,7 +139,6 @@ unworked state threads all Failed before after is none never =
       flags = [];
       sum = sym none;
       each = λ k s lt. scanned_itself (false ≡ true) (λ e. true≢false (sym e)) (state (get_or before k s));
-      lent = λ k s lt. refl;
       unused = λ k s late. refl;
       failed = λ is. absurd (never is);
     })
@@ -205,7 +203,7 @@ module _ {S N C A B D E F : Type 0} (told : Option World) (state : S → ScanSta
   Became x y = HasWorked told state most x y
 
   first_most : (x y : Seat S N C A B D E F) → HasWorked told state n x y → Became x y
-  first_most x y work = record { few = omega (arith, work.few, le); units = work.units; scanned = work.scanned; lent = work.lent; causes = work.causes }
+  first_most x y work = record { few = omega (arith, work.few, le); units = work.units; scanned = work.scanned; causes = work.causes }
 
   worked_at : (k : ℕ) (d : Seat S N C A B D E F) → k < length xs → Became (get_or xs k d) (get_or ys k d)
   worked_at k d lt = elim (cases_lt k threads) [

@@ -6,13 +6,18 @@
 --     WasUnmade      a run whose board or share could not be made
 --     AreShared      the log of the source frames that the workers shared
 --     AreWorked      what the workers did with their scans
+--     IsFirstUse      a disk before its first call
 use Rattle.std.specs.Prelude.{◌≡◌, ◌↔◌, ◌⊎◌, ℕ, ◌+◌, ◌-◌, ◌<◌, ◌≤◌, Bool, true, false, List, [], length, sum_by, count_by, slice_index_or, Option, Some, None, MatchOption}
 use Rattle.scan_source.specs.State.{ScanState}
 use Rattle.scan_source.specs.World.{World}
 use Rattle.conform_job.specs.Job.{JobData}
 use Rattle.frame_share.specs.declared.step.ShareStep.{ShareStep}
 use Rattle.frame_share.specs.Share.{IsLegal as IsShareLegal, misses_of}
-use Rattle.reel_disk.specs.Disk.{History, view_of}
+use Rattle.cf_base.specs.Loan.{Loan}
+use Rattle.reel_disk.specs.Call.{Call}
+use Rattle.reel_disk.specs.Disk.{History, Moment, view_of}
+use Rattle.reel_disk.specs.Start.{start_of}
+use Rattle.reel_disk.specs.State.{DiskState}
 use Rattle.render_board.specs.Board.{Log, IsLegal, has_stop, is_done}
 use Rattle.render_board.specs.History.{finished_of, first_why, is_disk, stops_of}
 use Rattle.render_board.specs.declared.step.Step.{Step}
@@ -29,6 +34,14 @@ use Rattle.run_alone.specs.Run.{WasUnopened, kept_in}
 use Rattle.frame_fetch.specs.Scanned.{IsScanned}
 use Rattle.station.specs.Station.{ShowsDone}
 use Rattle.run_crew.specs.declared.crew.Crew.{Crew}
+
+-- A disk before its first call: the name tells what it holds, how it is lent, and that no call was made; and none has failed.
+pub record IsFirstUse (held : Option Moment) (loans : List Loan) (calls : List Call) (tells : Bool) (disk : DiskState) : Type 0 where
+  pub start : held ≡ start_of tells disk.history
+  pub lent : loans ≡ disk.loans
+  pub made : calls ≡ disk.calls
+  pub moment : tells ≡ true → disk.history.now ≡ 0
+  pub faults : disk.faults ≡ 0
 
 -- how a run ends whose first stop has this why
 abbrev pub end_by : Option Why → RunEnd
@@ -106,7 +119,6 @@ pub record AreWorked {S : Type 0} (state : S → ScanState)
   pub sum : sum_by (λ count. count) counts ≡ all
   pub each : (k : ℕ) (scan : S) → k < length old → IsScanned (slice_index_or counts k 0)
       (slice_index_or flags k false ≡ true) (state (slice_index_or old k scan)) (state (slice_index_or new k scan))
-  pub lent : (k : ℕ) (scan : S) → k < length old → (state (slice_index_or new k scan)).loans ≡ (state (slice_index_or old k scan)).loans
   pub unused : (k : ℕ) (scan : S) → workers ≤ k → slice_index_or new k scan ≡ slice_index_or old k scan
   pub failed : Failed → (k : ℕ) × (k < length old) × (slice_index_or flags k false ≡ true)
 

@@ -1,23 +1,24 @@
 //! A crew: a worker for each of several scans over one reel, and what is known once all have returned.
 ghost use Rattle.std.specs.Prelude.{◌≡◌, ◌≤◌, All, [], true, length, vec_len, vec_capacity, min, is_some, IfErr, IfOk, IfSome, Some, None};
-ghost use Rattle.cf_base.specs.Count.{HasCause};
 ghost use Rattle.conform_job.specs.Answers.{AreInfosOf};
 ghost use Rattle.conform_job.specs.Names.{Tells};
+ghost use Rattle.reel_disk.specs.Call.{OnlyWrites};
 ghost use Rattle.reel_disk.specs.Disk.{Files, moment_of, view_of};
 ghost use Rattle.reel_disk.specs.Runs.{Spares};
-ghost use Rattle.reel_disk.specs.Start.{start_of};
+ghost use Rattle.reel_disk.specs.State.{LeavesDisk};
 ghost use Rattle.render_board.specs.History.{first_why};
-ghost use Rattle.reel_writer.specs.Reel.{frames_of, HasFrameFiles, IsReelRun, IsSoundReel};
+ghost use Rattle.reel_writer.specs.Reel.{frames_of, HasFrameFiles, IsReelRun, IsRunFile, IsSoundReel};
 ghost use Rattle.resume_ledger.specs.Sound.{WritesOnly};
 ghost use Rattle.scan_source.specs.World.{World};
 ghost use Rattle.frame_share.specs.Share.{IsBlankOf as IsCounterOf};
 ghost use Rattle.frame_share.specs.Units.{whole};
-ghost use Rattle.run_crew.specs.Crews.{AreShared, HasDiskFailed, HasScansBack, WasRunByCrew, end_by, log_of};
+ghost use Rattle.run_crew.specs.Crews.{AreShared, HasDiskFailed, HasScansBack, IsFirstUse, WasRunByCrew, end_by, log_of};
 ghost use Rattle.run_crew.specs.inside.Crews.{HasClosedStation, IsClosedStation};
 ghost use Rattle.crew_rest.specs.Left.{HasFinished};
 ghost use Rattle.frame_fetch.specs.Ends.{IsChange};
 ghost use Rattle.station.specs.Marks.{IsBlankOf};
-ghost use Rattle.run_alone.specs.Run.{AreAllAcked, HasWhole, IsOwnFileOf, MayWriteOf};
+ghost use Rattle.run_alone.specs.Run.{AreAllAcked, HasWhole, IsOwnFileOf, MayWriteOf, RunMayWrite};
+ghost use Rattle.run_alone.specs.Task.{IsTask};
 ghost use Rattle.station.specs.StationSteps.{IsBeginning};
 
 use crate::work::work_all;
@@ -28,7 +29,7 @@ use frame_share::{Share, ShareLog, Units};
 use reel_disk::{Disk, Start};
 use reel_writer::Reel;
 use render_board::{Board, History, Step, Why};
-use run_alone::{Report, end_of_opening, report_of};
+use run_alone::{Report, Task, end_of_opening, report_of};
 use scan_source::Scans;
 use station::{Crewed, Named, Station, Workers};
 use std::alloc::Global;
@@ -104,30 +105,20 @@ fn unmade<S, D>(alloc: Global, job: &Job, end: RunEnd, scans: Vec<S>, disk: D) -
     }
 }
 
-/// The board of a reel that was opened: the frames that it acknowledges are done, and those from `low` up to `high` are to be
-/// claimed.
+/// The board of a reel that was opened: the frames that it acknowledges are done, and those of the task's range are to be claimed.
 fn board_of<D: Disk, N: Work>(
     alloc: Global,
-    job: &Job,
+    task: &Task,
     reel: &Reel<D, N>,
     workers: u16,
-    low: u32,
-    high: u32,
 ) -> Option<Board>
-    requires job { job.now ≡ N.job }
+    requires task { IsTask N.job N.share task.now }
     requires size { length reel.now.ledger.gates ≡ frames_of N.job }
-    requires some { 1 ≤ workers }
-    requires most { workers ≤ 16 }
-    requires range { (low ≤ high) × (high ≤ frames_of N.job) }
-    ensures board { IfSome result (λ board. board ≡ record {
-      start = reel.now.ledger.gates;
-      low = low;
-      high = high;
-      workers = workers;
-      steps = [];
-    }) }
+    requires workers { (1 ≤ workers) × (workers ≤ 16) }
+    ensures board { IfSome result (λ board. board
+        ≡ log_of reel.now.ledger.gates task.now.range.low task.now.range.high workers []) }
 {
-    let count = job.timeline().count();
+    let count = task.job.timeline().count();
     let mut done = match Vec::with_capacity(alloc, count as usize) {
         Ok(done) => done,
         Err(_) => return None,
@@ -135,10 +126,20 @@ fn board_of<D: Disk, N: Work>(
     for i in 0..count {
         done.push_reserved(reel.is_acked(i));
     }
-    match Board::new(alloc, &done, low, high, workers) {
+    match Board::new(alloc, &done, task.range.low, task.range.high, workers) {
         Ok(board) => Some(board),
         Err(_) => None,
     }
+}
+
+/// The totals that a crew counts, still without a count: of its stops by their cause, and of its misses.
+#[derive(Drop)]
+struct Blanks {
+    source: Blank,
+    disk: Blank,
+    memory: Blank,
+    changed: Blank,
+    misses: Blank,
 }
 
 /// What a crew needs beside its reel.
@@ -158,24 +159,18 @@ struct Ready<S: Scans, N: Work, C: Crewed> {
 /// Makes what a crew of so many workers needs beside its reel, with room for so many scans. None where memory ran out.
 fn make_ready<S: Scans, D: Disk, N: Work, C: Crewed>(
     alloc: Global,
-    job: &Job,
+    task: &Task,
     reel: &Reel<D, N>,
     workers: u16,
     scans: usize,
-    share_cap: u32,
     misses: Blank,
-    low: u32,
-    high: u32,
 ) -> Option<Ready<S, N, C>>
-    requires job { job.now ≡ N.job }
+    requires task { IsTask N.job N.share task.now }
     requires size { length reel.now.ledger.gates ≡ frames_of N.job }
     requires workers { (1 ≤ workers) × (workers ≤ 16) }
-    requires share { (1 ≤ share_cap) × (share_cap ≤ 16) }
-    requires named_share { share_cap ≡ N.share }
     requires misses { IsCounterOf C.Misses.name C.Misses.parts misses.name misses.parts }
-    requires range { (low ≤ high) × (high ≤ frames_of N.job) }
-    ensures board { IfSome result (λ made. made.board ≡ record
-        { start = reel.now.ledger.gates; low = low; high = high; workers = workers; steps = [] }) }
+    ensures board { IfSome result (λ made. made.board
+        ≡ log_of reel.now.ledger.gates task.now.range.low task.now.range.high workers []) }
     ensures share { IfSome result (λ made. made.share.steps ≡ []) }
     ensures units { IfSome result (λ made. made.units ≡ whole C.Misses.parts) }
     ensures room { IfSome result (λ made. (made.room.items ≡ []) × (scans ≤ vec_capacity made.room)) }
@@ -187,11 +182,11 @@ fn make_ready<S: Scans, D: Disk, N: Work, C: Crewed>(
     let Ok(room) = Vec::with_capacity(alloc, scans) else {
         return None;
     };
-    let board = match board_of(alloc, job, reel, workers, low, high) {
+    let board = match board_of(alloc, task, reel, workers) {
         Some(board) => board,
         None => return None,
     };
-    match Share::<N, C::Misses>::new(alloc, share_cap, misses) {
+    match Share::<N, C::Misses>::new(alloc, task.share, misses) {
         Ok((share, units)) => Some(Ready {
             board,
             share,
@@ -223,6 +218,7 @@ fn closing<N: Work + Start, C: Crewed, S: Scans, D: Disk>(
         result.end result.report result.disk }
     ensures acked { result.end ≡ RunEnd.Done → D.tells ≡ true → AreAllAcked N.job C.low C.high (moment_of (D.state result.disk).history) }
     ensures lent { (D.state result.disk).loans ≡ N.loans }
+    ensures own { OnlyWrites (IsRunFile N.job C.low C.high) N.calls (D.state result.disk).calls }
     ensures scans { result.scans ≡ scans }
 {
     let (reel, board) = station.into_parts();
@@ -254,58 +250,55 @@ fn run_opened<
 >(
     rt: &R,
     alloc: Global,
-    job: &Job,
-    source: Blank,
-    failed: Blank,
-    memory: Blank,
-    changed: Blank,
-    misses: Blank,
+    task: &Task,
+    blanks: Blanks,
     scans: Vec<S>,
     workers: u16,
     reel: Reel<D, N>,
-    share_cap: u32,
-    low: u32,
-    high: u32,
 ) -> Result<Crew<S, D>, (Vec<S>, Reel<D, N>)>
-    requires source { IsBlankOf A.name A.parts source.name source.parts × (source.parts ≡ 17) }
-    requires failed { IsBlankOf B.name B.parts failed.name failed.parts × (failed.parts ≡ 17) }
-    requires memory { IsBlankOf C.name C.parts memory.name memory.parts × (memory.parts ≡ 17) }
-    requires changed { IsBlankOf E.name E.parts changed.name changed.parts × (changed.parts ≡ 17) }
-    requires misses { IsCounterOf F.name F.parts misses.name misses.parts × (misses.parts ≡ 17) }
-    requires share { (1 ≤ share_cap) × (share_cap ≤ 16) }
-    requires named_share { share_cap ≡ N.share }
-    requires job { job.now ≡ N.job }
+    requires source { IsBlankOf A.name A.parts blanks.source.name blanks.source.parts × (blanks.source.parts ≡ 17) }
+    requires failed { IsBlankOf B.name B.parts blanks.disk.name blanks.disk.parts × (blanks.disk.parts ≡ 17) }
+    requires memory { IsBlankOf C.name C.parts blanks.memory.name blanks.memory.parts × (blanks.memory.parts ≡ 17) }
+    requires changed { IsBlankOf E.name E.parts blanks.changed.name blanks.changed.parts × (blanks.changed.parts ≡ 17) }
+    requires misses { IsCounterOf F.name F.parts blanks.misses.name blanks.misses.parts × (blanks.misses.parts ≡ 17) }
+    requires task { IsTask N.job N.share task.now }
     requires files { All (λ s. Tells N.files (S.state s).world) scans.items }
     requires infos { AreInfosOf N.job.parts N.files N.job.infos }
     requires few { vec_len scans ≤ 16 }
     requires workers { (1 ≤ workers) × (workers ≤ vec_len scans) }
     requires crew { workers ≡ W.workers }
-    requires range { (low ≤ high) × (high ≤ frames_of N.job) }
-    requires named { (low ≡ W.low) × (high ≡ W.high) }
-    requires beginning { IsBeginning N.job N.files N.start D.tells D.state reel (log_of reel.ledger.gates low high workers []) }
+    requires named { (task.now.range.low ≡ W.low) × (task.now.range.high ≡ W.high) }
+    requires beginning { IsBeginning N.job N.files N.start D.tells D.state reel
+        (log_of reel.ledger.gates task.now.range.low task.now.range.high workers []) }
     requires lent { (D.state reel.disk).loans ≡ N.loans }
+    requires own { OnlyWrites (IsRunFile N.job W.low W.high) N.calls (D.state reel.disk).calls }
     ensures unmade { IfErr result (λ back. (back.0 ≡ scans) × (back.1 ≡ reel)) }
     ensures frames { IfOk result (λ crew. crew.report.frames ≡ frames_of N.job) }
     ensures misses { IfOk result (λ crew. crew.report.misses ≡ crew.report.loads) }
-    ensures shared { IfOk result (λ crew. AreShared share_cap crew.log crew.report) }
+    ensures shared { IfOk result (λ crew. AreShared task.now.share crew.log crew.report) }
     ensures some { IfOk result (λ crew. is_some crew.history ≡ true) }
     ensures acked { IfOk result (λ crew. crew.end ≡ RunEnd.Done → D.tells ≡ true
         → AreAllAcked N.job W.low W.high (moment_of (D.state crew.disk).history)) }
     ensures changed { IfOk result (λ crew. IsChange crew.end → 1 ≤ crew.report.loads) }
     ensures made { IfOk result (HasClosedStation N.job W.low W.high N.files W.workers N.start D.tells D.state) }
     ensures lent { IfOk result (λ crew. (D.state crew.disk).loans ≡ N.loans) }
+    ensures own { IfOk result (λ crew. OnlyWrites (IsRunFile N.job W.low W.high) N.calls (D.state crew.disk).calls) }
     ensures scans { IfOk result (HasScansBack S.state workers scans.items) }
 {
+    let Blanks {
+        source,
+        disk: failed,
+        memory,
+        changed,
+        misses,
+    } = blanks;
     let ready = match make_ready::<S, D, N, Named<W, A, B, C, E, F>>(
         alloc,
-        job,
+        task,
         &reel,
         workers,
         scans.len(),
-        share_cap,
         misses,
-        low,
-        high,
     ) {
         Some(ready) => ready,
         None => return Err((scans, reel)),
@@ -323,60 +316,43 @@ fn run_opened<
     let mut units = units;
     let threads = usize::from(workers);
     let each = threads_each(rt, threads);
-    let mut seats = seat_all(room, scans, each, &mut marks, &mut units);
-    let (mut station, mut share) = work_all(rt, alloc, job, &mut seats, threads, station, share);
+    let mut seats = seat_all(alloc, room, scans, each, &mut marks, &mut units);
+    let (mut station, mut share) = work_all(rt, task.job, &mut seats, threads, station, share);
     let (scans, loads) = unseat(seats, back, &mut marks, &mut units);
     station.settle(&mut marks);
     share.settle(&mut units);
-    Ok(closing(job, station, share.into_log(), scans, loads))
+    Ok(closing(task.job, station, share.into_log(), scans, loads))
 }
 
-/// Runs the frames of N's job from `low` up to `high`, which is left out, with several workers over a disk that was never used,
-/// and hands back every scan and the disk. All other frames stay as they are.
+/// Runs the frames of a task's range with several workers over a disk that was never used, and hands back every scan and the disk.
+/// All other frames stay as they are.
 ///
 /// The first `workers` scans have a worker each, or all scans where there are fewer. The folder is opened as `Reel::begin`
-/// opens it. The workers share at most `share_cap` decoded source frames, from 1 to 16: one that is shared isn't loaded again.
-/// It may wait for the locks that its workers share.
+/// opens it. A source frame that is shared isn't loaded again. It may wait for the locks that its workers share.
 pub fn run_crew<
     N: Work + Start + Send + Sync,
     S: Scans + Send,
     D: Disk + Send,
     R: Threads + Wait + Sync,
->(
-    rt: &R,
-    alloc: Global,
-    job: &Job,
-    scans: Vec<S>,
-    workers: u16,
-    disk: D,
-    share_cap: u32,
-    low: u32,
-    high: u32,
-) -> Crew<S, D>
-    requires job { job.now ≡ N.job }
+>(rt: &R, alloc: Global, task: &Task, scans: Vec<S>, workers: u16, disk: D) -> Crew<S, D>
+    requires task { IsTask N.job N.share task.now }
     requires files { All (λ s. Tells N.files (S.state s).world) scans.items }
     requires infos { AreInfosOf N.job.parts N.files N.job.infos }
-    requires range { (low ≤ high) × (high ≤ frames_of N.job) }
     requires scans { (1 ≤ vec_len scans) × (vec_len scans ≤ 16) }
     requires workers { (1 ≤ workers) × (workers ≤ 16) }
-    requires share { (1 ≤ share_cap) × (share_cap ≤ 16) }
-    requires named_share { share_cap ≡ N.share }
-    requires start { N.start ≡ start_of D.tells (D.state disk).history }
-    requires lent { N.loans ≡ (D.state disk).loans }
-    requires moment { D.tells ≡ true → (D.state disk).history.now ≡ 0 }
-    requires faults { (D.state disk).faults ≡ 0 }
+    requires disk { IsFirstUse N.start N.loans N.calls D.tells (D.state disk) }
     ensures frames { result.report.frames ≡ frames_of N.job }
     ensures misses { result.report.misses ≡ result.report.loads }
 
     // Which frames the opening kept, what the folder acknowledges now, and the steps by which it came; or why there are none.
     // There are as many workers as were asked for, at most one a scan.
-    ensures ran { WasRunByCrew N.job low high N.files (min workers (vec_len scans)) share_cap D.tells (D.state disk).history
+    ensures ran { WasRunByCrew N.job task.now.range.low task.now.range.high N.files (min workers (vec_len scans)) task.now.share D.tells (D.state disk).history
         (D.state result.disk).history result }
 
     // At Done every image acknowledges every frame of the range, and the folder has the whole range: that of a run on one thread.
-    ensures acked { result.end ≡ RunEnd.Done → D.tells ≡ true → AreAllAcked N.job low high (moment_of (D.state result.disk).history) }
+    ensures acked { result.end ≡ RunEnd.Done → D.tells ≡ true → AreAllAcked N.job task.now.range.low task.now.range.high (moment_of (D.state result.disk).history) }
     ensures whole { result.end ≡ RunEnd.Done → D.tells ≡ true
-        → HasWhole N.job low high N.files (D.state disk).history (D.state result.disk).history }
+        → HasWhole N.job task.now.range.low task.now.range.high N.files (D.state disk).history (D.state result.disk).history }
 
     // A crash at any moment leaves only frames acknowledged that are the reel's. No acknowledgement is lost, where each frame
     // that version 1 of the ledger acknowledged at the start had a file of a frame's length, as sound files have.
@@ -386,40 +362,35 @@ pub fn run_crew<
     // No file is changed but the ledger's and those of the range's frames that the opening didn't keep. Of the ledger's those of
     // version 2 alone are written.
     ensures spares { D.tells ≡ true → Spares (D.state disk).history (D.state result.disk).history
-        (IsOwnFileOf N.job low high (view_of (D.state disk).history)) }
+        (IsOwnFileOf N.job task.now.range.low task.now.range.high (view_of (D.state disk).history)) }
     ensures writes { D.tells ≡ true → WritesOnly (D.state disk).history (D.state result.disk).history
-        (MayWriteOf N.job low high (view_of (D.state disk).history)) }
+        (MayWriteOf N.job task.now.range.low task.now.range.high (view_of (D.state disk).history)) }
+
+    // Over every disk, also one that tells nothing, no file is written but these, and none where the folder is refused.
+    ensures own { OnlyWrites (RunMayWrite N.job task.now.range.low task.now.range.high result.end) (D.state disk).calls (D.state result.disk).calls }
 
     // Each scan is handed back in its place. A stop has its cause: a load failed, a loaded file has changed, the disk failed.
     ensures scans { HasScansBack S.state (min workers (vec_len scans)) scans.items result }
     ensures changed { IsChange result.end → 1 ≤ result.report.loads }
     ensures failed { result.end ≡ RunEnd.DiskFault → HasDiskFailed result.history result.end }
-    ensures cause { HasCause (D.state disk).faults (D.state result.disk).faults (HasDiskFailed result.history result.end) }
-    ensures steady { (HasDiskFailed result.history result.end → ⊥) → (D.state result.disk).faults ≡ (D.state disk).faults }
-    ensures same_disk { (D.state result.disk).loans ≡ (D.state disk).loans }
+    ensures disk { LeavesDisk (HasDiskFailed result.history result.end) (D.state disk) (D.state result.disk) }
 {
-    let reel = match Reel::<D, N>::begin(alloc, disk, job) {
+    let reel = match Reel::<D, N>::begin(alloc, disk, task.job) {
         Ok(reel) => reel,
-        Err((fault, disk)) => return unmade(alloc, job, end_of_opening(fault), scans, disk),
+        Err((fault, disk)) => return unmade(alloc, task.job, end_of_opening(fault), scans, disk),
     };
     let workers = workers.min(scans.len() as u16);
+    let blanks = Blanks {
+        source: Blank::new(17),
+        disk: Blank::new(17),
+        memory: Blank::new(17),
+        changed: Blank::new(17),
+        misses: Blank::new(17),
+    };
     match run_opened::<N, Brand, Brand, Brand, Brand, Brand, Brand, S, D, R>(
-        rt,
-        alloc,
-        job,
-        Blank::new(17),
-        Blank::new(17),
-        Blank::new(17),
-        Blank::new(17),
-        Blank::new(17),
-        scans,
-        workers,
-        reel,
-        share_cap,
-        low,
-        high,
+        rt, alloc, task, blanks, scans, workers, reel,
     ) {
         Ok(crew) => crew,
-        Err((scans, reel)) => unmade(alloc, job, RunEnd::NoMemory, scans, reel.close()),
+        Err((scans, reel)) => unmade(alloc, task.job, RunEnd::NoMemory, scans, reel.close()),
     }
 }

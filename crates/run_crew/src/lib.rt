@@ -11,5 +11,5 @@ pub use crew_seat::Seat;
 pub use crew_worker::{Shared, SharedFrames};
 pub use frame_fetch::RunEnd;
 pub use frame_share::{ShareLog, ShareStep};
-pub use run_alone::{Report, run_alone};
+pub use run_alone::{Report, Task, run_alone};
 pub use station::{Crewed, Marks, Station};

@@ -4,6 +4,7 @@ ghost use Rattle.conform_job.specs.Answers.{AreInfosOf};
 ghost use Rattle.run_crew.specs.inside.Each.{EachBecame};
 ghost use Rattle.crew_rest.specs.Left.{HasFinished};
 ghost use Rattle.crew_seat.specs.Stepped.{HasWorked};
+ghost use Rattle.crew_seat.specs.Worked.{seat_loads};
 ghost use Rattle.crew_seat.specs.inside.Stepped.{IsReady};
 
 use crate::each::{Works, work_on_first};
@@ -15,7 +16,6 @@ use frame_share::Share;
 use reel_disk::{Disk, Start};
 use scan_source::Scans;
 use station::{Crewed, Station};
-use std::alloc::Global;
 use std::sync::{Mutex, Wait};
 use std::thread::Threads;
 
@@ -25,12 +25,13 @@ impl<S: Scans, D: Disk, N: Work + Start, C: Crewed, R: Threads + Wait + Sync> Wo
     ghost use denote.Param.Send.{IsSync};
     ghost use Rattle.conform_job.specs.Answers.{AreInfosOf};
     ghost use Rattle.crew_seat.specs.Stepped.{HasWorked};
+    ghost use Rattle.crew_seat.specs.Worked.{worker_loads};
     ghost use Rattle.crew_seat.specs.inside.Stepped.{IsReady};
 
     ghost may = { λ shared seat. IsSync R.row × (shared.job.now ≡ N.job) × AreInfosOf N.job.parts N.files N.job.infos
         × IsReady N.files S.state seat };
 
-    ghost has = { λ shared old new. HasWorked N.files S.state 524288 old new };
+    ghost has = { λ shared old new. HasWorked N.files S.state worker_loads old new };
 
     fn work(&self, seat: &mut Seat<S, N, C>) {
         drop(self.worker(seat));
@@ -39,9 +40,9 @@ impl<S: Scans, D: Disk, N: Work + Start, C: Crewed, R: Threads + Wait + Sync> Wo
 
 /// Whether each miss has had its put.
 fn are_put<S: Scans, N: Work, C: Crewed>(seats: &[Seat<S, N, C>]) -> bool
-    ensures { result ≡ true ↔ All (λ s. s.units.pending ≡ 0) seats.now }
+    ensures { result ≡ true ↔ All (λ s. s.loader.units.pending ≡ 0) seats.now }
 {
-    seats.iter().all(|seat| !seat.units.is_open())
+    seats.iter().all(|seat| !seat.loader.units.is_open())
 }
 
 /// Runs the workers, and finishes what they left.
@@ -53,7 +54,6 @@ pub(crate) fn work_all<
     R: Threads + Wait + Sync,
 >(
     rt: &R,
-    alloc: Global,
     job: &Job,
     seats: &mut [Seat<S, N, C>],
     threads: usize,
@@ -72,7 +72,7 @@ where
     requires infos { AreInfosOf N.job.parts N.files N.job.infos }
     requires ready { All (λ s. IsReady N.files S.state s) seats.old }
     ensures size { length seats.new ≡ length seats.old }
-    ensures worked { EachBecame (length seats.old) (HasWorked N.files S.state 2097152) seats.old seats.new }
+    ensures worked { EachBecame (length seats.old) (HasWorked N.files S.state seat_loads) seats.old seats.new }
     ensures unused { (k : ℕ) (d : _) → threads ≤ k → slice_index_or seats.new k d ≡ slice_index_or seats.old k d }
     ensures whole { HasFinished N.job result.0.log }
 {
@@ -80,7 +80,6 @@ where
     let share = SharedFrames::new(share);
     let shared = Shared {
         rt,
-        alloc,
         job,
         station: &station,
         share: &share,
@@ -91,7 +90,7 @@ where
         share: share.into_share(),
     };
     let all_put = are_put(seats);
-    rest.finish_rest(alloc, job, &mut seats[0], all_put);
+    rest.finish_rest(job, &mut seats[0], all_put);
     let Rest { station, share } = rest;
     (station, share)
 }

@@ -23,13 +23,14 @@ use Rattle.render_board.specs.declared.step.Step.{Step}
 use Rattle.render_board.specs.declared.step.Step.TheVariants.{Claim, Finish, Stop}
 use Rattle.render_board.specs.declared.step.Why.{Why}
 use Rattle.render_board.specs.declared.step.Why.TheVariants.{Source, Disk, Memory, Changed}
-use Rattle.render_board.specs.Board.{Log, after_claim, is_done, is_finish_of, turn_of, claim_of, IsNext, with_step}
+use Rattle.render_board.specs.Board.{Log, after_claim, is_done, is_finish_of, turn_of, claim_of, IsLegal, IsNext, with_step}
 use Rattle.render_board.specs.History.{finished_of, is_source, is_disk, is_memory, is_changed, is_stop_by, stops_of}
-use Rattle.render_board.proofs.Steps.{slice_get-push, isnt_other, finished_own, done_as_before, IsLegal-step, is_done-start}
+use Rattle.render_board.proofs.Steps.{slice_get-push, isnt_other, finished_own, done_as_before, IsLegal-step, is_done-start, range_is}
 use Rattle.render_board.proofs.Histories.{finished_of-finish, finished_of-claim, finished_of-stop, stops_of-step}
 use Rattle.render_board.proofs.Holding.{claim_is_next, held_isnt_done, held_inside, held_within}
-use Rattle.reel_writer.specs.Reel.{frames_of, HasAcked, HasFrameFiles, IsReelRun, IsSoundReel, IsWrittenFile, KeepsReel}
+use Rattle.reel_writer.specs.Reel.{frames_of, HasAcked, HasFrameFiles, IsReelRun, IsRunFile, IsSoundReel, IsWrittenFile, KeepsReel}
 use Rattle.reel_writer.specs.View.{ReelView, after_finish, after_fault}
+use Rattle.reel_writer.proofs.OwnFiles.{frame_of_run}
 use Rattle.reel_writer.proofs.ReelLaws.{reel_run_along}
 use Rattle.station.specs.Station.{StationView, Totals, IsStation, IsCounted, IsCrewFile, IsRangeFile, MayCrewWrite, HasChanges, ShowsDone}
 use Rattle.station.specs.StationSteps.{IsBeginning, MayStop, counted_by, after_claimed, after_finished, after_failed, after_stopped}
@@ -404,3 +405,11 @@ pub claim_high : (log : Log) (worker : ℕ) (answer : Answer) → (after_claim l
 claim_high log worker (Take i) = refl
 claim_high log worker NoneLeft = refl
 claim_high log worker Stopped = refl
+
+-- what a finish of a frame that is held writes is the run's
+pub held_of_run : (job : JobData) (log : Log) (low high w i : ℕ) → log.low ≡ low → log.high ≡ high → IsLegal log → turn_of log w ≡ turns.Holds i → (q : FileId) → IsWrittenFile (file_of job i) q → IsRunFile job low high q
+held_of_run job log low high w i from to legal holds =
+    let inside = range_is log i (held_inside log w i legal holds) in
+    let late = inside.0 in
+    let early = inside.1 in
+    frame_of_run job low high i (omega (arith, late, from)) (omega (arith, early, to))

@@ -1,10 +1,11 @@
 //! The value behind the station's lock: the reel and the board, and how many stops of each why there were.
 ghost use Rattle.std.specs.Prelude.{◌≡◌, ◌≢◌, ◌<◌, ◌≤◌, true, false, length, OnOk, OnErr, IsErr};
+ghost use Rattle.reel_disk.specs.Call.{OnlyWrites};
 ghost use Rattle.reel_disk.specs.State.{LeavesDisk};
 ghost use Rattle.render_board.specs.Board.{turn_of, claim_of};
 ghost use Rattle.render_board.specs.declared.board.Turn.TheVariants as turns;
 ghost use Rattle.render_board.specs.declared.step.Why.TheVariants as whys;
-ghost use Rattle.reel_writer.specs.Reel.{IsReelRun, KeepsReel};
+ghost use Rattle.reel_writer.specs.Reel.{IsReelRun, IsRunFile, KeepsReel};
 ghost use Rattle.station.specs.Marks.{IsBlankOf, IsSettled, raised_by};
 ghost use Rattle.station.specs.Station.{StationView, IsStation};
 ghost use Rattle.station.specs.StationSteps.{AddsFrame, IsBeginning, IsSurelyAcked, IsSurelyStored, MayStop, ShowsFrame, WritesFrame, after_claimed, after_failed, after_finished, after_stopped};
@@ -42,6 +43,8 @@ pub struct Station<D: Disk, N: Work + Start, C: Crewed> {
 impl<D: Disk, N: Work + Start, C: Crewed> Model for Station<D, N, C> {
     ghost use Rattle.std.specs.Prelude.{◌≡◌};
     ghost use Rattle.std.specs.Coded.{codes};
+    ghost use Rattle.reel_disk.specs.Call.{OnlyWrites};
+    ghost use Rattle.reel_writer.specs.Reel.{IsRunFile};
     ghost use Rattle.reel_writer.specs.View.{reel_code};
     ghost use Rattle.station.specs.Station.{StationView, IsStation};
     ghost use Rattle.station.specs.inside.Station.{station_of};
@@ -56,7 +59,8 @@ impl<D: Disk, N: Work + Start, C: Crewed> Model for Station<D, N, C> {
         IsStation N.job N.files N.start D.tells D.state
         (station_of s.reel s.board s.totals.source.total s.totals.disk.total s.totals.memory.total s.totals.changed.total)
         × (s.board.workers ≡ C.workers) × ((D.state s.reel.disk).loans ≡ N.loans)
-        × ((s.board.low ≡ C.low) × (s.board.high ≡ C.high)) };
+        × ((s.board.low ≡ C.low) × (s.board.high ≡ C.high))
+        × OnlyWrites (IsRunFile N.job C.low C.high) N.calls (D.state s.reel.disk).calls };
 }
 
 impl<D: Disk, N: Work + Start, C: Crewed> Station<D, N, C> {
@@ -78,6 +82,7 @@ impl<D: Disk, N: Work + Start, C: Crewed> Station<D, N, C> {
         requires workers { board.workers ≡ C.workers }
         requires range { (board.low ≡ C.low) × (board.high ≡ C.high) }
         requires lent { (D.state reel.disk).loans ≡ N.loans }
+        requires own { OnlyWrites (IsRunFile N.job C.low C.high) N.calls (D.state reel.disk).calls }
         ensures reel { result.0.reel ≡ reel }
         ensures log { result.0.log ≡ board }
         ensures source { (result.1.source.parts ≡ C.SourceStops.parts) × (result.1.source.amount ≡ 0) }
@@ -244,6 +249,9 @@ impl<D: Disk, N: Work + Start, C: Crewed> Station<D, N, C> {
         ensures range { (self.log.low ≡ C.low) × (self.log.high ≡ C.high) }
         ensures lent { (D.state self.reel.disk).loans ≡ N.loans }
         ensures kept { IsStation N.job N.files N.start D.tells D.state self }
+
+        // Over every disk no file was written since the start but the ledger's and those of frames of the range.
+        ensures own { OnlyWrites (IsRunFile N.job C.low C.high) N.calls (D.state self.reel.disk).calls }
     {
         let Station {
             reel,

@@ -3,9 +3,10 @@ ghost use Rattle.std.specs.Prelude.{◌≤◌};
 
 use cf_base::{FileId, PathText, last_digits};
 use conform_job::Job;
+use frame_range::FrameRange;
 use project_job::planned;
 use reel_disk::{Disk, Got, MemoryDisk};
-use run_crew::{Report, RunEnd, run_alone};
+use run_crew::{Report, RunEnd, Task, run_alone};
 use scan_source::MemoryScans;
 use std::alloc::Global;
 use std::marker::Brand;
@@ -238,15 +239,15 @@ fn run<D: Disk>(
     requires { (1 ≤ share_cap) × (share_cap ≤ 16) }
 {
     job.recall();
-    let (end, report, _) = run_alone::<Brand, MemoryScans, D>(
-        alloc,
+    let task = Task {
         job,
-        scans,
-        disk,
-        share_cap,
-        0,
-        job.count(),
-    );
+        range: FrameRange {
+            low: 0,
+            high: job.count(),
+        },
+        share: share_cap,
+    };
+    let (end, report, _) = run_alone::<Brand, MemoryScans, D>(alloc, &task, scans, disk);
     (end, report)
 }
 

@@ -2,8 +2,9 @@
 ghost use Rattle.std.specs.Prelude.{◌≡◌, ◌≤◌, true, vec_len};
 
 use conform_job::Job;
+use frame_range::FrameRange;
 use reel_disk::{Disk, MemoryDisk};
-use run_crew::{Crew, Report, RunEnd, run_crew};
+use run_crew::{Crew, Report, RunEnd, Task, run_crew};
 use scan_source::Scans;
 use std::alloc::Global;
 use std::marker::Brand;
@@ -32,17 +33,15 @@ pub(crate) fn crew_on<S: Scans + Send, D: Disk + Send, R: Threads + Wait + Sync>
     requires faults { (D.state disk).faults ≡ 0 }
 {
     job.recall();
-    run_crew::<Brand, S, D, R>(
-        rt,
-        alloc,
+    let task = Task {
         job,
-        scans,
-        workers,
-        disk,
-        share_cap,
-        0,
-        job.count(),
-    )
+        range: FrameRange {
+            low: 0,
+            high: job.count(),
+        },
+        share: share_cap,
+    };
+    run_crew::<Brand, S, D, R>(rt, alloc, &task, scans, workers, disk)
 }
 
 /// The same over a fresh disk, by as many workers as there are scans, which are those of `scans_together`. None where

@@ -9,7 +9,7 @@ use Rattle.crew_seat.specs.declared.seat.Seat.{Seat}
 module _ {S N C A B D E F : Type 0} where
   -- a worker may begin: its scan tells the job's files, and nothing was loaded or asked for
   pub record IsReady (told : Option World) (state : S → ScanState) (seat : Seat S N C A B D E F) : Type 0 where
-    pub tells : Tells told (state seat.scan).world
-    pub none : seat.loads ≡ 0
+    pub tells : Tells told (state seat.loader.scan).world
+    pub none : seat.loader.loads ≡ 0
     pub unfailed : seat.has_failed ≡ false
-    pub closed : seat.units.pending ≡ 0
+    pub closed : seat.loader.units.pending ≡ 0

@@ -2,15 +2,15 @@
 --     HasRunFrame      what the work on one frame makes of an open reel
 --     HasRunOver      what a run over the frames of an open reel makes of it
 use Rattle.std.specs.Prelude.{◌≡◌, ◌≢◌, ◌⊎◌, ◌↔◌, ℕ, ◌<◌, ◌≤◌, Bool, true, false, List, length, take, Contains, slice_index_or, Option, Result, Err, OnOk, OnErr}
-use Rattle.cf_base.specs.Count.{HasCause}
 use Rattle.cf_base.specs.declared.file.FileId.{FileId}
 use Rattle.cf_base.specs.declared.file.FileId.TheVariants.{Body2}
-use Rattle.reel_disk.specs.State.{DiskState}
+use Rattle.reel_disk.specs.Call.{OnlyWrites}
+use Rattle.reel_disk.specs.State.{DiskState, LeavesDisk}
 use Rattle.scan_source.specs.World.{World}
 use Rattle.conform_job.specs.Job.{JobData, file_of}
 use Rattle.reel_disk.specs.Disk.{History, view_of}
 use Rattle.reel_disk.specs.Runs.{Spares}
-use Rattle.reel_writer.specs.Reel.{HasAcked, IsWrittenFile, IsReelRun, KeepsReel}
+use Rattle.reel_writer.specs.Reel.{HasAcked, IsRunFile, IsWrittenFile, IsReelRun, KeepsReel}
 use Rattle.reel_writer.specs.View.{ReelView}
 use Rattle.run_alone.specs.Asks.{IsNext, closed_frames}
 use Rattle.run_alone.specs.inside.Ran.{IsPast, IsUnfinished}
@@ -53,9 +53,8 @@ pub record HasRunFrame {D R : Type 0} (i : ℕ) (job : JobData) (told : Option W
   pub none_lost : tells ≡ true → KeepsReel job (state old.disk).history (state new.disk).history
   pub spares : tells ≡ true
       → Spares (state old.disk).history (state new.disk).history (IsWrittenFile (file_of job i))
-  pub same : (state new.disk).loans ≡ (state old.disk).loans
-  pub cause : HasCause (state old.disk).faults (state new.disk).faults (result ≡ Err DiskFault)
-  pub steady : result ≢ Err DiskFault → (state new.disk).faults ≡ (state old.disk).faults
+  pub own : OnlyWrites (IsWrittenFile (file_of job i)) (state old.disk).calls (state new.disk).calls
+  pub disk : LeavesDisk (result ≡ Err DiskFault) (state old.disk) (state new.disk)
 
 -- What a run over a range of frames of an open reel makes of it, until it ends so. It finished so many of the
 -- frames whose gate was closed, in their order, and wrote no file but theirs and the ledger's.
@@ -70,6 +69,5 @@ pub record HasRunOver {D : Type 0} (job : JobData) (low high : ℕ) (told : Opti
   pub run : tells ≡ true → IsReelRun job told (state old.disk).history (state new.disk).history
   pub spares : tells ≡ true
       → Spares (state old.disk).history (state new.disk).history (IsRangeFile job low high old.ledger.gates)
-  pub same : (state new.disk).loans ≡ (state old.disk).loans
-  pub cause : HasCause (state old.disk).faults (state new.disk).faults (end ≡ DiskFault)
-  pub steady : end ≢ DiskFault → (state new.disk).faults ≡ (state old.disk).faults
+  pub own : OnlyWrites (IsRunFile job low high) (state old.disk).calls (state new.disk).calls
+  pub disk : LeavesDisk (end ≡ DiskFault) (state old.disk) (state new.disk)

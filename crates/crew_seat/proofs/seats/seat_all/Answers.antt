@@ -1,4 +1,4 @@
-use Rattle.std.proofs.Common.{◌∙◌, ap, arith, length, refl, rules, subst, sym}
+use Rattle.std.proofs.Common.{[], ◌∷◌, ◌++◌, ◌∙◌, ap, arith, length, refl, rules, subst, sym}
 use Rattle.std.proofs.lemmas.List.{length_push, map-append}
 use Rattle.std.proofs.lemmas.List.Elements.{All-push}
 use Rattle.crew_seat.specs.Seats.{HasGiven}
@@ -16,8 +16,8 @@ loop-scan-preserved g c =
       number = omega (arith, more, c.loop-scan.invariant.number);
       capacity = search rules;
       len = omega (arith, more, c.loop-scan.invariant.len, c.push_reserved.ensures.len);
-      scans = rw (c.push_reserved.ensures.items, map-append, c.loop-scan.invariant.scans) refl;
-      fresh = rw c.push_reserved.ensures.items (All-push (λ s. IsFresh s) c.loop-scan.seats.items _ c.loop-scan.invariant.fresh (record { marks = c.split.ensures.new; units = c.split-in-loop-scan.ensures.new; none = refl; unfailed = refl }));
+      scans = rw (c.push_reserved.ensures.items, map-append, c.loop-scan.invariant.scans) (ap (λ (scan : _). c.loop-scan.yielded ++ scan ∷ []) c.new.ensures.scan);
+      fresh = rw c.push_reserved.ensures.items (All-push (λ s. IsFresh s) c.loop-scan.seats.items _ c.loop-scan.invariant.fresh (record { marks = c.split.ensures.new; units = c.new.ensures.units ∙ c.split-in-loop-scan.ensures.new; none = c.new.ensures.none; unfailed = refl }));
       numbers = rw (c.push_reserved.ensures.items, more) (numbered_more (λ s. s.number) c.loop-scan.seats.items _ _ (search rules) c.loop-scan.invariant.number c.loop-scan.invariant.numbers);
       given = given_more _ _ _ _ _ _ c.loop-scan.invariant.given c.split.ensures.new c.split.ensures.all more;
       shares = units_left _ _ _ _ _ c.split-in-loop-scan.ensures.new c.split-in-loop-scan.ensures.all c.loop-scan.invariant.shares more;

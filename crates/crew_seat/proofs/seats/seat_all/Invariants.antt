@@ -11,7 +11,7 @@ invariant-loop-scan g l = record {
   number : l.number ≡ length l.yielded;
   capacity : vec_capacity l.seats ≡ vec_capacity l.initial.seats;
   len : vec_len l.seats ≡ length l.yielded;
-  scans : map (λ s. s.scan) l.seats.items ≡ l.yielded;
+  scans : map (λ s. s.loader.scan) l.seats.items ≡ l.yielded;
   numbers : (k : ℕ) (d : _) → k < length l.yielded → (get_or l.seats.items k d).number ≡ k;
   fresh : All (λ s. IsFresh s) l.seats.items;
   given : HasGiven l.initial.marks (length l.yielded) l.marks;

@@ -1,6 +1,7 @@
 use Rattle.std.proofs.Common.{◌≡◌, ◌+◌, ◌*◌, ◌≤◌, ◌++◌, length, map, vec_len, vec_capacity}
 use Rattle.std.specs.Prelude.{sum_by}
 use Rattle.crew_seat.specs.Seats.{HasTaken}
+use Rattle.crew_seat.specs.Worked.{seat_loads}
 use Rattle.crew_seat.proofs.seats.unseat.Given as goal
 
 abbrev pub invariant-loop-seat : goal.invariant-loop-seat
@@ -10,9 +11,9 @@ invariant-loop-seat g l = record {
   left : l.yielded ++ l.seat-iterator.rest.items ≡ l.initial.seat-iterator.rest.items;
   capacity : vec_capacity l.scans ≡ vec_capacity l.initial.scans;
   len : vec_len l.scans ≡ length l.yielded;
-  scans : l.scans.items ≡ map (λ s. s.scan) l.yielded;
-  loads : l.loads ≡ sum_by (λ s. s.loads) l.yielded;
-  few : l.loads ≤ 2097152 * length l.yielded;
+  scans : l.scans.items ≡ map (λ s. s.loader.scan) l.yielded;
+  loads : l.loads ≡ sum_by (λ s. s.loader.loads) l.yielded;
+  few : l.loads ≤ seat_loads * length l.yielded;
   source : l.marks.source.amount ≡ l.initial.marks.source.amount + sum_by (λ s. s.marks.source.amount) l.yielded;
   changed : l.marks.changed.amount ≡ l.initial.marks.changed.amount + sum_by (λ s. s.marks.changed.amount) l.yielded;
   taken : HasTaken l.initial.marks (length l.yielded) l.marks;

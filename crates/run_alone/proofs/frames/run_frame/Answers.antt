@@ -1,6 +1,8 @@
-use Rattle.std.proofs.Common.{◌≡◌, ℕ, false, get_or, refl, rules, ◌∙◌, ap, arith}
+use Rattle.std.proofs.Common.{◌≡◌, ℕ, false, get_or, refl, ◌∙◌, ap, arith}
 use Rattle.conform_job.specs.Job.{file_of, need_at}
 use Rattle.frame_render.specs.Frame.{FrameBytes}
+use Rattle.reel_disk.proofs.Leaving.{disk_as, disk_done}
+use Rattle.reel_disk.proofs.Writing.{writing_wider}
 use Rattle.reel_disk.proofs.Sparing.{spares_wider}
 use Rattle.reel_writer.specs.Reel.{IsWrittenFile}
 use Rattle.reel_writer.specs.View.{ReelView}
@@ -43,9 +45,8 @@ returns-in-Ok-finish-clause-reel g c =
       spares = λ told.
           spares_wider _ _ (IsWrittenFile (file_of g.N.Work.job c.of-hashed.result.index)) (IsWrittenFile (file_of g.N.Work.job c.args.i))
           (frame_written g.N.Work.job c.args.i c.of-hashed.result.index same) (c.finish.ensures.spares told);
-      same = c.finish.ensures.disk.lent;
-      cause = record { later = c.finish.ensures.disk.counts.cause.later; failed = λ failed. cc };
-      steady = λ _. c.in-Ok-finish.ensures.disk.counts.steady (λ is. cc);
+      own = writing_wider (frame_written g.N.Work.job c.args.i c.of-hashed.result.index same) c.finish.ensures.own;
+      disk = disk_done (λ is. cc) (λ is. cc) c.in-Ok-finish.ensures.disk;
     }
 
 pub returns-in-Ok-finish-clause-asked : goal.returns-in-Ok-finish-clause-asked
@@ -75,13 +76,12 @@ returns-in-Err-finish-clause-reel g c =
       spares = λ told.
           spares_wider _ _ (IsWrittenFile (file_of g.N.Work.job c.of-hashed.result.index)) (IsWrittenFile (file_of g.N.Work.job c.args.i))
           (frame_written g.N.Work.job c.args.i c.of-hashed.result.index same) (c.finish.ensures.spares told);
-      same = c.finish.ensures.disk.lent;
-      cause = search rules;
-      steady = λ other. absurd (other refl);
+      own = writing_wider (frame_written g.N.Work.job c.args.i c.of-hashed.result.index same) c.finish.ensures.own;
+      disk = disk_as (λ _. refl) (λ _. refl) c.in-Err-finish.ensures.disk;
     }
 
 pub returns-in-Err-finish-clause-tried : goal.returns-in-Err-finish-clause-tried
-returns-in-Err-finish-clause-tried g c = asked_is_tried c.args.share.now c.make_frame.new.share (keys_of_need (need_at g.N.Work.job c.args.i)) c.in-Ok.ensures.asked
+returns-in-Err-finish-clause-tried g c = asked_is_tried c.args.share.now c.make.new.share (keys_of_need (need_at g.N.Work.job c.args.i)) c.in-Ok.ensures.asked
 
 -- nothing is said of this where the disk failed
 pub returns-in-Err-finish-clause-asked : goal.returns-in-Err-finish-clause-asked

@@ -1,7 +1,8 @@
 use Rattle.std.proofs.Common.{◌≡◌, ◌∙◌, ℕ, arith, rules, sym, subst, refl}
+use Rattle.reel_disk.specs.Call.{OnlyWrites}
 use Rattle.reel_disk.specs.Disk.{moment_of}
 use Rattle.render_board.specs.History.{first_why}
-use Rattle.reel_writer.specs.Reel.{frames_of}
+use Rattle.reel_writer.specs.Reel.{frames_of, IsRunFile}
 use Rattle.reel_writer.specs.View.{IsReelOf}
 use Rattle.run_crew.specs.Crews.{end_by}
 use Rattle.run_alone.specs.Run.{AreAllAcked}
@@ -25,6 +26,11 @@ returns-clause-made g c =
       kept = search rules;
       rendered = search rules;
     }
+
+pub returns-clause-own : goal.returns-clause-own
+returns-clause-own g c =
+    let same : c.close.result ≡ c.args.station.reel.disk = search rules in
+    subst (λ d. OnlyWrites (IsRunFile g.N.Work.job g.C.Crewed.low g.C.Crewed.high) g.N.Start.calls (g.D.Disk.state d).calls) (sym same) c.into_parts-reel.ensures.own
 
 pub returns-clause-acked : goal.returns-clause-acked
 returns-clause-acked g c done told =

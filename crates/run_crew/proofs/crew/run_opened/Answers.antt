@@ -12,6 +12,7 @@ use Rattle.station.specs.StationSteps.{IsBeginning}
 use Rattle.run_crew.specs.Crews.{AreShared}
 use Rattle.run_crew.proofs.Gathering.{changed_seat, end_changed, end_source, gathered}
 use Rattle.crew_seat.proofs.Seating.{all_after, all_at, refilled, was_counted}
+use Rattle.crew_seat.specs.Worked.{seat_loads}
 use Rattle.run_crew.proofs.crew.run_opened.Goals as goal
 
 pub new-station-requires-clause-beginning : goal.new-station-requires-clause-beginning
@@ -21,7 +22,7 @@ new-station-requires-clause-beginning g c =
 pub work_all-station-requires-clause-ready : goal.work_all-station-requires-clause-ready
 work_all-station-requires-clause-ready g c κs within =
     let fresh : All (λ s. IsFresh s) c.deref_mut.result.now = rw c.deref_mut.ensures.value c.seat_all-seats.ensures.fresh in
-    let tells = all_at _ _ (λ s. s.scan) (λ s. Tells g.N.Work.files (g.S.Scans.state s).world) c.deref_mut.result.now c.args.scans.items (search rules) c.requires.files in
+    let tells = all_at _ _ (λ s. s.loader.scan) (λ s. Tells g.N.Work.files (g.S.Scans.state s).world) c.deref_mut.result.now c.args.scans.items (search rules) c.requires.files in
     λ k d lt.
     let is = fresh k d lt in
     record { tells = tells k d lt; none = is.none; unfailed = is.unfailed; closed = ap (λ (u : Tally). u.pending) is.units }
@@ -51,8 +52,8 @@ returns-clause-changed g c change =
     let none = c.seat_all-seats.ensures.given.changed.1 ∙ c.new-station.ensures.changed.1 in
     let sum = ap (sum_by (λ s. s.marks.changed.amount)) back in
     let loaded = changed_seat g.N.Work.files g.S.Scans.state
-    xs ys c.from-threads.result 2097152 c.work_all-station.ensures.size c.work_all-station.ensures.worked idle (omega (arith, stops, settled, counted, none, sum)) in
-    let total = c.closing.ensures.loads.0 ∙ c.unseat-scans.ensures.loads ∙ ap (sum_by (λ s. s.loads)) back in
+    xs ys c.from-threads.result seat_loads c.work_all-station.ensures.size c.work_all-station.ensures.worked idle (omega (arith, stops, settled, counted, none, sum)) in
+    let total = c.closing.ensures.loads.0 ∙ c.unseat-scans.ensures.loads ∙ ap (sum_by (λ s. s.loader.loads)) back in
     omega (arith, loaded, total)
 
 pub returns-clause-scans : goal.returns-clause-scans
@@ -68,11 +69,11 @@ returns-clause-scans g c =
     let none = c.seat_all-seats.ensures.given.source.1 ∙ c.new-station.ensures.source.1 in
     let sum = ap (sum_by (λ s. s.marks.source.amount)) back in
     gathered g.N.Work.files g.S.Scans.state
-    xs ys c.args.workers 2097152 c.work_all-station.ensures.size c.work_all-station.ensures.worked idle
+    xs ys c.args.workers seat_loads c.work_all-station.ensures.size c.work_all-station.ensures.worked idle
     c.args.scans.items c.closing.result.scans.items c.closing.result.report.loads _
     (search rules)
-    (ap (λ (v : Vec _ Global). v.items) c.closing.ensures.scans ∙ c.unseat-scans.ensures.scans ∙ ap (map (λ s. s.scan)) back)
-    (c.closing.ensures.loads.0 ∙ c.unseat-scans.ensures.loads ∙ ap (sum_by (λ s. s.loads)) back)
+    (ap (λ (v : Vec _ Global). v.items) c.closing.ensures.scans ∙ c.unseat-scans.ensures.scans ∙ ap (map (λ s. s.loader.scan)) back)
+    (c.closing.ensures.loads.0 ∙ c.unseat-scans.ensures.loads ∙ ap (sum_by (λ s. s.loader.loads)) back)
     (λ k d late. let is = c.from-threads.ensures in c.work_all-station.ensures.unused k d (omega (arith, is, late)))
     (λ failed. let stops = end_source steps (first_why steps) refl (sym c.closing.ensures.end ∙ failed) in omega (arith, stops, settled, counted, none, sum))
 
@@ -83,7 +84,7 @@ returns-clause-shared g c =
     let counted = c.unseat-scans.ensures.amount in
     let none = c.seat_all-seats.ensures.amount ∙ ap (λ (u : Tally). u.amount) c.in-Some.ensures.units in
     let all : c.unseat-scans.result.1 ≡ c.unseat-scans.new.units.amount = omega (arith, counted, none) in
-    subst (λ n. AreShared n c.closing.result.log c.closing.result.report) (c.into_log.ensures.capacity ∙ sym c.requires.named_share) (record {
+    subst (λ n. AreShared n c.closing.result.log c.closing.result.report) (c.into_log.ensures.capacity ∙ sym c.requires.task.shared) (record {
       some = kept.some;
       most = kept.most;
       legal = subst (IsLegal c.settle-2.new.self.capacity) (sym steps) kept.legal;

@@ -2,6 +2,7 @@ use Rattle.std.proofs.Common.{sym, ◌∙◌, subst, arith}
 use Rattle.std.proofs.lemmas.List.{get_or-set_other}
 use Rattle.conform_job.specs.Names.{Tells}
 use Rattle.run_crew.proofs.Gathering.{worked_all}
+use Rattle.crew_seat.specs.Worked.{rest_loads, seat_loads, worker_loads}
 use Rattle.run_crew.proofs.work.work_all.Goals as goal
 
 pub work_on_first-requires-clause-may : goal.work_on_first-requires-clause-may
@@ -26,7 +27,7 @@ finish_rest-requires-clause-put g c is =
 pub returns-clause-worked : goal.returns-clause-worked
 returns-clause-worked g c =
     worked_all g.N.Work.files g.S.Scans.state
-    c.args.seats.now c.work_on_first.new.items c.finish_rest.new.seat c.args.threads 524288 524322 2097152 c.requires.some (omega arith) c.work_on_first.ensures.size c.requires.ready c.work_on_first.ensures.has c.work_on_first.ensures.others
+    c.args.seats.now c.work_on_first.new.items c.finish_rest.new.seat c.args.threads worker_loads rest_loads seat_loads c.requires.some (omega arith) c.work_on_first.ensures.size c.requires.ready c.work_on_first.ensures.has c.work_on_first.ensures.others
     c.index-seats-0.result c.finish_rest.ensures.stepped
 
 pub returns-clause-unused : goal.returns-clause-unused

@@ -4,7 +4,7 @@ use Rattle.test_runs.proofs.crews.crew_on.Given as goal
 
 -- the name is that of the job, whose files aren't told, of what the disk held, how it is lent, and its calls before
 abbrev pub ghosts-run_crew-N-Work : goal.ghosts-run_crew-N-Work
-ghosts-run_crew-N-Work g a = record { job = a.job.now; files = None; share = a.share_cap }
+ghosts-run_crew-N-Work g a = record { job = a.task.now.job.now; files = None; share = a.task.now.share }
 
 abbrev pub ghosts-run_crew-N-Start : goal.ghosts-run_crew-N-Start
 ghosts-run_crew-N-Start g a = record { start = start_of g.D.Disk.tells (g.D.Disk.state a.disk).history; loans = (g.D.Disk.state a.disk).loans; calls = (g.D.Disk.state a.disk).calls }

@@ -11,7 +11,7 @@ invariant-loop g l = record {
   ending : l.end ≡ frames_of g.N.Work.job;
   short : l.end ≤ 262144;
   number : l.seat.number ≡ l.fn.seat.number;
-  closed : l.seat.units.pending ≡ 0;
+  closed : l.seat.loader.units.pending ≡ 0;
   room : length l.room ≡ frame_size g.N.Work.job;
   unfailed : l.seat.has_failed ≡ false;
   marks : l.seat.marks ≡ l.fn.seat.marks;

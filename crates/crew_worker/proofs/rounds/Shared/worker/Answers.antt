@@ -1,12 +1,13 @@
 use Rattle.std.proofs.Common.{refl, arith}
 use Rattle.crew_seat.proofs.Stepping.{stepped_left, worked_first}
 use Rattle.crew_worker.proofs.Made.{left_unfailed}
+use Rattle.crew_seat.specs.Worked.{worker_loads}
 use Rattle.crew_worker.proofs.rounds.Shared.worker.Goals as goal
 
 -- no room for a frame
 pub returns-in-Err-clause-worked : goal.returns-in-Err-clause-worked
 returns-in-Err-clause-worked g c =
-    worked_first g.N.Work.files g.S.Scans.state 0 524288 c.args.seat.now _ (omega arith) c.requires.none c.requires.unfailed
+    worked_first g.N.Work.files g.S.Scans.state 0 worker_loads c.args.seat.now _ (omega arith) c.requires.none c.requires.unfailed
     (stepped_left g.N.Work.files g.S.Scans.state 0 c.args.seat.now _ c.give_up.result refl refl refl refl c.give_up.ensures.left)
 
 pub returns-in-Err-clause-left : goal.returns-in-Err-clause-left

@@ -16,4 +16,5 @@ invariant_of-self g c =
         ap (λ (l : Log). l.low) c.claim.ensures.log ∙ claim_low s.board c.args.worker c.claim.result ∙ c.self.invariant.3.0,
         ap (λ (l : Log). l.high) c.claim.ensures.log ∙ claim_high s.board c.args.worker c.claim.result ∙ c.self.invariant.3.1,
       ),
+      c.self.invariant.4,
     )

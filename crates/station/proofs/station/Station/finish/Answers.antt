@@ -4,7 +4,8 @@ use Rattle.reel_writer.specs.Reel.{frames_of, KeepsReel}
 use Rattle.render_board.specs.Board.{Log}
 use Rattle.render_board.proofs.Holding.{held_isnt_done}
 use Rattle.station.specs.Station.{StationView}
-use Rattle.station.proofs.StationKeeps.{finished_as, failed_as}
+use Rattle.reel_disk.proofs.Writing.{writing_then, writing_wider}
+use Rattle.station.proofs.StationKeeps.{finished_as, failed_as, held_of_run}
 use Rattle.station.proofs.station.Station.finish.Goals as goal
 
 pub finish-requires-clause-fresh : goal.finish-requires-clause-fresh
@@ -20,6 +21,7 @@ invariant_of-self g c =
       ap (λ (l : Log). l.workers) c.finished.ensures ∙ c.self.invariant.1,
       c.finish.ensures.disk.lent ∙ c.self.invariant.2,
       (ap (λ (l : Log). l.low) c.finished.ensures ∙ c.self.invariant.3.0, ap (λ (l : Log). l.high) c.finished.ensures ∙ c.self.invariant.3.1),
+      writing_then c.self.invariant.4 (writing_wider (held_of_run g.N.Work.job s.board _ _ c.args.worker c.args.frame.now.index c.self.invariant.3.0 c.self.invariant.3.1 c.self.invariant.0.legal (search rules)) c.finish.ensures.own),
     )
 
 pub invariant_of-self-in-Err : goal.invariant_of-self-in-Err
@@ -32,6 +34,7 @@ invariant_of-self-in-Err g c =
       ap (λ (l : Log). l.workers) c.stop.ensures ∙ c.self.invariant.1,
       c.finish.ensures.disk.lent ∙ c.self.invariant.2,
       (ap (λ (l : Log). l.low) c.stop.ensures ∙ c.self.invariant.3.0, ap (λ (l : Log). l.high) c.stop.ensures ∙ c.self.invariant.3.1),
+      writing_then c.self.invariant.4 (writing_wider (held_of_run g.N.Work.job s.board _ _ c.args.worker c.args.frame.now.index c.self.invariant.3.0 c.self.invariant.3.1 c.self.invariant.0.legal (search rules)) c.finish.ensures.own),
     )
 
 pub returns-in-Ok-clause-others : goal.returns-in-Ok-clause-others

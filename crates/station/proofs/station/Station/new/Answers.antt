@@ -10,4 +10,5 @@ invariant_of-station g c = (
   c.requires.workers,
   c.requires.lent,
   c.requires.range,
+  c.requires.own,
 )

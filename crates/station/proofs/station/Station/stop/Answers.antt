@@ -15,6 +15,7 @@ invariant_of-self g c =
       ap (λ (l : Log). l.workers) c.stop.ensures ∙ c.self.invariant.1,
       c.self.invariant.2,
       (ap (λ (l : Log). l.low) c.stop.ensures ∙ c.self.invariant.3.0, ap (λ (l : Log). l.high) c.stop.ensures ∙ c.self.invariant.3.1),
+      c.self.invariant.4,
     )
 
 pub invariant_of-self-in-Memory : goal.invariant_of-self-in-Memory
@@ -27,6 +28,7 @@ invariant_of-self-in-Memory g c =
       ap (λ (l : Log). l.workers) c.stop.ensures ∙ c.self.invariant.1,
       c.self.invariant.2,
       (ap (λ (l : Log). l.low) c.stop.ensures ∙ c.self.invariant.3.0, ap (λ (l : Log). l.high) c.stop.ensures ∙ c.self.invariant.3.1),
+      c.self.invariant.4,
     )
 
 pub invariant_of-self-in-Changed : goal.invariant_of-self-in-Changed
@@ -39,6 +41,7 @@ invariant_of-self-in-Changed g c =
       ap (λ (l : Log). l.workers) c.stop.ensures ∙ c.self.invariant.1,
       c.self.invariant.2,
       (ap (λ (l : Log). l.low) c.stop.ensures ∙ c.self.invariant.3.0, ap (λ (l : Log). l.high) c.stop.ensures ∙ c.self.invariant.3.1),
+      c.self.invariant.4,
     )
 
 pub returns-in-Memory-clause-step : goal.returns-in-Memory-clause-step
