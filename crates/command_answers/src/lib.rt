@@ -12,11 +12,13 @@
 #![tactic(auto)]
 
 mod frame;
+mod house;
 mod laws;
 mod list;
 mod one_thread;
 mod plan;
 mod pull;
 
+pub use house::House;
 pub use laws::parts_law;
 pub use one_thread::{answer, answer_found, put_line, put_result};

@@ -12,6 +12,7 @@ ghost use Rattle.project_run.specs.Calls.{IsLeftAlone, Replies};
 ghost use Rattle.command_words.specs.Lines.{texts_of};
 
 use crate::frame::frame;
+use crate::house::House;
 use crate::list::list;
 use crate::plan::plan;
 use crate::pull::pull;
@@ -82,26 +83,30 @@ pub fn answer<S: Scans, D: Disk, K: Sink>(
     let Ok(found) = command_of(alloc, words) else {
         return put_line(alloc, &Outcome::NoMemory, out);
     };
-    answer_found(alloc, &OneThread, found, scan, disk, old, probes, tone, out)
+    let counter = OneThread;
+    let house = House {
+        counter: &counter,
+        probes,
+        tone,
+    };
+    answer_found(alloc, &house, found, scan, disk, old, out)
 }
 
 /// Does the command that was found in some words, on one thread but for counts and digests, and puts its output or its line.
 pub fn answer_found<S: Scans, D: Disk, K: Sink, C: Counter + Hasher>(
     alloc: Global,
-    counter: &C,
+    house: &House<C>,
     found: Option<Command>,
     scan: &mut S,
     disk: &mut D,
     old: &mut D,
-    probes: &[Probe],
-    tone: &Tone,
     out: &mut K,
 ) -> Outcome
     requires ready { C.ready }
     requires can_hash { C.can_hash }
     requires counts { IfSome found HasCounts }
     ensures answered { (words : List (List ℕ)) → IsFoundIn words found
-        → Answered (house_of (map (λ p. p.kind) probes.now) tone.now.table) words
+        → Answered (house_of (map (λ p. p.kind) house.now.probes.now) house.now.tone.now.table) words
         (S.state scan.old) (S.state scan.new)
         (folders_of D.tells (D.state disk.old) (D.state old.old)) (folders_of D.tells (D.state disk.new) (D.state old.new))
         (K.state out.old) (K.state out.new) result }
@@ -118,7 +123,7 @@ pub fn answer_found<S: Scans, D: Disk, K: Sink, C: Counter + Hasher>(
     let Some(command) = found else {
         return put_line(alloc, &Outcome::Usage, out);
     };
-    match carried_out(alloc, counter, &command, scan, disk, old, probes, tone) {
+    match carried_out(alloc, house, &command, scan, disk, old) {
         Ok(output) => put(&output, &Outcome::Done, out),
         Err(outcome) => put_line(alloc, &outcome, out),
     }
@@ -128,18 +133,16 @@ pub fn answer_found<S: Scans, D: Disk, K: Sink, C: Counter + Hasher>(
 /// command has.
 fn carried_out<S: Scans, D: Disk, C: Counter + Hasher>(
     alloc: Global,
-    counter: &C,
+    house: &House<C>,
     command: &Command,
     scan: &mut S,
     disk: &mut D,
     old: &mut D,
-    probes: &[Probe],
-    tone: &Tone,
 ) -> Result<Vec<u8>, Outcome>
     requires ready { C.ready }
     requires can_hash { C.can_hash }
     requires counts { HasCounts command.now }
-    ensures reply { Replies result (IsReplyOverFolders (house_of (map (λ p. p.kind) probes.now) tone.now.table) command.now
+    ensures reply { Replies result (IsReplyOverFolders (house_of (map (λ p. p.kind) house.now.probes.now) house.now.tone.now.table) command.now
         (S.state scan.old) (S.state scan.new)
         (folders_of D.tells (D.state disk.old) (D.state old.old)) (folders_of D.tells (D.state disk.new) (D.state old.new))) }
     ensures same { (S.state scan.new).loans ≡ (S.state scan.old).loans }
@@ -161,14 +164,14 @@ fn carried_out<S: Scans, D: Disk, C: Counter + Hasher>(
             ..
         } => run(alloc, project, *extent, *share, scan, disk),
         Command::Status(project) => status(alloc, project, scan, disk),
-        Command::Verify(project) => verify(alloc, project, scan, disk, counter),
+        Command::Verify(project) => verify(alloc, project, scan, disk, house.counter),
         Command::Sums(project) => sums(alloc, project, scan, disk),
-        Command::Qc(project) => qc(alloc, counter, project, scan, disk, probes),
-        Command::Sheet(project) => sheet(alloc, project, scan, disk, tone),
+        Command::Qc(project) => qc(alloc, house.counter, project, scan, disk, house.probes),
+        Command::Sheet(project) => sheet(alloc, project, scan, disk, house.tone),
         Command::Adopt {
             project,
             old: old_project,
-        } => adopt(alloc, project, old_project, scan, disk, old, counter),
+        } => adopt(alloc, project, old_project, scan, disk, old, house.counter),
         Command::Pull { project, margin } => pull(alloc, project, *margin, scan),
         Command::Demo(count) => demo(alloc, *count),
     }

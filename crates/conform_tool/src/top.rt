@@ -19,12 +19,12 @@ ghost use Rattle.project_run.specs.Calls.{IsLeftAlone};
 ghost use Rattle.scan_source.specs.World.{World};
 
 use cf_base::{PathText, Sink};
-use command_answers::{answer_found, parts_law, put_line, put_result};
+use command_answers::{House, answer_found, parts_law, put_line, put_result};
 use command_words::{Command, command_of};
 use frame_hash::Hasher;
 use frame_range::Extent;
 use outcome::Outcome;
-use project_crew::{CrewEnded, run_crewed};
+use project_crew::{CrewEnded, CrewSize, run_crewed};
 use project_job::job_laws;
 use reel_disk::Disk;
 use reel_qc::{Counter, Forked, Probe, Tone};
@@ -131,17 +131,15 @@ pub fn conform<S: Scans + Send, D: Disk + Send, K: Sink, R: Threads + Wait + Syn
     };
     match crew_of(&found) {
         Some(crew) => by_crew(rt, alloc, &crew, scans, disk, out),
-        None => by_one(
-            alloc,
-            &Forked::new(rt),
-            found,
-            scans,
-            disk,
-            old,
-            out,
-            probes,
-            tone,
-        ),
+        None => {
+            let counter = Forked::new(rt);
+            let house = House {
+                counter: &counter,
+                probes,
+                tone,
+            };
+            by_one(alloc, &house, found, scans, disk, old, out)
+        }
     }
 }
 
@@ -150,8 +148,7 @@ pub fn conform<S: Scans + Send, D: Disk + Send, K: Sink, R: Threads + Wait + Syn
 struct CrewRun {
     project: PathText,
     extent: Extent,
-    workers: u16,
-    share: u16,
+    size: CrewSize,
 }
 
 /// The run with several workers that a command is, None exactly where it is none.
@@ -173,8 +170,7 @@ fn crew_of(found: &Option<Command>) -> Option<CrewRun>
             Some(CrewRun {
                 project,
                 extent,
-                workers,
-                share,
+                size: CrewSize { workers, share },
             })
         }
         _ => None,
@@ -191,13 +187,13 @@ fn by_crew<S: Scans + Send, D: Disk + Send, K: Sink, R: Threads + Wait + Sync>(
     out: &mut K,
 ) -> Ended<S, D>
     requires extent { IsExtent crew.now.extent }
-    requires workers { HasCount crew.now.workers }
-    requires share { HasCount crew.now.share }
+    requires workers { HasCount crew.now.size.workers }
+    requires share { HasCount crew.now.size.share }
     requires scans { (1 ≤ vec_len scans) × (vec_len scans ≤ 16) }
     requires one_world { AllPairs (λ a b. (S.state a).world ≡ (S.state b).world) scans.items }
     requires no_fault { (D.state disk).faults ≡ 0 }
     requires first_moment { D.tells ≡ true → (D.state disk).history.now ≡ 0 }
-    ensures crew { AnsweredByCrew S.state crew.now.project crew.now.extent crew.now.workers crew.now.share
+    ensures crew { AnsweredByCrew S.state crew.now.project crew.now.extent crew.now.size.workers crew.now.size.share
         scans.items result.scans.items
         (folder_state D.tells (D.state disk)) (folder_state D.tells (D.state result.disk))
         (K.state out.old) (K.state out.new) result.outcome }
@@ -215,8 +211,7 @@ fn by_crew<S: Scans + Send, D: Disk + Send, K: Sink, R: Threads + Wait + Sync>(
         alloc,
         &crew.project,
         crew.extent,
-        crew.workers,
-        crew.share,
+        crew.size,
         scans,
         disk,
     );
@@ -231,14 +226,12 @@ fn by_crew<S: Scans + Send, D: Disk + Send, K: Sink, R: Threads + Wait + Sync>(
 /// A command with the first scan.
 fn by_one<S: Scans, D: Disk, K: Sink, C: Counter + Hasher>(
     alloc: Global,
-    counter: &C,
+    house: &House<C>,
     found: Option<Command>,
     mut scans: Vec<S>,
     mut disk: D,
     old: &mut D,
     out: &mut K,
-    probes: &[Probe],
-    tone: &Tone,
 ) -> Ended<S, D>
     requires ready { C.ready }
     requires can_hash { C.can_hash }
@@ -246,7 +239,7 @@ fn by_one<S: Scans, D: Disk, K: Sink, C: Counter + Hasher>(
     requires counts { IfSome found HasCounts }
     ensures answered { (words : List (List ℕ)) → IsFoundIn words found
         → (first last : S) → IsFirst scans.items first → IsFirst result.scans.items last
-        → Answered (house_of (map (λ p. p.kind) probes.now) tone.now.table) words
+        → Answered (house_of (map (λ p. p.kind) house.now.probes.now) house.now.tone.now.table) words
         (S.state first) (S.state last)
         (folders_of D.tells (D.state disk) (D.state old.old)) (folders_of D.tells (D.state result.disk) (D.state old.new))
         (K.state out.old) (K.state out.new) result.outcome }
@@ -262,17 +255,7 @@ fn by_one<S: Scans, D: Disk, K: Sink, C: Counter + Hasher>(
     ensures disk_same { (D.state result.disk).loans ≡ (D.state disk).loans }
     ensures old_same { (D.state old.new).loans ≡ (D.state old.old).loans }
 {
-    let outcome = answer_found(
-        alloc,
-        counter,
-        found,
-        &mut scans[0],
-        &mut disk,
-        old,
-        probes,
-        tone,
-        out,
-    );
+    let outcome = answer_found(alloc, house, found, &mut scans[0], &mut disk, old, out);
     Ended {
         outcome,
         scans,

@@ -4,14 +4,13 @@ ghost use Rattle.cf_base.specs.Count.{HasRisen};
 ghost use Rattle.conform_job.specs.Answers.{AreInfosOf};
 ghost use Rattle.project_crew.specs.Crew.{HasFailed, IsJobRunByCrew, IsCrewReply, told_by};
 ghost use Rattle.frame_range.specs.Parts.{IsExtent};
-ghost use Rattle.reel_writer.specs.Reel.{frames_of};
 ghost use Rattle.reel_disk.specs.State.{OnDisk};
+ghost use Rattle.run_alone.specs.Task.{IsTask};
 ghost use Rattle.project_run.specs.Calls.{IsLeftAlone, Replies};
 ghost use Rattle.project_run.specs.Run.{IsOfRun, IsShareCount};
 
 use cf_base::PathText;
-use conform_job::Job;
-use frame_range::{Extent, FrameRange, range_of};
+use frame_range::{Extent, range_of};
 use outcome::Outcome;
 use project_job::planned;
 use project_run::reply_of;
@@ -22,6 +21,13 @@ use std::alloc::Global;
 use std::marker::Brand;
 use std::sync::Wait;
 use std::thread::Threads;
+
+/// How many workers a crew has, from 1 to 16, and how many decoded source frames they share, from 1 to 16.
+#[derive(Clone, Copy, Debug, PartialEq, Eq)]
+pub struct CrewSize {
+    pub workers: u16,
+    pub share: u16,
+}
 
 /// What a run by a crew comes to, with what it was handed.
 pub struct CrewEnded<S, D> {
@@ -43,20 +49,19 @@ pub fn run_crewed<S: Scans + Send, D: Disk + Send, R: Threads + Wait + Sync>(
     alloc: Global,
     path: &PathText,
     extent: Extent,
-    workers: u16,
-    share: u16,
+    size: CrewSize,
     mut scans: Vec<S>,
     disk: D,
 ) -> CrewEnded<S, D>
     requires scans { (1 ≤ vec_len scans) × (vec_len scans ≤ 16) }
     requires one_world { AllPairs (λ a b. (S.state a).world ≡ (S.state b).world) scans.items }
     requires extent { IsExtent extent }
-    requires workers { (1 ≤ workers) × (workers ≤ 16) }
-    requires share { IsShareCount share }
+    requires workers { (1 ≤ size.workers) × (size.workers ≤ 16) }
+    requires share { IsShareCount size.share }
     requires no_fault { (D.state disk).faults ≡ 0 }
     requires first_moment { D.tells ≡ true → (D.state disk).history.now ≡ 0 }
     ensures reply { Replies result.result (OnDisk D.tells (D.state disk) (D.state result.disk)
-        (IsCrewReply S.state path.now extent workers share scans.items result.scans.items)) }
+        (IsCrewReply S.state path.now extent size.workers size.share scans.items result.scans.items)) }
     ensures kind { MatchResult result.result (λ text. Unit {0}) IsOfRun }
     ensures handed_back { vec_len result.scans ≡ vec_len scans }
 
@@ -76,8 +81,12 @@ pub fn run_crewed<S: Scans + Send, D: Disk + Send, R: Threads + Wait + Sync>(
             };
         }
     };
-    let range = range_of(extent, job.count());
-    let ended = run_job(rt, alloc, &job, extent, range, workers, share, scans, disk);
+    let task = Task {
+        job: &job,
+        range: range_of(extent, job.count()),
+        share: u32::from(size.share),
+    };
+    let ended = run_job(rt, alloc, &task, extent, size.workers, scans, disk);
     // By a call, as in a run on one thread.
     drop(job);
     ended
@@ -87,25 +96,22 @@ pub fn run_crewed<S: Scans + Send, D: Disk + Send, R: Threads + Wait + Sync>(
 fn run_job<S: Scans + Send, D: Disk + Send, R: Threads + Wait + Sync>(
     rt: &R,
     alloc: Global,
-    job: &Job,
+    task: &Task,
     extent: Extent,
-    range: FrameRange,
     workers: u16,
-    share: u16,
     scans: Vec<S>,
     disk: D,
 ) -> CrewEnded<S, D>
-    requires range { (range.low ≤ range.high) × (range.high ≤ frames_of job.now) }
+    requires task { IsTask task.now.job.now task.now.share task.now }
     requires scans { (1 ≤ vec_len scans) × (vec_len scans ≤ 16) }
     requires one_world { All (λ scan. (S.state scan).world ≡ told_by S.state scans.items) scans.items }
     requires workers { (1 ≤ workers) × (workers ≤ 16) }
-    requires share { IsShareCount share }
-    requires infos { AreInfosOf job.now.parts (told_by S.state scans.items) job.now.infos }
+    requires infos { AreInfosOf task.now.job.now.parts (told_by S.state scans.items) task.now.job.now.infos }
     requires no_fault { (D.state disk).faults ≡ 0 }
     requires first_moment { D.tells ≡ true → (D.state disk).history.now ≡ 0 }
     ensures ran { Replies result.result (OnDisk D.tells (D.state disk) (D.state result.disk)
-        (IsJobRunByCrew S.state job.now extent range (told_by S.state scans.items)
-        workers share scans.items result.scans.items)) }
+        (IsJobRunByCrew S.state task.now.job.now extent task.now.range (told_by S.state scans.items)
+        workers task.now.share scans.items result.scans.items)) }
     ensures kind { MatchResult result.result (λ text. Unit {0}) IsOfRun }
     ensures handed_back { vec_len result.scans ≡ vec_len scans }
 
@@ -114,12 +120,7 @@ fn run_job<S: Scans + Send, D: Disk + Send, R: Threads + Wait + Sync>(
     ensures disk_later { (D.state disk).faults ≤ (D.state result.disk).faults }
     ensures disk_same { (D.state result.disk).loans ≡ (D.state disk).loans }
 {
-    job.recall();
-    let task = Task {
-        job,
-        range,
-        share: u32::from(share),
-    };
+    task.job.recall();
     let Crew {
         end,
         report,
@@ -127,8 +128,8 @@ fn run_job<S: Scans + Send, D: Disk + Send, R: Threads + Wait + Sync>(
         log: _,
         scans,
         disk,
-    } = run_crew::<Brand, S, D, R>(rt, alloc, &task, scans, workers, disk);
-    let result = reply_of(alloc, job, extent, range, end, &report);
+    } = run_crew::<Brand, S, D, R>(rt, alloc, task, scans, workers, disk);
+    let result = reply_of(alloc, task.job, extent, task.range, end, &report);
     CrewEnded {
         result,
         scans,

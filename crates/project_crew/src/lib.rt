@@ -4,4 +4,4 @@
 
 mod crew;
 
-pub use crew::{CrewEnded, run_crewed};
+pub use crew::{CrewEnded, CrewSize, run_crewed};

@@ -13,7 +13,7 @@ use Rattle.conform_tool.proofs.top.conform.Goals as goal
 pub returns-in-Some-clause-crew : goal.returns-in-Some-clause-crew
 returns-in-Some-clause-crew g c path extent workers share spells many =
     crew_as g.S.Scans.state _ _ _ _ _ _ _ _ _ _ _ _ _ _ _
-    (run_found _ _ c.in-Some.crew.project path c.in-Some.crew.extent extent c.in-Some.crew.workers c.in-Some.crew.share workers share c.in-Ok.ensures.command c.in-Some.ensures.0 spells) c.by_crew.ensures.crew
+    (run_found _ _ c.in-Some.crew.project path c.in-Some.crew.extent extent c.in-Some.crew.size.workers c.in-Some.crew.size.share workers share c.in-Ok.ensures.command c.in-Some.ensures.0 spells) c.by_crew.ensures.crew
 
 pub returns-in-Some-clause-answered : goal.returns-in-Some-clause-answered
 returns-in-Some-clause-answered g c alone =
@@ -43,7 +43,7 @@ pub returns-in-Some-clause-headline : goal.returns-in-Some-clause-headline
 returns-in-Some-clause-headline g c world job extent runs =
     crew_answered_promise c.job_laws.ensures.job g.S.Scans.state runs.path extent runs.workers runs.share _ _ _ _ _ _ _
     (crew_as g.S.Scans.state _ _ _ _ _ _ _ _ _ _ _ _ _ _ _
-    (run_found _ _ c.in-Some.crew.project runs.path c.in-Some.crew.extent extent c.in-Some.crew.workers c.in-Some.crew.share runs.workers runs.share c.in-Ok.ensures.command c.in-Some.ensures.0 runs.spells) c.by_crew.ensures.crew)
+    (run_found _ _ c.in-Some.crew.project runs.path c.in-Some.crew.extent extent c.in-Some.crew.size.workers c.in-Some.crew.size.share runs.workers runs.share c.in-Ok.ensures.command c.in-Some.ensures.0 runs.spells) c.by_crew.ensures.crew)
     world job runs.scans_tell runs.disk_tells runs.comes
 
 pub returns-in-Some-clause-complete : goal.returns-in-Some-clause-complete
@@ -51,13 +51,13 @@ returns-in-Some-clause-complete g c command world spells is accepted =
     let disk = folder_state g.D.Disk.tells (g.D.Disk.state c.args.disk) in
     let folders = folders_of g.D.Disk.tells (g.D.Disk.state c.args.disk) (g.D.Disk.state c.args.old.now) in
     let command_is = found_command _ _ command _ _ _ _ c.in-Ok.ensures.command c.in-Some.ensures.0 spells in
-    let complete = crew_answered_complete c.job_laws.ensures.job g.S.Scans.state c.in-Some.crew.project c.in-Some.crew.extent c.in-Some.crew.workers c.in-Some.crew.share _ _ disk _ world is
+    let complete = crew_answered_complete c.job_laws.ensures.job g.S.Scans.state c.in-Some.crew.project c.in-Some.crew.extent c.in-Some.crew.size.workers c.in-Some.crew.size.share _ _ disk _ world is
     (subst (λ k. IsAccepted k world folders) command_is accepted) _ _ _ c.by_crew.ensures.crew in
     λ scans_steady disk_steady old_steady sink_steady. subst (λ k. IsComplete k c.by_crew.result.outcome) (sym command_is) (complete scans_steady disk_steady sink_steady)
 
 pub returns-in-Some-clause-unfailed : goal.returns-in-Some-clause-unfailed
 returns-in-Some-clause-unfailed g c command spells =
-    let unfailed = crew_unfailed g.S.Scans.state c.in-Some.crew.project c.in-Some.crew.extent c.in-Some.crew.workers c.in-Some.crew.share _ _ _ _ _ _ _ c.by_crew.ensures.crew
+    let unfailed = crew_unfailed g.S.Scans.state c.in-Some.crew.project c.in-Some.crew.extent c.in-Some.crew.size.workers c.in-Some.crew.size.share _ _ _ _ _ _ _ c.by_crew.ensures.crew
     command (found_command _ _ command _ _ _ _ c.in-Ok.ensures.command c.in-Some.ensures.0 spells) in
     λ scans_steady disk_steady old_steady sink_steady. unfailed scans_steady disk_steady sink_steady
 
@@ -121,7 +121,7 @@ returns-in_default-clause-adopted g c world job adopts =
 -- a run with several workers makes calls on the folder
 pub returns-in-Some-clause-no_call : goal.returns-in-Some-clause-no_call
 returns-in-Some-clause-no_call g c none =
-    absurd (none (commands.Run c.in-Some.crew.project c.in-Some.crew.extent c.in-Some.crew.workers c.in-Some.crew.share) (found_run _ _ _ _ _ _ c.in-Ok.ensures.command c.in-Some.ensures.0) tt)
+    absurd (none (commands.Run c.in-Some.crew.project c.in-Some.crew.extent c.in-Some.crew.size.workers c.in-Some.crew.size.share) (found_run _ _ _ _ _ _ c.in-Ok.ensures.command c.in-Some.ensures.0) tt)
 
 pub returns-in-None-clause-no_call : goal.returns-in-None-clause-no_call
 returns-in-None-clause-no_call g c = c.by_one.ensures.no_call _ c.in-Ok.ensures.command

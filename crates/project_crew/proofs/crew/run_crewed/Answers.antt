@@ -1,7 +1,10 @@
 -- The project comes to its job, which a crew runs in the folder.
-use Rattle.std.proofs.Common.{◌≡◌, ◌∙◌, ap, ◌<◌, get_or, length, rules}
+use Rattle.std.proofs.Common.{◌≡◌, ◌∙◌, ap, ◌<◌, ℕ, get_or, length, rules, set, subst}
 use Rattle.project_crew.proofs.Crews.{all_tell, crewed, error_as, failed_before, failed_first, first_loaded, still_tell, uncrewed}
 use Rattle.frame_range.specs.Parts.{range_of}
+use Rattle.reel_disk.specs.State.{OnDisk}
+use Rattle.project_crew.specs.Crew.{IsJobRunByCrew, told_by}
+use Rattle.project_run.specs.Calls.{Replies}
 use Rattle.project_run.proofs.Runs.{match_each}
 use Rattle.project_run.proofs.Leaving.{end_unrefused, left_by}
 use Rattle.project_crew.proofs.crew.run_crewed.Goals as goal
@@ -11,7 +14,7 @@ returns-in-Err-clause-reply g c =
     let some : 0 < length c.args.scans.items = search rules in
     let first : get_or c.args.scans.items 0 c.index_mut.result.now ≡ c.index_mut.result.now = search rules in
     let job = c.in-Err.ensures in
-    uncrewed g.S.Scans.state c.planned.new.scan c.args.path.now c.args.workers c.args.share c.args.scans.items c.index_mut.result.now _ _ _ some first
+    uncrewed g.S.Scans.state c.planned.new.scan c.args.path.now c.args.size.workers c.args.size.share c.args.scans.items c.index_mut.result.now _ _ _ some first
     job.told job.kind job.loads job.refused (λ other. job.scan.counts.steady (λ is. other cc)) job.scan.counts.cause.later job.scan.told job.scan.lent
 
 pub returns-in-Err-clause-failed : goal.returns-in-Err-clause-failed
@@ -33,9 +36,12 @@ returns-clause-reply g c =
     let first : get_or c.args.scans.items 0 c.index_mut.result.now ≡ c.index_mut.result.now = search rules in
     let job = c.in-Ok.ensures in
     let texts = first_loaded g.S.Scans.state c.planned.new.scan _ c.args.scans.items c.index_mut.result.now some first job.loaded (job.scan.counts.steady (λ is. cc)) job.scan.told job.scan.lent in
-    let all = c.range_of-range.ensures.range ∙ ap (range_of c.args.extent) c.count.ensures.count in
-    let reply = crewed g.S.Scans.state c.planned.new.scan c.in-Ok.job c.args.extent c.range_of-range.result c.args.path.now c.args.workers c.args.share c.args.scans.items _ c.index_mut.result.now _ _ in
-    match_each _ _ _ _ _ c.run_job-ended.ensures.ran (λ text ran. reply _ _ all some first job.told job.scan.told texts ran) (λ outcome ran. reply _ _ all some first job.told job.scan.told texts ran)
+    let all = c.range_of.ensures.range ∙ ap (range_of c.args.extent) c.count.ensures.count in
+    let reply = crewed g.S.Scans.state c.planned.new.scan c.in-Ok.job c.args.extent c.range_of.result c.args.path.now c.args.size.workers c.args.size.share c.args.scans.items _ c.index_mut.result.now _ _ in
+    let scans = set c.args.scans.items 0 c.planned.new.scan in
+    let ran = subst (λ (n : ℕ). Replies c.run_job-ended.result.result (OnDisk g.D.Disk.tells (g.D.Disk.state c.args.disk) (g.D.Disk.state c.run_job-ended.result.disk)
+    (IsJobRunByCrew g.S.Scans.state c.in-Ok.job c.args.extent c.range_of.result (told_by g.S.Scans.state scans) c.args.size.workers n scans c.run_job-ended.result.scans.items))) c.from.ensures c.run_job-ended.ensures.ran in
+    match_each _ _ _ _ _ ran (λ text ran. reply _ _ all some first job.told job.scan.told texts ran) (λ outcome ran. reply _ _ all some first job.told job.scan.told texts ran)
 
 pub returns-clause-failed : goal.returns-clause-failed
 returns-clause-failed g c is =

@@ -6,7 +6,7 @@ use Rattle.project_run.proofs.Runs.{match_each}
 use Rattle.project_crew.proofs.crew.run_job.Goals as goal
 
 pub run_crew-end-requires-clause-task : goal.run_crew-end-requires-clause-task
-run_crew-end-requires-clause-task g c κs within = record { job = refl; ordered = c.requires.range.0; within = c.requires.range.1; shared = refl; least = search rules; most = search rules }
+run_crew-end-requires-clause-task g c κs within = c.requires.task
 
 pub run_crew-end-requires-clause-infos : goal.run_crew-end-requires-clause-infos
 run_crew-end-requires-clause-infos g c κs within = c.requires.infos
@@ -18,7 +18,7 @@ pub returns-clause-ran : goal.returns-clause-ran
 returns-clause-ran g c =
     let crew = c.run_crew-end.ensures in
     let all : vec_len c.args.scans ≡ length c.args.scans.items = search rules in
-    let run = crew_job_run g.S.Scans.state _ _ c.args.extent c.args.range _ _ _ _ _ _ _ _ _ _ _ _ all c.from.ensures crew.frames crew.ran crew.run crew.acked crew.whole crew.sound_has crew.spares crew.writes crew.own crew.scans crew.changed in
+    let run = crew_job_run g.S.Scans.state _ _ c.args.extent c.args.task.now.range _ _ _ _ _ _ _ _ _ _ _ _ all refl crew.frames crew.ran crew.run crew.acked crew.whole crew.sound_has crew.spares crew.writes crew.own crew.scans crew.changed in
     match_each _ _ _ _ _ c.reply_of-result.ensures.reply (λ text reply. run _ _ reply) (λ outcome reply. run _ _ reply)
 
 pub returns-clause-failed : goal.returns-clause-failed
