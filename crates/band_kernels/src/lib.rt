@@ -11,4 +11,4 @@ mod wipe;
 pub use blend::blend_band;
 pub use look::{look_band, seen_band};
 pub use plain::{copy_band, fill_band};
-pub use wipe::wipe_band;
+pub use wipe::{WipeFrame, wipe_band};

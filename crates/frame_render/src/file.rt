@@ -9,7 +9,7 @@ ghost use Rattle.scan_source.specs.World.{file_at};
 ghost use Rattle.frame_render.specs.Frame.{AreSidesOf, IsRenderedOf, file_by, frame_size, out_head, timecode_of, words_kept};
 ghost use Rattle.frame_render.specs.inside.Frame.{HasWords, IsDecoded};
 
-use crate::picture::{render_bands, render_parts};
+use crate::picture::Picture;
 use crate::{Decoded, FrameBuf, Rendered};
 use cf_base::FrameNo;
 use cf_timecode::{bcd, label_of};
@@ -114,7 +114,14 @@ fn render_file(job: &Job, i: u32, old: Option<&[u32]>, new: Option<&[u32]>, out:
     ensures { out.new ≡ file_by job.now i (option_copied old.entry) (option_copied new.entry) }
 {
     put_header(job, i, out);
-    render_bands(job, job.shot(i), old, new, &mut out[2048..]);
+    let shot = job.shot(i);
+    let picture = Picture {
+        job,
+        shot,
+        old,
+        new,
+    };
+    picture.render_bands(&mut out[2048..]);
 }
 
 /// The same, side by side.
@@ -134,7 +141,14 @@ fn render_file_forked<R: Threads + Sync>(
     ensures { out.new ≡ file_by job.now i (option_copied old.entry) (option_copied new.entry) }
 {
     put_header(job, i, out);
-    render_parts(rt, job, job.shot(i), old, new, threads, &mut out[2048..]);
+    let shot = job.shot(i);
+    let picture = Picture {
+        job,
+        shot,
+        old,
+        new,
+    };
+    picture.render_parts(rt, threads, &mut out[2048..]);
 }
 
 /// Writes the header of record frame `i`.

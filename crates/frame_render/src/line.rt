@@ -3,13 +3,15 @@
 ghost use Rattle.std.specs.Prelude.{◌≡◌, ◌<◌, ◌≤◌, length};
 ghost use Rattle.std.specs.Option.{option_copied};
 ghost use Rattle.cf_base.specs.Rgb.{codes_of};
-ghost use Rattle.record_timeline.specs.Shots.{IsShotIn, Lasts};
+ghost use Rattle.record_timeline.specs.Shots.{Lasts};
 ghost use Rattle.conform_job.specs.Job.{ArePlanned};
-ghost use Rattle.frame_render.specs.Frame.{black_of, line_of, line_words, seen_word, side_colour};
+ghost use Rattle.frame_render.specs.Frame.{black_of, line_of, seen_word, side_colour};
 ghost use Rattle.frame_render.specs.inside.Frame.{HasWords};
 ghost use Rattle.frame_render.specs.inside.Lines.{HasColours, joined_colour};
+ghost use Rattle.frame_render.specs.inside.Pictures.{IsPicture, words_of_line};
 
-use band_kernels::{blend_band, copy_band, fill_band, look_band, seen_band, wipe_band};
+use crate::picture::Picture;
+use band_kernels::{WipeFrame, blend_band, copy_band, fill_band, look_band, seen_band, wipe_band};
 use cf_base::{Rgb, Transition};
 use conform_job::Job;
 use dpx_pack::word_of;
@@ -25,39 +27,30 @@ struct TransitionFrame {
     ghost day: { d ≤ 2592000 },
 }
 
-/// The words of line `y` of a shot's picture; `black` is a line of the project's black.
-pub fn fill_line(
-    job: &Job,
-    shot: Shot,
-    old: Option<&[u32]>,
-    new: Option<&[u32]>,
-    y: u32,
-    black: &[u32],
-    out: &mut [u32],
-)
-    requires planned { ArePlanned job.now.parts }
-    requires fits { IsShotIn job.now.parts.timeline.events shot }
-    requires old { HasWords job.now (option_copied old) }
-    requires new { HasWords job.now (option_copied new) }
-    requires line { y < job.now.parts.project.height }
-    requires black { HasColours job.now (λ x. black_of job.now) black.now }
-    requires room { length out.old ≡ job.now.parts.project.width }
-    ensures { out.new
-        ≡ line_words job.now shot (option_copied old.entry) (option_copied new.entry) y }
-{
-    match shot {
-        Shot::Gap => fill_black(job, out),
-        Shot::One { .. } => fill_side(job, new, y, out),
-        Shot::Two {
-            transition,
-            k,
-            d,
-            ..
-        } => {
-            let frame = TransitionFrame { transition, k, d };
-            let old = side_line(job, old, y, black);
-            let new = side_line(job, new, y, black);
-            fill_transition(job, frame, old, new, y, out);
+impl Picture<'_> {
+    /// The words of line `y`; `black` is a line of the project's black.
+    pub(crate) fn fill_line(&self, y: u32, black: &[u32], out: &mut [u32])
+        requires picture { IsPicture self.now }
+        requires line { y < self.now.job.now.parts.project.height }
+        requires black { HasColours self.now.job.now (λ x. black_of self.now.job.now) black.now }
+        requires room { length out.old ≡ self.now.job.now.parts.project.width }
+        ensures { out.new ≡ words_of_line self.now y }
+    {
+        let job = self.job;
+        match self.shot {
+            Shot::Gap => fill_black(job, out),
+            Shot::One { .. } => fill_side(job, self.new, y, out),
+            Shot::Two {
+                transition,
+                k,
+                d,
+                ..
+            } => {
+                let frame = TransitionFrame { transition, k, d };
+                let old = side_line(job, self.old, y, black);
+                let new = side_line(job, self.new, y, black);
+                fill_transition(job, frame, old, new, y, out);
+            }
         }
     }
 }
@@ -121,7 +114,14 @@ fn join_sides(job: &Job, frame: TransitionFrame, old: &[u32], new: &[u32], y: u3
         Transition::Cut => copy_band(new, out),
         Transition::Dissolve { .. } => blend_band(old, new, k, d, out),
         Transition::Wipe { code, .. } => {
-            wipe_band(old, new, code, y, job.width(), job.height(), k, d, out);
+            let wipe = WipeFrame {
+                code,
+                width: job.width(),
+                height: job.height(),
+                k,
+                d,
+            };
+            wipe_band(wipe, y, old, new, out);
         }
     }
 }

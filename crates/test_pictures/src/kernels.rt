@@ -2,7 +2,7 @@
 ghost use Rattle.std.specs.Prelude.{◌<◌, ◌≤◌, IsTrue};
 ghost use Rattle.cf_base.specs.Events.{is_known_wipe};
 
-use band_kernels::{blend_band, copy_band, fill_band, look_band, wipe_band};
+use band_kernels::{WipeFrame, blend_band, copy_band, fill_band, look_band, wipe_band};
 use cf_base::Rgb;
 use cube_reader::read_cube;
 use dpx_header::FrameInfo;
@@ -78,7 +78,14 @@ fn is_wiped(code: u16, y: u32, w: u32, h: u32, n: usize) -> bool
         return false;
     }
     let mut out = [7; MOST];
-    wipe_band(&a[..n], &b[..n], code, y, w, h, 3, 8, &mut out[..n]);
+    let wipe = WipeFrame {
+        code,
+        width: w,
+        height: h,
+        k: 3,
+        d: 8,
+    };
+    wipe_band(wipe, y, &a[..n], &b[..n], &mut out[..n]);
     for i in 0..n {
         let (x, line) = ((i % width) as u32, y + (i / width) as u32);
         if x >= w || line >= h {

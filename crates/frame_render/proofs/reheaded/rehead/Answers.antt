@@ -1,5 +1,5 @@
 -- The header is the frame's own, and the pixels are those that were there.
-use Rattle.std.proofs.Common.{◌≡◌, ◌*◌, ◌++◌, length, length-drop, take, drop, refl, sym, ap, ◌∙◌, subst, arith}
+use Rattle.std.proofs.Common.{◌≡◌, ◌*◌, ◌++◌, length, length-drop, take, drop, sym, ap, ◌∙◌, arith}
 use Rattle.std.proofs.lemmas.List.{take-append-drop}
 use Rattle.dpx_header.specs.Writing.{header_of}
 use Rattle.conform_job.specs.Job.{JobData}

@@ -6,7 +6,7 @@ use Rattle.std.specs.Option.{option_copied}
 use Rattle.frame_render.specs.inside.Lines.{lines_from}
 use Rattle.frame_render.proofs.Bands.{band_order, band_within, first_band, last_band, by_lines, band_fits}
 use Rattle.frame_render.proofs.Lines.{no_lines, band_written, all_lines, picture_is}
-use Rattle.frame_render.proofs.picture.render_bands.Goals as goal
+use Rattle.frame_render.proofs.picture.Picture.render_bands.Goals as goal
 
 ends_behind : (first end n h b : ℕ) → first ≡ n * h / b → end ≡ (n + 1) * h / b → 0 < b → first ≤ end
 ends_behind first end n h b is_first is_end some = rw (is_first, is_end) (band_order n h b some)
@@ -53,7 +53,7 @@ render_lines-requires-clause-room c =
 pub loop-n-init : goal.loop-n-init
 loop-n-init c =
     let none : 0 * c.height-height.result / c.bands-bands.result ≡ 0 = first_band c.height-height.result c.bands-bands.result in
-    rw none (no_lines c.args.job.now c.args.shot (option_copied c.args.old) (option_copied c.args.new) 0 (4 * c.width.result) c.args.out.now)
+    rw none (no_lines c.args.self.now.job.now c.args.self.now.shot (option_copied c.args.self.now.old) (option_copied c.args.self.now.new) 0 (4 * c.width.result) c.args.out.now)
 
 pub loop-n-preserved : goal.loop-n-preserved
 loop-n-preserved c =
@@ -67,7 +67,7 @@ loop-n-preserved c =
     let long : length c.loop-n.out ≡ 4 * (w * h) = search rules in
     let made : length c.render_lines.new.out ≡ (c.first_line-end.result - c.first_line-first.result) * (4 * w)
     = c.render_lines.auto.out ∙ band_long _ _ n w h b c.loop-n.out is_first is_end some c.loop-n-test.true long in
-    band_written c.args.job.now c.args.shot (option_copied c.args.old) (option_copied c.args.new) c.first_line-first.result c.first_line-end.result (n * h / b) ((n + 1) * h / b) (4 * w) _
+    band_written c.args.self.now.job.now c.args.self.now.shot (option_copied c.args.self.now.old) (option_copied c.args.self.now.new) c.first_line-first.result c.first_line-end.result (n * h / b) ((n + 1) * h / b) (4 * w) _
     c.loop-n.out c.render_lines.new.out is_first is_end (band_order n h b some) c.loop-n.invariant c.render_lines.ensures made
     (band_fits ((n + 1) * h / b) w h (length c.loop-n.out) (band_within (n + 1) h b (omega arith)) long)
 
@@ -80,6 +80,6 @@ returns c =
     let end : c.loop-n.n ≡ b = omega (arith, c.loop-n-test.false, c.loop-n.auto.n-end) in
     let last : c.loop-n.n * h / b ≡ h = rw end (last_band h b some) in
     let long : length c.loop-n.out ≡ 4 * (w * h) = search rules in
-    all_lines c.args.job.now c.args.shot (option_copied c.args.old) (option_copied c.args.new) 0 (c.loop-n.n * h / b) h (4 * w) c.loop-n.out c.loop-n.invariant last (omega (arith, long))
-    ∙ ap (lines_from c.args.job.now c.args.shot (option_copied c.args.old) (option_copied c.args.new) 0) c.height-height.ensures
-    ∙ sym (picture_is c.args.job.now c.args.shot (option_copied c.args.old) (option_copied c.args.new))
+    all_lines c.args.self.now.job.now c.args.self.now.shot (option_copied c.args.self.now.old) (option_copied c.args.self.now.new) 0 (c.loop-n.n * h / b) h (4 * w) c.loop-n.out c.loop-n.invariant last (omega (arith, long))
+    ∙ ap (lines_from c.args.self.now.job.now c.args.self.now.shot (option_copied c.args.self.now.old) (option_copied c.args.self.now.new) 0) c.height-height.ensures
+    ∙ sym (picture_is c.args.self.now.job.now c.args.self.now.shot (option_copied c.args.self.now.old) (option_copied c.args.self.now.new))
