@@ -16,7 +16,8 @@ use Rattle.resume_ledger.specs.Body.{layout_of}
 use Rattle.resume_ledger.specs.Ledger.{IsLedgerFile, IsWrittenLedgerFile, IsInForce, HasOwn, Acks, IsFit}
 use Rattle.resume_ledger.specs.Sound.{Reel, IsFrameFile, IsSoundAt, IsSoundAndFit, IsNamed, HasItsFiles}
 use Rattle.resume_ledger.specs.Steps.{IsPut, IsFirmly}
-use Rattle.resume_ledger.specs.inside.Steps.{IsOlder, IsFirstBody, IsOpeningPart}
+use Rattle.resume_ledger.specs.Safe.{IsSafeOpening}
+use Rattle.resume_ledger.specs.inside.Steps.{IsOlder, IsFirstBody}
 use Rattle.resume_ledger.proofs.Bodies.{some_same}
 use Rattle.resume_ledger.proofs.Versions.{acks_gate, fit_by, frame_apart}
 use Rattle.resume_ledger.proofs.Reading.{spares_writes}
@@ -147,7 +148,7 @@ module _ (digest : List ℕ) (count : ℕ) (name : ℕ → FileId) (size : ℕ) 
         body_is = λ one. firm_image before now Body (older.firm_body one) image;
       }
 
-  way_part : (old new : History) → moment_of old ≡ before → IsWay old new → IsOpeningPart digest count name size old new
+  way_part : (old new : History) → moment_of old ≡ before → IsWay old new → IsSafeOpening digest count name size old new
   way_part old new is way = record {
     run = record {
       extends = way.extends;
@@ -190,7 +191,7 @@ module _ (digest : List ℕ) (count : ℕ) (name : ℕ → FileId) (size : ℕ) 
       spares = spares_wider old mid (λ q. q ≡ Body2) IsWrittenLedgerFile (λ q is. inr is) spares;
     }
 
-    pub first_part : IsOpeningPart digest count name size old mid
+    pub first_part : IsSafeOpening digest count name size old mid
     first_part = way_part old mid is first_way
 
     module _ (wrote : IsFirmly old mid Body2 (Some body)) (new : History) (sealing : IsPut mid new (Whole Seal2)) (spares2 : Spares mid new (λ q. q ≡ Seal2)) where
@@ -226,5 +227,5 @@ module _ (digest : List ℕ) (count : ℕ) (name : ℕ → FileId) (size : ℕ) 
             spares = spares_along old mid new IsWrittenLedgerFile first_way.extends extends2 first_way.spares (spares_wider mid new (λ q. q ≡ Seal2) IsWrittenLedgerFile (λ q is. inl is) spares2);
           }
 
-      pub second_part : IsOpeningPart digest count name size old new
+      pub second_part : IsSafeOpening digest count name size old new
       second_part = way_part old new is second_way

@@ -8,11 +8,12 @@ use Rattle.cf_base.specs.declared.file.FileId.TheVariants.{Seal2, Body2}
 use Rattle.reel_disk.specs.declared.disk.Place.{Place}
 use Rattle.reel_disk.specs.declared.disk.Place.TheVariants.{Range}
 use Rattle.reel_disk.specs.Disk.{Files, Moment, IsImage, IsFirm, loosened, History, moment_of, view_of, loose_of, with_file}
-use Rattle.reel_disk.specs.Runs.{Surely}
+use Rattle.reel_disk.specs.Runs.{Spares, Surely}
 use Rattle.reel_disk.proofs.Images.{firm_image, firm_besides, range_image, restored, view_is_image, with_file_here, with_file_other}
 use Rattle.resume_ledger.specs.declared.layout.Version.TheVariants.{Two}
 use Rattle.resume_ledger.specs.Body.{layout_of, IsOwn, record_of}
 use Rattle.resume_ledger.specs.Ledger.{LedgerState, IsInForce, HasOwn, Acks, Agrees}
+use Rattle.resume_ledger.specs.Safe.{IsSafeAck, IsSafeNote}
 use Rattle.resume_ledger.specs.Sound.{Reel, IsReel, IsSoundAt, IsSoundAndFit, IsStored, IsRun, KeepsAcks, AddsNothing, AddsAtMost}
 use Rattle.resume_ledger.specs.Steps.{IsPut}
 use Rattle.resume_ledger.proofs.Bodies.{some_same, own_along}
@@ -176,14 +177,17 @@ module _ (old new : History) (ledger : LedgerState) (agrees : Agrees (moment_of 
         let t = torn (moment_of old) ledger agrees i within (65 + 33 * i) len low high files image in
         same_acks (moment_of old) ledger agrees i within (65 + 33 * i) len low high files t k (λ lt. t.same (64 + 33 * k) (omega (arith, lt, agrees.has.own.size)) (λ inside. omega (arith, inside.0, inside.1, size)))
 
-    pub note_keeps : KeepsAcks ledger.digest (length ledger.gates) old new
+    note_keeps : KeepsAcks ledger.digest (length ledger.gates) old new
     note_keeps = part_keeps (65 + 33 * i) len low high put
 
-    pub note_others : AddsNothing ledger.digest (length ledger.gates) old new
+    note_others : AddsNothing ledger.digest (length ledger.gates) old new
     note_others k = put_leaves old new (Range Body2 (65 + 33 * i) len) put (λ files. Acks ledger.digest (length ledger.gates) k files ↔ Acks ledger.digest (length ledger.gates) k (view_of old)) (λ files image. note_acks files image k)
 
-    pub note_run : (reel : Reel) → IsReel (length ledger.gates) reel → IsRun ledger.digest (length ledger.gates) reel old new
+    note_run : (reel : Reel) → IsReel (length ledger.gates) reel → IsRun ledger.digest (length ledger.gates) reel old new
     note_run reel is_reel = part_run (65 + 33 * i) len low high put reel is_reel (λ files image acks. absurd (not_yet (moment_of old) ledger agrees i within (65 + 33 * i) len low high fresh ((note_acks files image i).0 acks)))
+
+    pub note_safe : Spares old new (λ q. q ≡ Body2) → IsSafeNote ledger old new
+    note_safe spares = record { past = put_extends old new (Range Body2 start len) had; run = note_run; none_lost = note_keeps; others = note_others; spares = spares }
 
   -- of the gate
   module _ (start : ℕ) (at : start ≡ 64 + 33 * i) (had : IsPut old new (Range Body2 start 1)) where
@@ -196,13 +200,13 @@ module _ (old new : History) (ledger : LedgerState) (agrees : Agrees (moment_of 
     to : 64 + 33 * i + 1 ≤ 97 + 33 * i
     to = omega arith
 
-    pub ack_keeps : KeepsAcks ledger.digest (length ledger.gates) old new
+    ack_keeps : KeepsAcks ledger.digest (length ledger.gates) old new
     ack_keeps = part_keeps (64 + 33 * i) 1 from to opens
 
-    pub ack_others : AddsAtMost i ledger.digest (length ledger.gates) old new
+    ack_others : AddsAtMost i ledger.digest (length ledger.gates) old new
     ack_others = part_others (64 + 33 * i) 1 from to opens
 
-    pub ack_run : (reel : Reel) → IsReel (length ledger.gates) reel → IsStored (moment_of old) reel i → IsRun ledger.digest (length ledger.gates) reel old new
+    ack_run : (reel : Reel) → IsReel (length ledger.gates) reel → IsStored (moment_of old) reel i → IsRun ledger.digest (length ledger.gates) reel old new
     ack_run reel is_reel stored = part_run (64 + 33 * i) 1 from to opens reel is_reel mine
       where
         apart : (reel i).0 ≢ Body2
@@ -218,3 +222,6 @@ module _ (old new : History) (ledger : LedgerState) (agrees : Agrees (moment_of 
               file = firm_image (loosened (moment_of old) (Range Body2 (64 + 33 * i) 1)) files (reel i).0 firm image ∙ stored.there;
               hash = λ _. record { body = t.left; there = t.there; is = kept ∙ sym (ap (λ (l : List ℕ). record_of l i) same) ∙ stored.noted.is };
             }
+
+    pub ack_safe : Spares old new (λ q. q ≡ Body2) → IsSafeAck i ledger old new
+    ack_safe spares = record { past = put_extends old new (Range Body2 start 1) had; run = ack_run; none_lost = ack_keeps; others = ack_others; spares = spares }

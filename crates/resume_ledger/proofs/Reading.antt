@@ -21,7 +21,8 @@ use Rattle.resume_ledger.specs.Body.{layout_of}
 use Rattle.resume_ledger.specs.Ledger.{IsLedgerFile, IsWrittenLedgerFile, Acks}
 use Rattle.resume_ledger.specs.Sound.{WritesOnly, IsSoundAndFit, Possibly, HasItsFiles}
 use Rattle.resume_ledger.specs.Attach.{IsUnwritten}
-use Rattle.resume_ledger.specs.inside.Steps.{IsReading, IsOpeningPart}
+use Rattle.resume_ledger.specs.Safe.{IsSafeOpening}
+use Rattle.resume_ledger.specs.inside.Steps.{IsReading}
 
 -- no call at all
 pub narrows_itself : (h : History) → Narrows h h
@@ -169,7 +170,7 @@ module _ (version : Version) (id : FileId) (old mid : History) (did : Did) (told
 
 -- a part of an opening
 module _ (digest : List ℕ) (count : ℕ) (name : ℕ → FileId) (size : ℕ) where
-  pub reading_part : (old new : History) → IsReading old new → IsOpeningPart digest count name size old new
+  pub reading_part : (old new : History) → IsReading old new → IsSafeOpening digest count name size old new
   reading_part old new reading = record {
     run = record {
       extends = reading.narrows.extends;
@@ -182,7 +183,7 @@ module _ (digest : List ℕ) (count : ℕ) (name : ℕ → FileId) (size : ℕ) 
   }
 
   -- behind calls that only sync and read
-  pub part_along : (old mid new : History) → IsReading old mid → view_of mid ≡ view_of old → IsOpeningPart digest count name size mid new → IsOpeningPart digest count name size old new
+  pub part_along : (old mid new : History) → IsReading old mid → view_of mid ≡ view_of old → IsSafeOpening digest count name size mid new → IsSafeOpening digest count name size old new
   part_along old mid new reading view part =
       let first = reading_part old mid reading in
       record {

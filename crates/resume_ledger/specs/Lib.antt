@@ -7,6 +7,7 @@ pub mod Ledger
 pub mod Look
 pub mod OpeningCalls
 pub mod Peek
+pub mod Safe
 pub mod Sound
 pub mod Steps
 pub mod inside

@@ -1,9 +1,9 @@
 //! Opening a reel's folder for a job.
-ghost use Rattle.std.specs.Prelude.{◌≡◌, ◌≢◌, ◌<◌, ◌≤◌, ℕ, true, length, IsErrOf, Err, None, OnOk};
+ghost use Rattle.std.specs.Prelude.{◌≡◌, ◌<◌, ◌≤◌, ℕ, true, length, IsErrOf, Err, None, OnOk};
 ghost use Rattle.reel_disk.specs.State.{LeavesDisk};
-ghost use Rattle.reel_disk.specs.Runs.{Spares};
-ghost use Rattle.resume_ledger.specs.Ledger.{IsLedgerFile, IsWrittenLedgerFile, IsInForce};
-ghost use Rattle.resume_ledger.specs.Sound.{IsFrameFile, file_at, IsOpeningRunOf, AddsNone, OnlyReadsSecond, WritesOnly};
+ghost use Rattle.resume_ledger.specs.Ledger.{IsInForce};
+ghost use Rattle.resume_ledger.specs.Safe.{IsSafeOpeningOf};
+ghost use Rattle.resume_ledger.specs.Sound.{IsFrameFile, file_at, OnlyReadsSecond};
 ghost use Rattle.resume_ledger.specs.Attach.{HasAttachedTo, IsAnswerTo, OpeningMayWrite};
 ghost use Rattle.reel_disk.specs.Call.{OnlyWrites};
 ghost use Rattle.reel_disk.specs.Disk.{view_of};
@@ -60,15 +60,10 @@ impl Ledger {
         ensures answer { D.tells ≡ true → HasAttachedTo digest files.now size (D.state disk.old).history (D.state disk.new).history result }
 
         // A crash at any moment of the call leaves a folder whose acknowledged frames are the reel's. No acknowledgement is
-        // lost, where each frame that version 1 acknowledges has a file of a frame's length; and none is made.
-        ensures run { D.tells ≡ true → IsOpeningRunOf digest files.now size (D.state disk.old).history (D.state disk.new).history }
-        ensures adds_none { D.tells ≡ true → AddsNone digest (length files.now) (D.state disk.old).history (D.state disk.new).history }
-
-        // In a folder of version 2 nothing is written, whatever the answer is, in any other no file but those of version 2,
-        // and in no folder is a file changed that isn't the ledger's.
+        // lost, where each frame that version 1 acknowledges has a file of a frame's length; and none is made. No file but
+        // those of version 2 is written, and in a folder of version 2 none, whatever the answer is.
+        ensures safe { D.tells ≡ true → IsSafeOpeningOf digest files.now size (D.state disk.old).history (D.state disk.new).history }
         ensures only_reads { D.tells ≡ true → OnlyReadsSecond (D.state disk.old).history (D.state disk.new).history }
-        ensures writes { D.tells ≡ true → WritesOnly (D.state disk.old).history (D.state disk.new).history IsWrittenLedgerFile }
-        ensures spares { D.tells ≡ true → Spares (D.state disk.old).history (D.state disk.new).history IsLedgerFile }
 
         // Over every disk no file is written but those of version 2, and none where it is refused or no memory was left.
         ensures own { OnlyWrites (OpeningMayWrite result) (D.state disk.old).calls (D.state disk.new).calls }

@@ -3,12 +3,10 @@ ghost use Rattle.std.specs.Prelude.{◌≡◌, ◌<◌, ◌≤◌, true, false, 
 ghost use Rattle.cf_base.specs.declared.file.FileId.TheVariants.{Body2};
 ghost use Rattle.reel_disk.specs.Call.{OnlyWrites};
 ghost use Rattle.reel_disk.specs.State.{LeavesDisk};
-ghost use Rattle.reel_disk.specs.Disk.{moment_of, view_of};
-ghost use Rattle.reel_disk.specs.Runs.{Extends, Spares, StaysFirm};
+ghost use Rattle.reel_disk.specs.Disk.{moment_of};
 ghost use Rattle.resume_ledger.specs.declared.layout.Version.TheVariants.{Two};
-ghost use Rattle.resume_ledger.specs.Ledger.{Agrees, IsLedger, HasRecord};
-ghost use Rattle.resume_ledger.specs.Sound.{RunsAnyReel, RunsReelsWith, LosesNone, OpensNone, OpensAtMost, SurelyAcks};
-ghost use Rattle.resume_ledger.specs.Steps.{HasWrittenGate, HasWrittenRecord};
+ghost use Rattle.resume_ledger.specs.Ledger.{Agrees, IsLedger};
+ghost use Rattle.resume_ledger.specs.Safe.{IsSafeAck, IsSafeNote, WasAcked, WasNoted};
 ghost use Rattle.resume_ledger.specs.Calls.{PutsRecord, PutsGate};
 
 use crate::body::OPEN;
@@ -85,22 +83,13 @@ impl Ledger {
         requires within { i < length self.old.gates }
         requires fresh { slice_index_or self.old.gates i false ≡ false }
 
-        ensures past { D.tells ≡ true → Extends (D.state disk.old).history (D.state disk.new).history }
-
         // A crash at any moment of the call leaves a folder whose acknowledged frames are the reel's, with their records, and
-        // no acknowledgement is lost, whatever the reel is.
-        ensures run { D.tells ≡ true → RunsAnyReel self.old (D.state disk.old).history (D.state disk.new).history }
-        ensures none_lost { D.tells ≡ true → LosesNone self.old (D.state disk.old).history (D.state disk.new).history }
-
-        // No frame is acknowledged, and no file but the second body is written, also after a fault.
-        ensures others { D.tells ≡ true → OpensNone self.old (D.state disk.old).history (D.state disk.new).history }
-        ensures spares { D.tells ≡ true → Spares (D.state disk.old).history (D.state disk.new).history (λ q. q ≡ Body2) }
+        // no acknowledgement is lost, whatever the reel is. No frame is acknowledged, and no file but the second body is
+        // written, also after a fault.
+        ensures safe { D.tells ≡ true → IsSafeNote self.old (D.state disk.old).history (D.state disk.new).history }
         ensures own { OnlyWrites (λ q. q ≡ Body2) (D.state disk.old).calls (D.state disk.new).calls }
 
-        ensures noted { OnOk result (D.tells ≡ true → HasRecord i hash (view_of (D.state disk.new).history)) }
-        ensures firm { OnOk result (D.tells ≡ true → StaysFirm (D.state disk.old).history (D.state disk.new).history) }
-        ensures written { OnOk result (D.tells ≡ true → HasWrittenRecord i hash (D.state disk.old).history (D.state disk.new).history) }
-        ensures agrees { OnOk result (D.tells ≡ true → Agrees (moment_of (D.state disk.new).history) self.new) }
+        ensures noted { OnOk result (D.tells ≡ true → WasNoted i hash self.new (D.state disk.old).history (D.state disk.new).history) }
         ensures ledger { OnOk result (self.new ≡ self.old) }
         ensures closed { OnErr result (self.new ≡ record self.old { closed = true }) }
 
@@ -126,22 +115,14 @@ impl Ledger {
         requires within { i < length self.old.gates }
         requires fresh { slice_index_or self.old.gates i false ≡ false }
 
-        ensures past { D.tells ≡ true → Extends (D.state disk.old).history (D.state disk.new).history }
-
-        // A crash at any moment of the call leaves a folder whose acknowledged frames are the reel's, with their records.
-        ensures run { D.tells ≡ true → RunsReelsWith i self.old (D.state disk.old).history (D.state disk.new).history }
-
-        // No acknowledgement is lost, whatever the reel is.
-        ensures none_lost { D.tells ≡ true → LosesNone self.old (D.state disk.old).history (D.state disk.new).history }
-
-        // All other frames stay as they were, also after a fault.
-        ensures others { D.tells ≡ true → OpensAtMost i self.old (D.state disk.old).history (D.state disk.new).history }
-        ensures spares { D.tells ≡ true → Spares (D.state disk.old).history (D.state disk.new).history (λ q. q ≡ Body2) }
+        // A crash at any moment of the call leaves a folder whose acknowledged frames are the reel's, with their records. No
+        // acknowledgement is lost, whatever the reel is. All other frames stay as they were, and no file but the second body
+        // is written, also after a fault.
+        ensures safe { D.tells ≡ true → IsSafeAck i self.old (D.state disk.old).history (D.state disk.new).history }
         ensures own { OnlyWrites (λ q. q ≡ Body2) (D.state disk.old).calls (D.state disk.new).calls }
 
-        ensures acked { OnOk result (D.tells ≡ true → SurelyAcks i self.old (D.state disk.new).history) }
-        ensures written { OnOk result (D.tells ≡ true → HasWrittenGate i (D.state disk.old).history (D.state disk.new).history) }
-        ensures agrees { OnOk result (D.tells ≡ true → Agrees (moment_of (D.state disk.new).history) self.new) }
+        ensures acked { OnOk result (D.tells ≡ true
+            → WasAcked i self.old self.new (D.state disk.old).history (D.state disk.new).history) }
         ensures ledger { OnOk result (self.new ≡ record self.old { gates = set self.old.gates i true }) }
         ensures closed { OnErr result (self.new ≡ record self.old { closed = true }) }
 

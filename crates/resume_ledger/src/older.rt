@@ -7,7 +7,8 @@ ghost use Rattle.resume_ledger.specs.Ledger.{IsInForce};
 ghost use Rattle.resume_ledger.specs.Sound.{IsFrameFile, file_at};
 ghost use Rattle.resume_ledger.specs.Attach.{HasAttachedTo, IsAnswerTo};
 ghost use Rattle.resume_ledger.specs.Steps.{OthersKept};
-ghost use Rattle.resume_ledger.specs.inside.Steps.{IsReading, HasAcked, IsAckedFor, HasFirstBodyOf, IsFirstFor, IsRecorded, AreNoted, IsOpeningPartOf, TakesOver, IsBegun};
+ghost use Rattle.resume_ledger.specs.inside.Steps.{IsReading, HasAcked, IsAckedFor, HasFirstBodyOf, IsFirstFor, IsRecorded, AreNoted, TakesOver, IsBegun};
+ghost use Rattle.resume_ledger.specs.Safe.{IsSafeOpeningOf};
 ghost use Rattle.resume_ledger.specs.Calls.{Begins};
 ghost use Rattle.resume_ledger.specs.OpeningCalls.{FindsNone, MakesFresh, TakesFirst, TakesOverCalls, TakesFrame, TakesFrames, FailsHash, FailsFrames, AcksBefore, Takes, ReadsFirst, OpensOlder};
 
@@ -34,7 +35,7 @@ pub(crate) fn open_older<D: Disk>(
     requires frames { (i : ℕ) → i < length files.now → IsFrameFile (file_at files.now i) }
     requires unsealed { D.tells ≡ true → IsInForce Version.Two (view_of (D.state disk.old).history) → ⊥ }
     requires firm { D.tells ≡ true → IsFirm (loose_of (D.state disk.old).history) FileId.Seal2 }
-    ensures part { D.tells ≡ true → IsOpeningPartOf digest files.now size (D.state disk.old).history (D.state disk.new).history }
+    ensures safe { D.tells ≡ true → IsSafeOpeningOf digest files.now size (D.state disk.old).history (D.state disk.new).history }
     ensures answer { D.tells ≡ true → HasAttachedTo digest files.now size (D.state disk.old).history (D.state disk.new).history result }
     ensures known { IsAnswerTo digest (length files.now) result }
     ensures calls { OpensOlder digest (length files.now) (file_at files.now) size result (D.state disk.old).calls (D.state disk.new).calls }

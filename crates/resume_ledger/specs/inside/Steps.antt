@@ -10,7 +10,8 @@ use Rattle.resume_ledger.specs.declared.layout.Version.{Version}
 use Rattle.resume_ledger.specs.declared.layout.Version.TheVariants.{One, Two}
 use Rattle.resume_ledger.specs.Body.{Layout, layout_of, IsOwn, closed_body, record_of}
 use Rattle.resume_ledger.specs.Ledger.{IsLedgerFile, IsWrittenLedgerFile, IsInForce, IsSealed, HasOwn, IsFit, AreFlagsOf}
-use Rattle.resume_ledger.specs.Sound.{IsFrameFile, HasSize, file_at, AddsNone, IsOpeningRun, WritesOnly}
+use Rattle.resume_ledger.specs.Sound.{IsFrameFile, HasSize, file_at, WritesOnly}
+use Rattle.resume_ledger.specs.Safe.{IsSafeOpening}
 use Rattle.resume_ledger.specs.Attach.{IsKept, IsRefused, IsRefusalFor, size_of}
 use Rattle.resume_ledger.specs.declared.attach.OpenFault.{OpenFault}
 use Rattle.resume_ledger.specs.declared.attach.OpenFault.TheVariants.{OtherJob, BadLedger, DiskFault, NoMemory}
@@ -126,19 +127,8 @@ pub record IsBegun (body : List ℕ) (moment : Moment) : Type 0 where
   pub firm_seal : IsFirm moment.loose Seal2
   pub firm_body : IsFirm moment.loose (layout_of Two).body
 
--- What a part of an opening keeps at each moment.
-pub record IsOpeningPart (digest : List ℕ) (count : ℕ) (name : ℕ → FileId) (size : ℕ) (old new : History) : Type 0 where
-  pub run : IsOpeningRun digest count name size old new
-  pub adds_none : AddsNone digest count old new
-  pub spares : Spares old new IsLedgerFile
-  pub writes : WritesOnly old new IsWrittenLedgerFile
-
 -- Where a folder before version 2 counts is ready for this body, its writing is a part of the opening, whatever the job is.
 abbrev pub TakesOver : List ℕ → History → History → Type 0
 TakesOver body old new = (digest : List ℕ) (count : ℕ) (name : ℕ → FileId) (size : ℕ) → ((i : ℕ) → i < count → IsFrameFile (name i))
     → IsOlder digest count (moment_of old) → IsFirstBody digest count name size (view_of old) body
-    → IsOpeningPart digest count name size old new
-
--- the same, of the files of the frames in their order
-abbrev pub IsOpeningPartOf : List ℕ → List FileId → ℕ → History → History → Type 0
-IsOpeningPartOf digest files size old new = IsOpeningPart digest (length files) (file_at files) size old new
+    → IsSafeOpening digest count name size old new

@@ -11,15 +11,15 @@ use Rattle.resume_ledger.proofs.Openings.{begins_done, begins_failed}
 use Rattle.resume_ledger.proofs.older.open_older.Goals as goal
 
 -- nothing was written
-pub returns-in-Err-clause-part : goal.returns-in-Err-clause-part
-returns-in-Err-clause-part g c told = reading_part _ _ _ _ _ _ (c.first_body.ensures.reading told)
+pub returns-in-Err-clause-safe : goal.returns-in-Err-clause-safe
+returns-in-Err-clause-safe g c told = reading_part _ _ _ _ _ _ (c.first_body.ensures.reading told)
 
-pub returns-in_default-clause-part : goal.returns-in_default-clause-part
-returns-in_default-clause-part g c told = reading_part _ _ _ _ _ _ (c.first_body.ensures.reading told)
+pub returns-in_default-clause-safe : goal.returns-in_default-clause-safe
+returns-in_default-clause-safe g c told = reading_part _ _ _ _ _ _ (c.first_body.ensures.reading told)
 
 -- version 2 was put in force
-pub returns-in-Ok-begin_second-clause-part : goal.returns-in-Ok-begin_second-clause-part
-returns-in-Ok-begin_second-clause-part g c told =
+pub returns-in-Ok-begin_second-clause-safe : goal.returns-in-Ok-begin_second-clause-safe
+returns-in-Ok-begin_second-clause-safe g c told =
     let ready = subst (λ (l : List ℕ). IsReadyFor c.args.digest (length c.args.files.now) (file_at c.args.files.now) c.args.size (g.D.Disk.state c.args.disk.now).history (g.D.Disk.state c.first_body.new.disk).history l) (sym c.deref-2.ensures.value) (c.in-Ok.ensures.body told) in
     part_along _ _ _ _ (g.D.Disk.state c.args.disk.now).history (g.D.Disk.state c.first_body.new.disk).history _ (c.first_body.ensures.reading told) ready.view (c.begin_second.ensures.part told _ _ _ _ c.requires.frames ready.older ready.first)
 
@@ -31,8 +31,8 @@ returns-in-Ok-begin_second-clause-answer g c told =
     opened c.args.digest (length c.args.files.now) (file_at c.args.files.now) c.args.size (g.D.Disk.state c.args.disk.now).history (g.D.Disk.state c.first_body.new.disk).history (g.D.Disk.state c.begin_second.new.disk).history c.deref-2.result.now ready (c.in-Ok-begin_second.ensures.begun told) c.of.result is gates
 
 -- the disk failed
-pub returns-clause-part : goal.returns-clause-part
-returns-clause-part g c told =
+pub returns-clause-safe : goal.returns-clause-safe
+returns-clause-safe g c told =
     let ready = subst (λ (l : List ℕ). IsReadyFor c.args.digest (length c.args.files.now) (file_at c.args.files.now) c.args.size (g.D.Disk.state c.args.disk.now).history (g.D.Disk.state c.first_body.new.disk).history l) (sym c.deref-2.ensures.value) (c.in-Ok.ensures.body told) in
     part_along _ _ _ _ (g.D.Disk.state c.args.disk.now).history (g.D.Disk.state c.first_body.new.disk).history _ (c.first_body.ensures.reading told) ready.view (c.begin_second.ensures.part told _ _ _ _ c.requires.frames ready.older ready.first)
 

@@ -16,44 +16,23 @@ pub returns-in-Ok-true-clause-answer : goal.returns-in-Ok-true-clause-answer
 returns-in-Ok-true-clause-answer g c told =
     attached_along c.args.digest (length c.args.files.now) (g.D.Disk.state c.args.disk.now).history (g.D.Disk.state c.is_sealed.new.disk).history (g.D.Disk.state c.open_sealed.new.disk).history (c.is_sealed.ensures.reading told).narrows (c.in-Ok-true.ensures.read told).view (file_at c.args.files.now) c.args.size c.open_sealed.result (c.open_sealed.ensures.answer told (file_at c.args.files.now) c.args.size)
 
-pub returns-in-Ok-true-clause-run : goal.returns-in-Ok-true-clause-run
-returns-in-Ok-true-clause-run g c told = (reading_part c.args.digest (length c.args.files.now) (file_at c.args.files.now) c.args.size _ _ (reading_along _ _ _ (c.is_sealed.ensures.reading told) (c.open_sealed.ensures.reading told))).run
-
-pub returns-in-Ok-true-clause-adds_none : goal.returns-in-Ok-true-clause-adds_none
-returns-in-Ok-true-clause-adds_none g c told = (reading_part c.args.digest (length c.args.files.now) (file_at c.args.files.now) c.args.size _ _ (reading_along _ _ _ (c.is_sealed.ensures.reading told) (c.open_sealed.ensures.reading told))).adds_none
+pub returns-in-Ok-true-clause-safe : goal.returns-in-Ok-true-clause-safe
+returns-in-Ok-true-clause-safe g c told = reading_part c.args.digest (length c.args.files.now) (file_at c.args.files.now) c.args.size _ _ (reading_along _ _ _ (c.is_sealed.ensures.reading told) (c.open_sealed.ensures.reading told))
 
 pub returns-in-Ok-true-clause-only_reads : goal.returns-in-Ok-true-clause-only_reads
 returns-in-Ok-true-clause-only_reads g c told second = (reading_along _ _ _ (c.is_sealed.ensures.reading told) (c.open_sealed.ensures.reading told)).narrows
-
-pub returns-in-Ok-true-clause-spares : goal.returns-in-Ok-true-clause-spares
-returns-in-Ok-true-clause-spares g c told = (reading_along _ _ _ (c.is_sealed.ensures.reading told) (c.open_sealed.ensures.reading told)).spares
-
-pub returns-in-Ok-true-clause-writes : goal.returns-in-Ok-true-clause-writes
-returns-in-Ok-true-clause-writes g c told = (reading_along _ _ _ (c.is_sealed.ensures.reading told) (c.open_sealed.ensures.reading told)).writes
 
 -- it is not
 pub returns-in-Ok-false-clause-answer : goal.returns-in-Ok-false-clause-answer
 returns-in-Ok-false-clause-answer g c told =
     attached_along c.args.digest (length c.args.files.now) (g.D.Disk.state c.args.disk.now).history (g.D.Disk.state c.is_sealed.new.disk).history (g.D.Disk.state c.open_older.new.disk).history (c.is_sealed.ensures.reading told).narrows (c.in-Ok-false.ensures.read told).view (file_at c.args.files.now) c.args.size c.open_older.result (c.open_older.ensures.answer told)
 
-pub returns-in-Ok-false-clause-run : goal.returns-in-Ok-false-clause-run
-returns-in-Ok-false-clause-run g c told = (part_along c.args.digest (length c.args.files.now) (file_at c.args.files.now) c.args.size _ _ _ (c.is_sealed.ensures.reading told) (c.in-Ok-false.ensures.read told).view (c.open_older.ensures.part told)).run
-
-pub returns-in-Ok-false-clause-adds_none : goal.returns-in-Ok-false-clause-adds_none
-returns-in-Ok-false-clause-adds_none g c told = (part_along c.args.digest (length c.args.files.now) (file_at c.args.files.now) c.args.size _ _ _ (c.is_sealed.ensures.reading told) (c.in-Ok-false.ensures.read told).view (c.open_older.ensures.part told)).adds_none
-
-pub returns-in-Ok-false-clause-writes : goal.returns-in-Ok-false-clause-writes
-returns-in-Ok-false-clause-writes g c told = (part_along c.args.digest (length c.args.files.now) (file_at c.args.files.now) c.args.size _ _ _ (c.is_sealed.ensures.reading told) (c.in-Ok-false.ensures.read told).view (c.open_older.ensures.part told)).writes
-
-pub returns-in-Ok-false-clause-spares : goal.returns-in-Ok-false-clause-spares
-returns-in-Ok-false-clause-spares g c told = (part_along c.args.digest (length c.args.files.now) (file_at c.args.files.now) c.args.size _ _ _ (c.is_sealed.ensures.reading told) (c.in-Ok-false.ensures.read told).view (c.open_older.ensures.part told)).spares
+pub returns-in-Ok-false-clause-safe : goal.returns-in-Ok-false-clause-safe
+returns-in-Ok-false-clause-safe g c told = part_along c.args.digest (length c.args.files.now) (file_at c.args.files.now) c.args.size _ _ _ (c.is_sealed.ensures.reading told) (c.in-Ok-false.ensures.read told).view (c.open_older.ensures.safe told)
 
 -- the disk failed
-pub returns-in-Err-clause-run : goal.returns-in-Err-clause-run
-returns-in-Err-clause-run g c told = (reading_part c.args.digest (length c.args.files.now) (file_at c.args.files.now) c.args.size _ _ (c.is_sealed.ensures.reading told)).run
-
-pub returns-in-Err-clause-adds_none : goal.returns-in-Err-clause-adds_none
-returns-in-Err-clause-adds_none g c told = (reading_part c.args.digest (length c.args.files.now) (file_at c.args.files.now) c.args.size _ _ (c.is_sealed.ensures.reading told)).adds_none
+pub returns-in-Err-clause-safe : goal.returns-in-Err-clause-safe
+returns-in-Err-clause-safe g c told = reading_part c.args.digest (length c.args.files.now) (file_at c.args.files.now) c.args.size _ _ (c.is_sealed.ensures.reading told)
 
 pub returns-in-Ok-false-clause-taken : goal.returns-in-Ok-false-clause-taken
 returns-in-Ok-false-clause-taken g c told one =
