@@ -1,5 +1,5 @@
 //! Files of a reel's frames that are read ahead of a check: while one is read, those before it are hashed side by side.
-ghost use Rattle.std.specs.Prelude.{◌≡◌, ◌<◌, true, length, All, OnOk, IfOk, IfSome, IsErr};
+ghost use Rattle.std.specs.Prelude.{◌≡◌, ◌<◌, true, length, OnOk, IfOk, IfSome, IsErr};
 ghost use Rattle.conform_job.specs.Job.{JobData, file_of};
 ghost use Rattle.reel_disk.specs.Disk.{Files, view_of};
 ghost use Rattle.resume_ledger.specs.Hash.{digest_of_file};
@@ -14,9 +14,6 @@ use reel_disk::{Disk, DiskFault};
 use resume_ledger::LedgerView;
 use std::alloc::Global;
 use std::mem::swap;
-
-/// How many times as fast a file that lies in memory is read as it is hashed, about.
-const READS_FASTER: usize = 12;
 
 /// Rooms for files that are read ahead, and where the next one is looked for.
 #[derive(Drop)]
@@ -129,7 +126,8 @@ fn read_into<D: Disk, H: Hasher>(
     ensures disk { LeavesDisk (IsErr result) (D.state disk.old) (D.state disk.new) }
 {
     make_way(first, others);
-    let (own, each) = parts_of(first.bytes.len(), others.len().saturating_add(1));
+    // Threads that begin are late by about as much as a read takes, so each has the same part of a file to hash.
+    let part = first.bytes.len().div_ceil(others.len().saturating_add(1));
     let mut read = || -> Result<u32, DiskFault>
         requires { (length view.now.gates ≡ frames_of job.now)
             × (D.tells ≡ true → IsRead job.now (view_of (D.state disk.now).history) first.now) }
@@ -137,8 +135,8 @@ fn read_into<D: Disk, H: Hasher>(
             → IsRead job.entry.now (view_of (D.state disk.entry.now).history) first.exit.now) }
         ensures reads { OnlyReads D.tells (D.state disk.entry.now) (D.state disk.exit.now) }
         ensures disk { LeavesDisk (IsErr result) (D.state disk.entry.now) (D.state disk.exit.now) }
-    { read_on(disk, job, view, from, first, own) };
-    hasher.hash_beside(others, each, &mut read)
+    { read_on(disk, job, view, from, first, part) };
+    hasher.hash_beside(others, part, &mut read)
 }
 
 /// If a file lies in the first room, it goes to one that is free, if there is one.
@@ -158,16 +156,6 @@ fn make_way(first: &mut Room, others: &mut [Room])
             return;
         }
     }
-}
-
-/// How many bytes of a file are hashed in the step that reads it, and how many in each further step, so that each of so many
-/// threads has as much to do as the others.
-fn parts_of(len: usize, threads: usize) -> (usize, usize) {
-    let own = (len / threads.saturating_mul(READS_FASTER).max(1)).saturating_mul(
-        (READS_FASTER + 1).saturating_sub(threads),
-    );
-    let others = threads.saturating_sub(1).max(1);
-    (own, len.saturating_sub(own).div_ceil(others))
 }
 
 /// Reads the next file into a room, if that is free, and begins to hash it; else it hashes so many bytes more of the one that lies
