@@ -11,11 +11,12 @@ use Rattle.reel_disk.proofs.Images.{view_is_image, firm_besides, restored, with_
 use Rattle.reel_disk.proofs.Moments.{extends_along, leaves_along, keeps_along}
 use Rattle.reel_disk.proofs.Sparing.{spared_image, spares_along, spares_wider}
 use Rattle.resume_ledger.specs.Ledger.{LedgerState, IsLedgerFile, IsWrittenLedgerFile, HasRecord, Acks, Agrees}
-use Rattle.resume_ledger.specs.Sound.{Reel, IsReel, IsFrameFile, IsSoundAt, IsSoundAndFit, IsStored, IsRun, KeepsAcks, AddsNothing, AddsAtMost}
+use Rattle.resume_ledger.specs.Sound.{Reel, IsReel, IsFrameFile, IsSoundAt, IsSoundAndFit, IsStored}
 use Rattle.resume_ledger.specs.Steps.{IsPut}
 use Rattle.resume_ledger.proofs.LawProofs.{agrees_spared}
 use Rattle.resume_ledger.proofs.Versions.{frame_apart, agrees_shown, acks_as, fit_as}
 use Rattle.resume_ledger.proofs.Writing.{put_extends, put_leaves, put_keeps}
+use Rattle.resume_ledger.specs.Safe.{IsSafeAck, IsSafeNote}
 use Rattle.reel_writer.specs.Reel.{HasStored, IsWrittenFile}
 use Rattle.reel_writer.specs.inside.Reel.{HasFrame, IsFinishing}
 
@@ -102,30 +103,30 @@ module _ (old : History) (ledger : LedgerState) (agrees : Agrees (moment_of old)
       written_is q (inr body) = inr (inr (inr body))
 
 -- a note, and an acknowledgement, which write the second body alone
-module _ (digest : List ℕ) (count i : ℕ) (file : FileId) (bytes : List ℕ) (frame : IsFrameFile file) (old new : History) (past : Extends old new) (keeps : KeepsAcks digest count old new) (spares : Spares old new (λ q. q ≡ Body2)) where
-  body_spares : Spares old new (IsWrittenFile file)
-  body_spares = spares_wider old new (λ q. q ≡ Body2) (IsWrittenFile file) (λ q is. inr is) spares
+module _ (ledger : LedgerState) (i : ℕ) (file : FileId) (bytes : List ℕ) (frame : IsFrameFile file) (old new : History) where
+  body_spares : Spares old new (λ q. q ≡ Body2) → Spares old new (IsWrittenFile file)
+  body_spares spares = spares_wider old new (λ q. q ≡ Body2) (IsWrittenFile file) (λ q is. inr is) spares
 
-  pub noted : ((reel : Reel) → IsReel count reel → IsRun digest count reel old new) → AddsNothing digest count old new → IsFinishing digest count i file bytes old new
-  noted run others = record {
-    past = past;
-    keeps = keeps;
-    sound = λ reel is_reel has. (run reel is_reel).sound;
-    others = λ k other. others k;
-    spares = body_spares;
+  pub noted : IsSafeNote ledger old new → IsFinishing ledger.digest (length ledger.gates) i file bytes old new
+  noted safe = record {
+    past = safe.past;
+    keeps = safe.none_lost;
+    sound = λ reel is_reel has. (safe.run reel is_reel).sound;
+    others = λ k other. safe.others k;
+    spares = body_spares safe.spares;
   }
 
-  pub acked : ((reel : Reel) → IsReel count reel → IsStored (moment_of old) reel i → IsRun digest count reel old new) → AddsAtMost i digest count old new
-      → view_of old file ≡ Some bytes → IsFirm (loose_of old) file → HasRecord i (sha256 bytes) (view_of old) → IsFinishing digest count i file bytes old new
-  acked run others there firm recorded = record {
-    past = past;
-    keeps = keeps;
-    sound = λ reel is_reel has. (run reel is_reel (stored reel has)).sound;
-    others = others;
-    spares = body_spares;
+  pub acked : IsSafeAck i ledger old new → view_of old file ≡ Some bytes → IsFirm (loose_of old) file → HasRecord i (sha256 bytes) (view_of old)
+      → IsFinishing ledger.digest (length ledger.gates) i file bytes old new
+  acked safe there firm recorded = record {
+    past = safe.past;
+    keeps = safe.none_lost;
+    sound = λ reel is_reel has. (safe.run reel is_reel (stored reel has)).sound;
+    others = safe.others;
+    spares = body_spares safe.spares;
   }
     where
-      stored : (reel : Reel) → HasFrame count reel i file bytes → IsStored (moment_of old) reel i
+      stored : (reel : Reel) → HasFrame (length ledger.gates) reel i file bytes → IsStored (moment_of old) reel i
       stored reel has = record {
         there = ap (view_of old) has.named ∙ there ∙ ap Some (sym has.holds);
         firm = subst (λ (x : FileId). IsFirm (loose_of old) x) (sym has.named) firm;

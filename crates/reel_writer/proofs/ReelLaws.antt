@@ -14,12 +14,13 @@ use Rattle.reel_disk.specs.Disk.{Files, Moment, History, moment_of, view_of}
 use Rattle.reel_disk.specs.Runs.{LeavesOnly, Surely}
 use Rattle.reel_disk.proofs.Moments.{extends_itself, extends_along, leaves_start, leaves_along, keeps_start, keeps_along}
 use Rattle.resume_ledger.specs.Ledger.{LedgerState, Acks}
+use Rattle.resume_ledger.specs.Safe.{IsSafeOpening}
 use Rattle.resume_ledger.specs.Sound.{file_at as listed_at, IsReel, IsFrameFile, HasSize, IsOpeningRun}
 use Rattle.resume_ledger.specs.Attach.{HasAttached}
 use Rattle.resume_ledger.specs.declared.attach.OpenFault.{OpenFault}
 use Rattle.resume_ledger.proofs.LawProofs.{sound_has_files}
 use Rattle.reel_writer.specs.Calls.{Opens}
-use Rattle.reel_writer.specs.Reel.{frames_of, reel_of, HasAcked, HasFrameFiles, KeepsReel, IsSoundReel, IsReelRun}
+use Rattle.reel_writer.specs.Reel.{frames_of, reel_of, HasAcked, HasFrameFiles, KeepsReel, IsSafeBeginning, IsSoundReel, IsReelRun}
 use Rattle.reel_writer.specs.inside.Reel.{HasFrame, IsFinishing}
 
 module _ (job : JobData) where
@@ -80,6 +81,9 @@ module _ (job : JobData) where
         by : (told : Option World) → IfSome told (λ world. Surely (moment_of old) (IsSoundReel job world) → LeavesOnly old new (IsSoundReel job world))
         by None = tt
         by (Some world) = run.sound (reel_of job (file_at world)) (λ i lt. refl)
+
+    pub safe_beginning : (old new : History) → IsSafeOpening job.parts.digest (frames_of job) (file_of job) (frame_size job) old new → IsSafeBeginning job told old new
+    safe_beginning old new safe = record { run = opened_run old new safe.run; adds_none = safe.adds_none; spares = safe.spares; writes = safe.writes }
 
     -- a finish of frame i
     pub finished_run : (old new : History) (i : ℕ) (bytes : List ℕ) → IfSome told (λ world. bytes ≡ frame_file job (file_at world) i) → IsFinishing job.parts.digest (frames_of job) i (file_of job i) bytes old new → IsReelRun job told old new

@@ -8,7 +8,7 @@ use Rattle.reel_disk.proofs.Moments.{keeps_start}
 use Rattle.resume_ledger.specs.Ledger.{Agrees, LedgerState}
 use Rattle.resume_ledger.specs.Sound.{WritesOnly}
 use Rattle.reel_writer.specs.Changes.{HasKept, IsOwnFile, IsUnkeptFile, MayWrite}
-use Rattle.reel_writer.specs.inside.Changes.{IsRunFile}
+use Rattle.reel_writer.specs.inside.Changes.{IsUnfinishedFile}
 use Rattle.reel_writer.specs.Reel.{frames_of, HasAcked, HasFrameFiles, IsWrittenFile, KeepsReel}
 
 -- no call loses no acknowledgement
@@ -27,12 +27,12 @@ pub opened_has : (job : JobData) (h : History) (ledger : LedgerState) → Agrees
 opened_has job h ledger agrees one i acks = absurd (one.0 agrees.sealed)
 
 -- what a finish of a frame writes is the run's
-pub run_file : (job : JobData) (gates : List Bool) (i index : ℕ) → index ≡ i → i < frames_of job → get_or gates i false ≡ false → (q : FileId) → IsWrittenFile (file_of job index) q → IsRunFile job gates q
+pub run_file : (job : JobData) (gates : List Bool) (i index : ℕ) → index ≡ i → i < frames_of job → get_or gates i false ≡ false → (q : FileId) → IsWrittenFile (file_of job index) q → IsUnfinishedFile job gates q
 run_file job gates i index same within closed q (inl is) = inr (i, within, closed, is ∙ ap (file_of job) same)
 run_file job gates i index same within closed q (inr body) = inl body
 
 -- the file of a frame whose gate is still closed is one of a frame whose gate was
-pub run_file_before : (job : JobData) (old new : List Bool) → ((k : ℕ) → get_or old k false ≡ true → get_or new k false ≡ true) → (q : FileId) → IsRunFile job new q → IsRunFile job old q
+pub run_file_before : (job : JobData) (old new : List Bool) → ((k : ℕ) → get_or old k false ≡ true → get_or new k false ≡ true) → (q : FileId) → IsUnfinishedFile job new q → IsUnfinishedFile job old q
 run_file_before job old new grows q (inl body) = inl body
 run_file_before job old new grows q (inr frame) = inr (frame.0, frame.1, was (get_or old frame.0 false) refl, frame.3)
   where
@@ -48,10 +48,10 @@ module _ (job : JobData) (gates : List Bool) (before : Files) (opening : (k : �
       (frame.0, frame.1, λ kept. let opened : get_or gates frame.0 false ≡ true = (opening frame.0).1 kept in let shut : get_or gates frame.0 false ≡ false = frame.2 in cc, frame.3)
 
   -- what a run writes once the folder is open is its own
-  pub own_file : IsRunFile job gates q → IsOwnFile job before q
+  pub own_file : IsUnfinishedFile job gates q → IsOwnFile job before q
   own_file (inl body) = inl (inr (inr (inr body)))
   own_file (inr frame) = inr (unkept frame)
 
-  pub own_written : IsRunFile job gates q → MayWrite job before q
+  pub own_written : IsUnfinishedFile job gates q → MayWrite job before q
   own_written (inl body) = inl (inr body)
   own_written (inr frame) = inr (unkept frame)

@@ -7,6 +7,7 @@
 --     reel_of job files      for each frame its file and its bytes
 --     IsReelRun job told old new      what each call on the reel keeps, and so does each run of them
 --     IsRunFile job low high      a file that a run over the frames from low to high, exclusive, may write
+--     IsSafeBeginning, IsSafeFinish      what an opening, and the finish of a frame, keep at each moment
 use Rattle.std.specs.Prelude.{◌≡◌, ◌⊎◌, ℕ, ◌<◌, ◌≤◌, List, Option, Some, IfSome, Result}
 use Rattle.cf_base.specs.declared.file.FileId.{FileId}
 use Rattle.cf_base.specs.declared.file.FileId.TheVariants.{Body2}
@@ -16,11 +17,11 @@ use Rattle.conform_job.specs.Job.{JobData, file_of}
 use Rattle.conform_job.specs.Refusals as sources
 use Rattle.frame_render.specs.Frame.{frame_file, frame_size}
 use Rattle.reel_disk.specs.Disk.{Files, History, view_of}
-use Rattle.reel_disk.specs.Runs.{Extends, NeverForgets, StaysSo}
+use Rattle.reel_disk.specs.Runs.{Extends, NeverForgets, Spares, StaysSo}
 use Rattle.resume_ledger.specs.Attach.{HasAttached}
-use Rattle.resume_ledger.specs.Ledger.{Acks, IsWrittenLedgerFile, LedgerState}
+use Rattle.resume_ledger.specs.Ledger.{Acks, IsLedgerFile, IsWrittenLedgerFile, LedgerState}
 use Rattle.resume_ledger.specs.declared.attach.OpenFault.{OpenFault}
-use Rattle.resume_ledger.specs.Sound.{Reel, IsSoundAndFit, HasItsFiles}
+use Rattle.resume_ledger.specs.Sound.{Reel, IsSoundAndFit, HasItsFiles, AddsAtMost, AddsNone, WritesOnly}
 
 abbrev pub frames_of : JobData → ℕ
 frames_of job = frame_count job.parts.timeline.events
@@ -73,3 +74,19 @@ IsRunFile job low high q = IsWrittenLedgerFile q ⊎ ((i : ℕ) × (low ≤ i) �
 -- what a finish of this file may write
 abbrev pub IsWrittenFile : FileId → FileId → Type 0
 IsWrittenFile file q = (q ≡ file) ⊎ (q ≡ Body2)
+
+-- What an opening of the job's folder keeps at each moment: what a run keeps, and no acknowledgement is made. No file but those of
+-- version 2 is written, and none is changed that isn't the ledger's.
+pub record IsSafeBeginning (job : JobData) (told : Option World) (old new : History) : Type 0 where
+  pub run : IsReelRun job told old new
+  pub adds_none : AddsNone job.parts.digest (frames_of job) old new
+  pub spares : Spares old new IsLedgerFile
+  pub writes : WritesOnly old new IsWrittenLedgerFile
+
+-- What the finish of frame i keeps at each moment, whatever the folder was: what a run keeps, and no acknowledgement is lost. All
+-- other frames stay as they were, and all other files.
+pub record IsSafeFinish (job : JobData) (told : Option World) (i : ℕ) (old new : History) : Type 0 where
+  pub run : IsReelRun job told old new
+  pub none_lost : KeepsReel job old new
+  pub others : AddsAtMost i job.parts.digest (frames_of job) old new
+  pub spares : Spares old new (IsWrittenFile (file_of job i))

@@ -1,14 +1,15 @@
 //! The files of a job's frames.
-ghost use Rattle.std.specs.Prelude.{◌≡◌, ◌≢◌, ◌<◌, ◌≤◌, ℕ, true, length, IfOk, IsErrOf, Err};
+ghost use Rattle.std.specs.Prelude.{◌≡◌, ◌<◌, ◌≤◌, ℕ, true, length, IfOk, IsErrOf, Err};
 ghost use Rattle.reel_disk.specs.Call.{OnlyWrites};
 ghost use Rattle.reel_disk.specs.State.{LeavesDisk};
 ghost use Rattle.conform_job.specs.Job.{file_of};
 ghost use Rattle.conform_job.specs.Refusals.{Files as Sources};
 ghost use Rattle.frame_render.specs.Frame.{frame_file, frame_size};
 ghost use Rattle.reel_disk.specs.Disk.{view_of};
-ghost use Rattle.reel_disk.specs.Runs.{Narrows, Spares};
-ghost use Rattle.resume_ledger.specs.Ledger.{IsInForce, IsLedgerFile, IsWrittenLedgerFile};
-ghost use Rattle.resume_ledger.specs.Sound.{file_at, IsOpeningRun, AddsNone, WritesOnly};
+ghost use Rattle.reel_disk.specs.Runs.{Narrows};
+ghost use Rattle.resume_ledger.specs.Ledger.{IsInForce};
+ghost use Rattle.resume_ledger.specs.Safe.{IsSafeOpening};
+ghost use Rattle.resume_ledger.specs.Sound.{file_at};
 ghost use Rattle.resume_ledger.specs.Attach.{IsAnswerTo, OpeningMayWrite};
 ghost use Rattle.reel_writer.specs.Calls.{Opens};
 ghost use Rattle.reel_writer.specs.Reel.{frames_of, HasBegun};
@@ -43,18 +44,11 @@ pub(crate) fn attach_for<D: Disk>(
 ) -> Result<Ledger, OpenFault>
     ensures answer { D.tells ≡ true
         → HasBegun job.now size (D.state disk.old).history (D.state disk.new).history result }
-    ensures run { D.tells ≡ true
-        → IsOpeningRun job.now.parts.digest (frames_of job.now) (file_of job.now) size
+    ensures safe { D.tells ≡ true
+        → IsSafeOpening job.now.parts.digest (frames_of job.now) (file_of job.now) size
         (D.state disk.old).history (D.state disk.new).history }
-    ensures adds_none { D.tells ≡ true
-        → AddsNone job.now.parts.digest (frames_of job.now) (D.state disk.old).history
-        (D.state disk.new).history }
     ensures only_reads { D.tells ≡ true → IsInForce Version.Two (view_of (D.state disk.old).history)
         → Narrows (D.state disk.old).history (D.state disk.new).history }
-    ensures writes { D.tells ≡ true
-        → WritesOnly (D.state disk.old).history (D.state disk.new).history IsWrittenLedgerFile }
-    ensures spares { D.tells ≡ true
-        → Spares (D.state disk.old).history (D.state disk.new).history IsLedgerFile }
     ensures own { OnlyWrites (OpeningMayWrite result) (D.state disk.old).calls (D.state disk.new).calls }
     ensures known { IsAnswerTo job.now.parts.digest (frames_of job.now) result }
     ensures calls { Opens job.now size result (D.state disk.old).calls (D.state disk.new).calls }

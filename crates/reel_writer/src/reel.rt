@@ -1,17 +1,16 @@
 //! The reel of a job.
-ghost use Rattle.std.specs.Prelude.{◌≡◌, ◌≢◌, ◌<◌, true, false, Some, Err, length, slice_index_or, OnOk, OnErr, IfOk, IsErr, IsErrOf};
+ghost use Rattle.std.specs.Prelude.{◌≡◌, ◌<◌, true, false, Some, Err, length, slice_index_or, OnOk, OnErr, IfOk, IsErr, IsErrOf};
 ghost use Rattle.reel_disk.specs.Call.{OnlyWrites};
 ghost use Rattle.reel_disk.specs.State.{LeavesDisk};
 ghost use Rattle.conform_job.specs.Job.{file_of};
 ghost use Rattle.reel_disk.specs.Disk.{Files, moment_of, view_of};
-ghost use Rattle.reel_disk.specs.Runs.{Narrows, Surely, Spares};
+ghost use Rattle.reel_disk.specs.Runs.{Narrows, Surely};
 ghost use Rattle.frame_render.specs.Frame.{frame_size};
 ghost use Rattle.scan_source.specs.World.{World};
-ghost use Rattle.resume_ledger.specs.Ledger.{IsInForce, IsLedgerFile, IsWrittenLedgerFile};
-ghost use Rattle.resume_ledger.specs.Sound.{AddsNone, AddsAtMost, WritesOnly};
+ghost use Rattle.resume_ledger.specs.Ledger.{IsInForce};
 ghost use Rattle.resume_ledger.specs.Attach.{IsAnswerTo, OpeningMayWrite};
 ghost use Rattle.reel_writer.specs.Calls.{Finishes, Opens};
-ghost use Rattle.reel_writer.specs.Reel.{frames_of, HasAcked, HasFrameFiles, HasStored, IsSoundReel, IsReelRun, KeepsReel, IsWrittenFile, HasBegun};
+ghost use Rattle.reel_writer.specs.Reel.{frames_of, HasAcked, HasBegun, HasFrameFiles, HasStored, IsSafeBeginning, IsSafeFinish, IsSoundReel, IsWrittenFile};
 ghost use Rattle.reel_writer.specs.View.{ReelView, IsReelOf, IsOpening, after_finish, after_fault, ledger_in, disk_in};
 
 use crate::files::{attach_for, frame_len};
@@ -77,23 +76,14 @@ impl<D: Disk, N: Work> Reel<D, N> {
 
         // A crash at any moment of the call leaves a folder whose acknowledged frames are the
         // reel's. No acknowledgement is lost, where each frame that version 1 acknowledges has a
-        // file of a frame's length, as sound files have; and none is made.
-        ensures run { D.tells ≡ true
-            → IsReelRun N.job N.files (D.state disk).history (D.state (disk_in result)).history }
+        // file of a frame's length, as sound files have; and none is made. No file but those of
+        // version 2 is written, and in a folder of version 2 none, whatever the answer is.
+        ensures safe { D.tells ≡ true
+            → IsSafeBeginning N.job N.files (D.state disk).history (D.state (disk_in result)).history }
         ensures sound_has { (world : World) (files : Files) → IsSoundReel N.job world files
             → HasFrameFiles N.job files }
-        ensures adds_none { D.tells ≡ true
-            → AddsNone N.job.parts.digest (frames_of N.job) (D.state disk).history
-            (D.state (disk_in result)).history }
-
-        // In a folder of version 2 nothing is written, whatever the answer is, in any other no file
-        // but those of version 2, and in no folder is a file changed that isn't the ledger's.
         ensures only_reads { D.tells ≡ true → IsInForce Version.Two (view_of (D.state disk).history)
             → Narrows (D.state disk).history (D.state (disk_in result)).history }
-        ensures writes { D.tells ≡ true
-            → WritesOnly (D.state disk).history (D.state (disk_in result)).history IsWrittenLedgerFile }
-        ensures spares { D.tells ≡ true
-            → Spares (D.state disk).history (D.state (disk_in result)).history IsLedgerFile }
 
         // Over every disk no file is written but those of version 2, and none where it is refused or no memory was left.
         ensures own { OnlyWrites (OpeningMayWrite (ledger_in result)) (D.state disk).calls (D.state (disk_in result)).calls }
@@ -137,19 +127,10 @@ impl<D: Disk, N: Work> Reel<D, N> {
         requires fresh { slice_index_or self.old.ledger.gates frame.now.index false ≡ false }
 
         // A crash at any moment of the call leaves a folder whose acknowledged frames are the
-        // reel's, and no acknowledgement is lost, whatever the folder was.
-        ensures run { D.tells ≡ true
-            → IsReelRun N.job N.files (D.state self.old.disk).history (D.state self.new.disk).history }
-        ensures none_lost { D.tells ≡ true
-            → KeepsReel N.job (D.state self.old.disk).history (D.state self.new.disk).history }
-
-        // All other frames stay as they were, also after a fault, and all other files.
-        ensures others { D.tells ≡ true
-            → AddsAtMost frame.now.index N.job.parts.digest (frames_of N.job)
+        // reel's, and no acknowledgement is lost, whatever the folder was. All other frames stay
+        // as they were, also after a fault, and all other files.
+        ensures safe { D.tells ≡ true → IsSafeFinish N.job N.files frame.now.index
             (D.state self.old.disk).history (D.state self.new.disk).history }
-        ensures spares { D.tells ≡ true
-            → Spares (D.state self.old.disk).history (D.state self.new.disk).history
-            (IsWrittenFile (file_of N.job frame.now.index)) }
 
         ensures acked { OnOk result (D.tells ≡ true
             → Surely (moment_of (D.state self.new.disk).history) (HasAcked N.job frame.now.index)) }

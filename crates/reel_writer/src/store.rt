@@ -1,8 +1,8 @@
 //! The device calls of a frame.
-ghost use Rattle.std.specs.Prelude.{◌≡◌, ◌<◌, Some, true, false, length, slice_index_or, OnOk, IsErr};
+ghost use Rattle.std.specs.Prelude.{◌≡◌, ◌<◌, true, false, length, slice_index_or, OnOk, IsErr};
 ghost use Rattle.cf_base.specs.declared.file.FileId.TheVariants.{Body2};
 ghost use Rattle.sha2.specs.Sha256.{sha256};
-ghost use Rattle.reel_disk.specs.Disk.{moment_of, view_of};
+ghost use Rattle.reel_disk.specs.Disk.{moment_of};
 ghost use Rattle.reel_disk.specs.Runs.{Extends, Spares, Surely};
 ghost use Rattle.resume_ledger.specs.Ledger.{Agrees};
 ghost use Rattle.resume_ledger.specs.Sound.{IsFrameFile};
@@ -36,8 +36,6 @@ pub(crate) fn store<D: Disk>(
         → IsFinishing ledger.old.digest (length ledger.old.gates) i file bytes.now
         (D.state disk.old).history (D.state disk.new).history }
 
-    ensures shown { OnOk result (D.tells ≡ true
-        → view_of (D.state disk.new).history file ≡ Some bytes.now) }
     ensures stored { OnOk result (D.tells ≡ true
         → Surely (moment_of (D.state disk.new).history) (HasStored file bytes.now)) }
     ensures ledger { Acknowledges D.tells i result (moment_of (D.state disk.new).history) ledger.old ledger.new }

@@ -1,5 +1,5 @@
 -- Which files a run of a job may change in its folder: words of private clauses.
---     IsRunFile      which it writes once the folder is open
+--     IsUnfinishedFile      which it writes once the folder is open
 use Rattle.std.specs.Prelude.{◌≡◌, ◌⊎◌, ℕ, ◌<◌, Bool, false, List, slice_index_or}
 use Rattle.cf_base.specs.declared.file.FileId.{FileId}
 use Rattle.cf_base.specs.declared.file.FileId.TheVariants.{Body2}
@@ -8,6 +8,6 @@ use Rattle.reel_writer.specs.Reel.{frames_of}
 
 -- what a run writes once the folder is open: the ledger's body, and the files of frames whose gate
 -- is closed
-abbrev pub IsRunFile : JobData → List Bool → FileId → Type 0
-IsRunFile job gates q = (q ≡ Body2)
+abbrev pub IsUnfinishedFile : JobData → List Bool → FileId → Type 0
+IsUnfinishedFile job gates q = (q ≡ Body2)
     ⊎ ((i : ℕ) × (i < frames_of job) × (slice_index_or gates i false ≡ false) × (q ≡ file_of job i))

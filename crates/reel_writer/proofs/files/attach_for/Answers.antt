@@ -1,7 +1,8 @@
 use Rattle.std.proofs.Common.{◌≡◌, ◌<◌, ◌∙◌, ℕ, List, length, ap, inl, subst}
 use Rattle.cf_base.specs.declared.file.FileId.{FileId}
 use Rattle.conform_job.specs.Job.{file_of}
-use Rattle.resume_ledger.specs.Sound.{file_at, IsOpeningRun, AddsNone}
+use Rattle.resume_ledger.specs.Safe.{IsSafeOpening}
+use Rattle.resume_ledger.specs.Sound.{file_at, AddsNone}
 use Rattle.resume_ledger.specs.Attach.{HasAttached}
 use Rattle.resume_ledger.specs.OpeningCalls.{Attaches}
 use Rattle.reel_disk.proofs.Writing.{writing_none}
@@ -11,11 +12,8 @@ use Rattle.reel_writer.proofs.ReelLaws.{job_run, job_attached, job_frames}
 use Rattle.reel_writer.proofs.files.attach_for.Goals as goal
 
 -- nothing was done
-pub returns-in_default-clause-run : goal.returns-in_default-clause-run
-returns-in_default-clause-run g c told = (reading_part _ _ _ _ _ _ (reading_itself (g.D.Disk.state c.args.disk.now).history)).run
-
-pub returns-in_default-clause-adds_none : goal.returns-in_default-clause-adds_none
-returns-in_default-clause-adds_none g c told = (reading_part c.args.job.now.parts.digest (frames_of c.args.job.now) (file_of c.args.job.now) c.args.size _ _ (reading_itself (g.D.Disk.state c.args.disk.now).history)).adds_none
+pub returns-in_default-clause-safe : goal.returns-in_default-clause-safe
+returns-in_default-clause-safe g c told = reading_part _ _ _ _ _ _ (reading_itself (g.D.Disk.state c.args.disk.now).history)
 
 pub returns-in_default-clause-own : goal.returns-in_default-clause-own
 returns-in_default-clause-own g c = writing_none
@@ -34,18 +32,19 @@ returns-clause-answer g c told =
     job_attached c.args.job.now c.deref.result.now c.args.size long each (g.D.Disk.state c.args.disk.now).history (g.D.Disk.state c.attach.new.disk).history c.attach.result
     (subst (λ (d : List ℕ). HasAttached d (length c.deref.result.now) (file_at c.deref.result.now) c.args.size (g.D.Disk.state c.args.disk.now).history (g.D.Disk.state c.attach.new.disk).history c.attach.result) c.digest.ensures (c.attach.ensures.answer told))
 
-pub returns-clause-run : goal.returns-clause-run
-returns-clause-run g c told =
+pub returns-clause-safe : goal.returns-clause-safe
+returns-clause-safe g c told =
     let long : length c.deref.result.now ≡ frames_of c.args.job.now = ap length c.deref.ensures.value ∙ c.in-Ok.ensures.size in
     let each : (i : ℕ) → i < frames_of c.args.job.now → file_at c.deref.result.now i ≡ file_of c.args.job.now i = λ i lt. ap (λ (l : List FileId). file_at l i) c.deref.ensures.value ∙ c.in-Ok.ensures.each i lt in
-    job_run c.args.job.now c.deref.result.now c.args.size long each (g.D.Disk.state c.args.disk.now).history (g.D.Disk.state c.attach.new.disk).history
-    (subst (λ (d : List ℕ). IsOpeningRun d (length c.deref.result.now) (file_at c.deref.result.now) c.args.size (g.D.Disk.state c.args.disk.now).history (g.D.Disk.state c.attach.new.disk).history) c.digest.ensures (c.attach.ensures.run told))
-
-pub returns-clause-adds_none : goal.returns-clause-adds_none
-returns-clause-adds_none g c told =
-    let long : length c.deref.result.now ≡ frames_of c.args.job.now = ap length c.deref.ensures.value ∙ c.in-Ok.ensures.size in
-    subst (λ n. AddsNone c.args.job.now.parts.digest n (g.D.Disk.state c.args.disk.now).history (g.D.Disk.state c.attach.new.disk).history) long
-    (subst (λ (d : List ℕ). AddsNone d (length c.deref.result.now) (g.D.Disk.state c.args.disk.now).history (g.D.Disk.state c.attach.new.disk).history) c.digest.ensures (c.attach.ensures.adds_none told))
+    let before = (g.D.Disk.state c.args.disk.now).history in
+    let after = (g.D.Disk.state c.attach.new.disk).history in
+    let safe = subst (λ (d : List ℕ). IsSafeOpening d (length c.deref.result.now) (file_at c.deref.result.now) c.args.size before after) c.digest.ensures (c.attach.ensures.safe told) in
+    record {
+      run = job_run c.args.job.now c.deref.result.now c.args.size long each before after safe.run;
+      adds_none = subst (λ n. AddsNone c.args.job.now.parts.digest n before after) long safe.adds_none;
+      spares = safe.spares;
+      writes = safe.writes;
+    }
 
 pub returns-clause-calls : goal.returns-clause-calls
 returns-clause-calls g c =

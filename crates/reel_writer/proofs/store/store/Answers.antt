@@ -1,10 +1,9 @@
-use Rattle.std.specs.Prelude.{Some}
-use Rattle.std.proofs.Common.{◌≡◌, ◌∙◌, true, inl, inr}
-use Rattle.reel_disk.specs.Disk.{moment_of, view_of}
+use Rattle.std.proofs.Common.{◌≡◌, true, inl, inr}
+use Rattle.reel_disk.specs.Disk.{moment_of}
 use Rattle.reel_disk.specs.Runs.{Surely}
 use Rattle.reel_disk.proofs.Writing.{writing_then, writing_wider}
 use Rattle.reel_writer.specs.Reel.{HasStored}
-use Rattle.reel_writer.proofs.Finishing.{finishing_along, wrote, agrees_still, shown_still, stored_still, given_ok}
+use Rattle.reel_writer.proofs.Finishing.{finishing_along, wrote, agrees_still, stored_still, given_ok}
 use Rattle.reel_writer.proofs.store.store.Goals as goal
 
 -- the file wasn't stored
@@ -23,10 +22,6 @@ returns-clause-finishing g c told =
 
 pub returns-clause-ledger : goal.returns-clause-ledger
 returns-clause-ledger g c = c.acknowledge.ensures.ledger
-
-pub returns-clause-shown : goal.returns-clause-shown
-returns-clause-shown g c = given_ok c.acknowledge.result (g.D.Disk.tells ≡ true → view_of (g.D.Disk.state c.acknowledge.new.disk).history c.args.file ≡ Some c.args.bytes.now)
-    (λ told. shown_still c.args.file c.requires.frame _ _ (c.acknowledge.ensures.past told) (c.acknowledge.ensures.spares told) ∙ (c.in-Ok.ensures.firmly told).there)
 
 pub returns-clause-stored : goal.returns-clause-stored
 returns-clause-stored g c = given_ok c.acknowledge.result (g.D.Disk.tells ≡ true → Surely (moment_of (g.D.Disk.state c.acknowledge.new.disk).history) (HasStored c.args.file c.args.bytes.now))

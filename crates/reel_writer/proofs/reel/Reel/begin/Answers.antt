@@ -5,20 +5,18 @@ use Rattle.resume_ledger.specs.Ledger.{Agrees}
 use Rattle.conform_job.specs.Job.{JobData, file_of}
 use Rattle.conform_job.specs.Refusals as sources
 use Rattle.frame_render.specs.Frame.{frame_file, frame_size}
-use Rattle.resume_ledger.specs.Sound.{IsOpeningRun, AddsNone}
+use Rattle.resume_ledger.specs.Safe.{IsSafeOpening}
 use Rattle.reel_disk.proofs.Writing.{writing_none}
 use Rattle.resume_ledger.proofs.Reading.{reading_itself, reading_part}
 use Rattle.reel_writer.specs.Calls.{Opens}
 use Rattle.reel_writer.specs.Reel.{frames_of}
-use Rattle.reel_writer.proofs.ReelLaws.{reel_run_itself, opened_run, opens_for, sound_has}
+use Rattle.reel_writer.proofs.ReelLaws.{opens_for, safe_beginning, sound_has}
 use Rattle.reel_writer.proofs.reel.Reel.begin.Goals as goal
 
 -- no memory
-pub returns-in_default-clause-run : goal.returns-in_default-clause-run
-returns-in_default-clause-run g c told = reel_run_itself g.N.Work.job g.N.Work.files (g.D.Disk.state c.args.disk).history
-
-pub returns-in_default-clause-adds_none : goal.returns-in_default-clause-adds_none
-returns-in_default-clause-adds_none g c told = (reading_part g.N.Work.job.parts.digest (frames_of g.N.Work.job) (file_of g.N.Work.job) (frame_size g.N.Work.job) _ _ (reading_itself (g.D.Disk.state c.args.disk).history)).adds_none
+pub returns-in_default-clause-safe : goal.returns-in_default-clause-safe
+returns-in_default-clause-safe g c told =
+    safe_beginning g.N.Work.job g.N.Work.files _ _ (reading_part g.N.Work.job.parts.digest (frames_of g.N.Work.job) (file_of g.N.Work.job) (frame_size g.N.Work.job) _ _ (reading_itself (g.D.Disk.state c.args.disk).history))
 
 pub returns-in_default-clause-sound_has : goal.returns-in_default-clause-sound_has
 returns-in_default-clause-sound_has g c = sound_has g.N.Work.job (subst (λ (j : JobData). (s : sources.Files) (i : ℕ) → length (frame_file j s i) ≡ frame_size j) c.requires.job c.frame_len-size.ensures.each)
@@ -33,14 +31,11 @@ pub returns-in_default-clause-own : goal.returns-in_default-clause-own
 returns-in_default-clause-own g c = writing_none
 
 -- the folder was opened
-pub returns-in-Ok-attach_for-clause-run : goal.returns-in-Ok-attach_for-clause-run
-returns-in-Ok-attach_for-clause-run g c told =
-    opened_run g.N.Work.job g.N.Work.files (g.D.Disk.state c.args.disk).history (g.D.Disk.state c.attach_for.new.disk).history
-    (subst (λ (j : JobData). IsOpeningRun j.parts.digest (frames_of j) (file_of j) (frame_size j) (g.D.Disk.state c.args.disk).history (g.D.Disk.state c.attach_for.new.disk).history) c.requires.job
-    (subst (λ n. IsOpeningRun c.args.job.now.parts.digest (frames_of c.args.job.now) (file_of c.args.job.now) n (g.D.Disk.state c.args.disk).history (g.D.Disk.state c.attach_for.new.disk).history) c.frame_len-size.ensures.size (c.attach_for.ensures.run told)))
-
-pub returns-in-Ok-attach_for-clause-adds_none : goal.returns-in-Ok-attach_for-clause-adds_none
-returns-in-Ok-attach_for-clause-adds_none g c told = subst (λ (j : JobData). AddsNone j.parts.digest (frames_of j) (g.D.Disk.state c.args.disk).history (g.D.Disk.state c.attach_for.new.disk).history) c.requires.job (c.attach_for.ensures.adds_none told)
+pub returns-in-Ok-attach_for-clause-safe : goal.returns-in-Ok-attach_for-clause-safe
+returns-in-Ok-attach_for-clause-safe g c told =
+    safe_beginning g.N.Work.job g.N.Work.files (g.D.Disk.state c.args.disk).history (g.D.Disk.state c.attach_for.new.disk).history
+    (subst (λ (j : JobData). IsSafeOpening j.parts.digest (frames_of j) (file_of j) (frame_size j) (g.D.Disk.state c.args.disk).history (g.D.Disk.state c.attach_for.new.disk).history) c.requires.job
+    (subst (λ n. IsSafeOpening c.args.job.now.parts.digest (frames_of c.args.job.now) (file_of c.args.job.now) n (g.D.Disk.state c.args.disk).history (g.D.Disk.state c.attach_for.new.disk).history) c.frame_len-size.ensures.size (c.attach_for.ensures.safe told)))
 
 pub returns-in-Ok-attach_for-clause-calls : goal.returns-in-Ok-attach_for-clause-calls
 returns-in-Ok-attach_for-clause-calls g c =
@@ -55,18 +50,15 @@ returns-in-Ok-attach_for-clause-own g c = c.in-Ok-attach_for.ensures.own
 pub returns-in-Err-clause-own : goal.returns-in-Err-clause-own
 returns-in-Err-clause-own g c = c.in-Err.ensures.own
 
+pub returns-in-Err-clause-safe : goal.returns-in-Err-clause-safe
+returns-in-Err-clause-safe g c told =
+    safe_beginning g.N.Work.job g.N.Work.files (g.D.Disk.state c.args.disk).history (g.D.Disk.state c.attach_for.new.disk).history
+    (subst (λ (j : JobData). IsSafeOpening j.parts.digest (frames_of j) (file_of j) (frame_size j) (g.D.Disk.state c.args.disk).history (g.D.Disk.state c.attach_for.new.disk).history) c.requires.job
+    (subst (λ n. IsSafeOpening c.args.job.now.parts.digest (frames_of c.args.job.now) (file_of c.args.job.now) n (g.D.Disk.state c.args.disk).history (g.D.Disk.state c.attach_for.new.disk).history) c.frame_len-size.ensures.size (c.attach_for.ensures.safe told)))
+
 pub returns-in-Err-clause-calls : goal.returns-in-Err-clause-calls
 returns-in-Err-clause-calls g c =
     opens_for c.args.job.now g.N.Work.job _ (Err c.in-Err.fault) _ _ c.requires.job c.frame_len-size.ensures.size c.in-Err.ensures.calls
-
-pub returns-in-Err-clause-run : goal.returns-in-Err-clause-run
-returns-in-Err-clause-run g c told =
-    opened_run g.N.Work.job g.N.Work.files (g.D.Disk.state c.args.disk).history (g.D.Disk.state c.attach_for.new.disk).history
-    (subst (λ (j : JobData). IsOpeningRun j.parts.digest (frames_of j) (file_of j) (frame_size j) (g.D.Disk.state c.args.disk).history (g.D.Disk.state c.attach_for.new.disk).history) c.requires.job
-    (subst (λ n. IsOpeningRun c.args.job.now.parts.digest (frames_of c.args.job.now) (file_of c.args.job.now) n (g.D.Disk.state c.args.disk).history (g.D.Disk.state c.attach_for.new.disk).history) c.frame_len-size.ensures.size (c.attach_for.ensures.run told)))
-
-pub returns-in-Err-clause-adds_none : goal.returns-in-Err-clause-adds_none
-returns-in-Err-clause-adds_none g c told = subst (λ (j : JobData). AddsNone j.parts.digest (frames_of j) (g.D.Disk.state c.args.disk).history (g.D.Disk.state c.attach_for.new.disk).history) c.requires.job (c.attach_for.ensures.adds_none told)
 
 pub invariant_of-result : goal.invariant_of-result
 invariant_of-result g c =

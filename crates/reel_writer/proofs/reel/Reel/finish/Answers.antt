@@ -8,10 +8,11 @@ use Rattle.reel_disk.specs.Call.{Call, OnlyWrites}
 use Rattle.reel_disk.specs.Runs.{Spares}
 use Rattle.resume_ledger.specs.Sound.{AddsAtMost}
 use Rattle.reel_disk.specs.Disk.{moment_of}
+use Rattle.reel_disk.proofs.Images.{view_is_image}
 use Rattle.resume_ledger.specs.Ledger.{LedgerState, Agrees}
 use Rattle.reel_writer.specs.Calls.{Finishes}
 use Rattle.reel_writer.specs.View.{ReelView, after_fault}
-use Rattle.reel_writer.specs.Reel.{frames_of, IsReelRun, KeepsReel, IsWrittenFile}
+use Rattle.reel_writer.specs.Reel.{frames_of, IsReelRun, IsSafeFinish, KeepsReel, IsWrittenFile}
 use Rattle.reel_writer.specs.inside.Reel.{IsFinishing}
 use Rattle.reel_writer.proofs.Keeping.{acked_more, once_more, kept_more, has_room, disk_along, gates_same}
 use Rattle.reel_writer.proofs.ReelLaws.{finishing_of, finished_run, acked_of}
@@ -40,14 +41,13 @@ module _ (g : given.Over) (c : After-bytes g) (after : g.row.D.Denot)
       (finished_run g.N.Work.job g.N.Work.files (g.D.Disk.state c.self.inside.disk).history (g.D.Disk.state after).history c.args.frame.now.index c.bytes.result.now
       (subst (λ n. IsFileOf g.N.Work.job g.N.Work.files n c.bytes.result.now) (ap (λ (f : FrameBytes). f.index) c.frame-frame.ensures) c.bytes.ensures.defined) finishing)
 
-  none_lost : KeepsReel g.N.Work.job (g.D.Disk.state c.args.self.now.disk).history (g.D.Disk.state after).history
-  none_lost = disk_along _ _ c.self.view_is (λ d. KeepsReel g.N.Work.job (g.D.Disk.state d).history (g.D.Disk.state after).history) finishing.keeps
-
-  others : AddsAtMost c.args.frame.now.index g.N.Work.job.parts.digest (frames_of g.N.Work.job) (g.D.Disk.state c.args.self.now.disk).history (g.D.Disk.state after).history
-  others = disk_along _ _ c.self.view_is (λ d. AddsAtMost c.args.frame.now.index g.N.Work.job.parts.digest (frames_of g.N.Work.job) (g.D.Disk.state d).history (g.D.Disk.state after).history) finishing.others
-
-  spares : Spares (g.D.Disk.state c.args.self.now.disk).history (g.D.Disk.state after).history (IsWrittenFile (file_of g.N.Work.job c.args.frame.now.index))
-  spares = disk_along _ _ c.self.view_is (λ d. Spares (g.D.Disk.state d).history (g.D.Disk.state after).history (IsWrittenFile (file_of g.N.Work.job c.args.frame.now.index))) finishing.spares
+  safe : IsSafeFinish g.N.Work.job g.N.Work.files c.args.frame.now.index (g.D.Disk.state c.args.self.now.disk).history (g.D.Disk.state after).history
+  safe = record {
+    run = ran;
+    none_lost = disk_along _ _ c.self.view_is (λ d. KeepsReel g.N.Work.job (g.D.Disk.state d).history (g.D.Disk.state after).history) finishing.keeps;
+    others = disk_along _ _ c.self.view_is (λ d. AddsAtMost c.args.frame.now.index g.N.Work.job.parts.digest (frames_of g.N.Work.job) (g.D.Disk.state d).history (g.D.Disk.state after).history) finishing.others;
+    spares = disk_along _ _ c.self.view_is (λ d. Spares (g.D.Disk.state d).history (g.D.Disk.state after).history (IsWrittenFile (file_of g.N.Work.job c.args.frame.now.index))) finishing.spares;
+  }
 
 -- the calls that were made
 called : (g : given.Over) (c : After-bytes g) {A B : Type 0} (result : Result A B) (after : List Call) → c.bytes.result.now ≡ c.args.frame.now.bytes
@@ -72,17 +72,8 @@ own g c after writing =
 pub returns-in-Ok-clause-own : goal.returns-in-Ok-clause-own
 returns-in-Ok-clause-own g c = own g (goal.at.returns-in-Ok-clause-own g c).After-bytes (g.D.Disk.state c.store.new.disk).calls c.store.ensures.own
 
-pub returns-in-Ok-clause-run : goal.returns-in-Ok-clause-run
-returns-in-Ok-clause-run g c told = ran g (goal.at.returns-in-Ok-clause-run g c).After-bytes c.store.new.disk (c.store.ensures.finishing told)
-
-pub returns-in-Ok-clause-none_lost : goal.returns-in-Ok-clause-none_lost
-returns-in-Ok-clause-none_lost g c told = none_lost g (goal.at.returns-in-Ok-clause-none_lost g c).After-bytes c.store.new.disk (c.store.ensures.finishing told)
-
-pub returns-in-Ok-clause-others : goal.returns-in-Ok-clause-others
-returns-in-Ok-clause-others g c told = others g (goal.at.returns-in-Ok-clause-others g c).After-bytes c.store.new.disk (c.store.ensures.finishing told)
-
-pub returns-in-Ok-clause-spares : goal.returns-in-Ok-clause-spares
-returns-in-Ok-clause-spares g c told = spares g (goal.at.returns-in-Ok-clause-spares g c).After-bytes c.store.new.disk (c.store.ensures.finishing told)
+pub returns-in-Ok-clause-safe : goal.returns-in-Ok-clause-safe
+returns-in-Ok-clause-safe g c told = safe g (goal.at.returns-in-Ok-clause-safe g c).After-bytes c.store.new.disk (c.store.ensures.finishing told)
 
 pub returns-in-Ok-clause-calls : goal.returns-in-Ok-clause-calls
 returns-in-Ok-clause-calls g c =
@@ -96,17 +87,8 @@ pub returns-in-Err-clause-calls : goal.returns-in-Err-clause-calls
 returns-in-Err-clause-calls g c =
     called g (goal.at.returns-in-Err-clause-calls g c).After-bytes {A = Unit {0}} {B = Unit {0}} (Err tt) (g.D.Disk.state c.store.new.disk).calls (search rules) c.in-Err.ensures.calls
 
-pub returns-in-Err-clause-run : goal.returns-in-Err-clause-run
-returns-in-Err-clause-run g c told = ran g (goal.at.returns-in-Err-clause-run g c).After-bytes c.store.new.disk (c.store.ensures.finishing told)
-
-pub returns-in-Err-clause-none_lost : goal.returns-in-Err-clause-none_lost
-returns-in-Err-clause-none_lost g c told = none_lost g (goal.at.returns-in-Err-clause-none_lost g c).After-bytes c.store.new.disk (c.store.ensures.finishing told)
-
-pub returns-in-Err-clause-others : goal.returns-in-Err-clause-others
-returns-in-Err-clause-others g c told = others g (goal.at.returns-in-Err-clause-others g c).After-bytes c.store.new.disk (c.store.ensures.finishing told)
-
-pub returns-in-Err-clause-spares : goal.returns-in-Err-clause-spares
-returns-in-Err-clause-spares g c told = spares g (goal.at.returns-in-Err-clause-spares g c).After-bytes c.store.new.disk (c.store.ensures.finishing told)
+pub returns-in-Err-clause-safe : goal.returns-in-Err-clause-safe
+returns-in-Err-clause-safe g c told = safe g (goal.at.returns-in-Err-clause-safe g c).After-bytes c.store.new.disk (c.store.ensures.finishing told)
 
 pub returns-in-Ok-clause-acked : goal.returns-in-Ok-clause-acked
 returns-in-Ok-clause-acked g c told =
@@ -118,6 +100,11 @@ returns-in-Ok-clause-stored g c told files image =
     let file : c.file.result ≡ file_of g.N.Work.job c.args.frame.now.index = c.file.ensures.own ∙ ap (λ (f : FrameBytes). file_of g.N.Work.job f.index) c.frame-frame.ensures in
     let bytes : c.bytes.result.now ≡ c.args.frame.now.bytes = search rules in
     ap files (sym file) ∙ c.in-Ok.ensures.stored told files image ∙ ap Some bytes
+
+pub returns-in-Ok-clause-shown : goal.returns-in-Ok-clause-shown
+returns-in-Ok-clause-shown g c told =
+    let now = moment_of (g.D.Disk.state c.store.new.disk).history in
+    returns-in-Ok-clause-stored g c told now.view (view_is_image now)
 
 pub push_reserved-requires : goal.push_reserved-requires
 push_reserved-requires g c =
