@@ -3,17 +3,18 @@ use Rattle.std.proofs.Common.{◌≡◌, inl, inr, ℕ, ◌<◌, Bool, true, fal
 use Rattle.std.specs.Prelude.{◌⊎◌, ◌↔◌, Result, Ok, Err, IfErr, count_by}
 use Rattle.conform_job.specs.Job.{JobData}
 use Rattle.reel_disk.specs.Disk.{Files, Moment, History, IsStill, view_of}
-use Rattle.resume_ledger.specs.Attach.{IsRefused, IsRefusalFor}
+use Rattle.cf_base.specs.declared.file.FileId.{FileId}
+use Rattle.resume_ledger.specs.Attach.{IsRefused, IsRefusalFor, OpeningMayWrite}
 use Rattle.resume_ledger.specs.Ledger.{IsFit}
 use Rattle.resume_ledger.specs.Look.{ViewState, IsViewOf}
 use Rattle.resume_ledger.specs.declared.attach.OpenFault.{OpenFault}
 use Rattle.resume_ledger.specs.declared.attach.OpenFault.TheVariants as cause
-use Rattle.reel_writer.specs.Reel.{frames_of}
+use Rattle.reel_writer.specs.Reel.{frames_of, IsRunFile}
 use Rattle.reel_writer.specs.View.{ReelView}
 use Rattle.reconform.specs.declared.adopting.Adopted.{Adopted}
 use Rattle.reconform.specs.declared.adopting.AdoptFault.{AdoptFault}
 use Rattle.reconform.specs.declared.adopting.AdoptFault.TheVariants.{OldOtherJob, OldBadLedger, OtherJob, BadLedger, DiskFault, NoMemory}
-use Rattle.reconform.specs.Adopt.{HasAnswered, IsOfOld, WasOpenedWith, IsWhyUnadopted}
+use Rattle.reconform.specs.Adopt.{AdoptionMayWrite, HasAnswered, IsOfOld, WasOpenedWith, IsWhyUnadopted}
 use Rattle.reconform.specs.inside.Adopt.{AsOpened, IsStop, by_old, by_new}
 use Rattle.reconform.specs.Donor.{HasIntactDonor}
 
@@ -141,3 +142,24 @@ err_is a b is = cc
 pub never_touched : (result : Result Adopted AdoptFault) (P : Type 0) → IfErr result (λ fault. IsOfOld fault → ⊥) → IfErr result (λ fault. IsOfOld fault → P)
 never_touched (Ok done) P never = tt
 never_touched (Err fault) P never = λ of. absurd (never of)
+
+-- which files may be written, once both folders are open, and where the new one isn't opened
+pub may_adopt : {D : Type 0} (new old : JobData) (old_tells tells : Bool) (view : ViewState) (files : Files) (opened : ReelView D) (after : Files) (q : FileId) (result : Result Adopted AdoptFault)
+    → AsOpened new old old_tells tells view files opened after result → IsRunFile new 0 (frames_of new) q → AdoptionMayWrite new result q
+may_adopt new old old_tells tells view files opened after q (Ok done) is own = own
+may_adopt new old old_tells tells view files opened after q (Err (OldOtherJob kept wanted)) (inl is) own = absurd (cc)
+may_adopt new old old_tells tells view files opened after q (Err (OldOtherJob kept wanted)) (inr is) own = absurd (cc)
+may_adopt new old old_tells tells view files opened after q (Err (OldBadLedger len)) (inl is) own = absurd (cc)
+may_adopt new old old_tells tells view files opened after q (Err (OldBadLedger len)) (inr is) own = absurd (cc)
+may_adopt new old old_tells tells view files opened after q (Err (OtherJob kept wanted)) (inl is) own = absurd (cc)
+may_adopt new old old_tells tells view files opened after q (Err (OtherJob kept wanted)) (inr is) own = absurd (cc)
+may_adopt new old old_tells tells view files opened after q (Err (BadLedger len)) (inl is) own = absurd (cc)
+may_adopt new old old_tells tells view files opened after q (Err (BadLedger len)) (inr is) own = absurd (cc)
+may_adopt new old old_tells tells view files opened after q (Err DiskFault) is own = own
+may_adopt new old old_tells tells view files opened after q (Err NoMemory) is own = own
+
+pub may_refuse : (new : JobData) (q : FileId) (fault : OpenFault) → OpeningMayWrite (Err fault) q → AdoptionMayWrite new (Err (by_new fault)) q
+may_refuse new q (cause.OtherJob kept wanted) own = absurd own
+may_refuse new q (cause.BadLedger len) own = absurd own
+may_refuse new q cause.DiskFault own = inl own
+may_refuse new q cause.NoMemory own = absurd own

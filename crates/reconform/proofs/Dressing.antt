@@ -15,7 +15,7 @@ use Rattle.frame_render.specs.Frame.{IsFileOf, frame_file, frame_size}
 use Rattle.reel_disk.specs.Disk.{Files}
 use Rattle.resume_ledger.specs.Look.{ViewState, hash_at}
 use Rattle.reel_writer.specs.Reel.{frames_of}
-use Rattle.reconform.specs.inside.Ahead.{IsKept, HoldsDonor, HoldsFrame, CanFinish}
+use Rattle.reconform.specs.inside.Ahead.{IsKept, HoldsDonor, CanFinish}
 use Rattle.reconform.specs.Donor.{HasIntactDonor, IsOfHash}
 use Rattle.reconform.specs.inside.Donor.{IsLeast, donor_in}
 use Rattle.reconform.specs.inside.Parts.{HasDonors, WasLookedAt}

@@ -6,19 +6,21 @@ use Rattle.reel_disk.specs.State.{DiskState, LeavesDisk}
 use Rattle.scan_source.specs.World.{World, file_at}
 use Rattle.conform_job.specs.Job.{JobData, file_of}
 use Rattle.reel_disk.specs.Disk.{Files, Moment, History, IsStill, moment_of, view_of}
-use Rattle.reel_disk.specs.Runs.{Spares}
 use Rattle.reel_disk.proofs.Images.{view_is_image}
 use Rattle.reel_disk.proofs.Moments.{keeps_along}
 use Rattle.reel_disk.proofs.Sparing.{spares_along, spares_itself, spares_wider}
+use Rattle.reel_disk.proofs.Writing.{writing_none, writing_then, writing_wider}
+use Rattle.reel_disk.specs.Call.{OnlyWrites}
 use Rattle.resume_ledger.specs.Ledger.{Acks, Agrees, AreFlagsOf, HasOwn, IsFit, IsInForce}
 use Rattle.resume_ledger.specs.declared.layout.Version.{Version}
 use Rattle.resume_ledger.specs.declared.layout.Version.TheVariants.{One, Two}
 use Rattle.resume_ledger.specs.Look.{ViewState, IsViewOf}
 use Rattle.resume_ledger.specs.Sound.{IsSound}
 use Rattle.resume_ledger.proofs.Versions.{agrees_shown}
-use Rattle.reel_writer.specs.inside.Changes.{IsRunFile}
-use Rattle.reel_writer.specs.Reel.{frames_of, reel_of, HasAcked, IsReelRun, IsWrittenFile, KeepsReel}
+use Rattle.reel_writer.specs.inside.Changes.{IsUnfinishedFile}
+use Rattle.reel_writer.specs.Reel.{frames_of, reel_of, HasAcked, IsSafeFinish, IsWrittenFile}
 use Rattle.reel_writer.specs.View.{ReelView, IsReelOf}
+use Rattle.reel_writer.proofs.OwnFiles.{frame_of_run}
 use Rattle.reel_writer.proofs.ReelLaws.{reel_run_along, reel_run_itself}
 use Rattle.reel_writer.proofs.Writing.{kept_itself, run_file, run_file_before}
 use Rattle.reconform.specs.Adopt.{CanServe, IsCaused, LeavesBoth}
@@ -50,17 +52,19 @@ module _ {job : JobData} {told : Option World} {tells : Bool} where
   part_itself {gates = gates} {disk = disk} = record {
     run = λ is. reel_run_itself job told disk.history;
     none_lost = λ is. kept_itself job disk.history;
-    spares = λ is. spares_itself disk.history (IsRunFile job gates);
+    spares = λ is. spares_itself disk.history (IsUnfinishedFile job gates);
+    own = writing_none;
   }
 
   -- a frame whose gate was closed was finished
   pub part_finished : {gates : List Bool} (i index : ℕ) → index ≡ i → i < frames_of job → get_or gates i false ≡ false → {before after : DiskState}
-      → (tells ≡ true → IsReelRun job told before.history after.history) → (tells ≡ true → KeepsReel job before.history after.history)
-      → (tells ≡ true → Spares before.history after.history (IsWrittenFile (file_of job index))) → IsPart job told tells gates before after
-  part_finished {gates = gates} i index same within shut run none_lost spares = record {
-    run = run;
-    none_lost = none_lost;
-    spares = λ is. spares_wider _ _ (IsWrittenFile (file_of job index)) (IsRunFile job gates) (run_file job gates i index same within shut) (spares is);
+      → (tells ≡ true → IsSafeFinish job told index before.history after.history) → OnlyWrites (IsWrittenFile (file_of job index)) before.calls after.calls
+      → IsPart job told tells gates before after
+  part_finished {gates = gates} i index same within shut safe own = record {
+    run = λ is. (safe is).run;
+    none_lost = λ is. (safe is).none_lost;
+    spares = λ is. spares_wider _ _ (IsWrittenFile (file_of job index)) (IsUnfinishedFile job gates) (run_file job gates i index same within shut) (safe is).spares;
+    own = writing_wider (frame_of_run job 0 (frames_of job) index (omega arith) (omega (arith, same, within))) own;
   }
 
   -- one part behind another
@@ -69,8 +73,9 @@ module _ {job : JobData} {told : Option World} {tells : Bool} where
   part_along {before = before} {gates = gates} grows first second = record {
     run = λ is. reel_run_along job told _ _ _ (first.run is) (second.run is) (second.none_lost is);
     none_lost = λ is k. keeps_along (HasAcked job k) _ _ _ (first.run is).extends (second.run is).extends (first.none_lost is k) (second.none_lost is k);
-    spares = λ is. spares_along _ _ _ (IsRunFile job before) (first.run is).extends (second.run is).extends (first.spares is)
-        (spares_wider _ _ (IsRunFile job gates) (IsRunFile job before) (run_file_before job before gates grows) (second.spares is));
+    spares = λ is. spares_along _ _ _ (IsUnfinishedFile job before) (first.run is).extends (second.run is).extends (first.spares is)
+        (spares_wider _ _ (IsUnfinishedFile job gates) (IsUnfinishedFile job before) (run_file_before job before gates grows) (second.spares is));
+    own = writing_then first.own second.own;
   }
 
 -- the counts as they were when it began

@@ -6,18 +6,23 @@
 --     WasAdopted      which frames are acknowledged at the end, and how many of them were adopted
 --     IsWhyUnadopted      why there was no adoption
 --     LeavesBoth      what a call leaves of the two disks, whatever it comes to
-use Rattle.std.specs.Prelude.{◌≡◌, ◌≢◌, ◌⊎◌, ◌↔◌, ℕ, ◌+◌, ◌<◌, ◌≤◌, Bool, true, false, List, count_by, slice_index_or, Result, Ok, Err}
+--     AdoptionMayWrite      which files it may write over any disk
+--     IsSafeAdoption      what it keeps in the new folder at each moment, the opening among it
+use Rattle.std.specs.Prelude.{◌≡◌, ◌≢◌, ◌⊎◌, ◌↔◌, ℕ, ◌+◌, ◌<◌, ◌≤◌, Bool, true, false, List, count_by, slice_index_or, Option, Result, Ok, Err}
 use Rattle.cf_base.specs.Count.{HasRisen}
 use Rattle.scan_source.specs.World.{World, file_at}
 use Rattle.conform_job.specs.Job.{JobData}
+use Rattle.cf_base.specs.declared.file.FileId.{FileId}
+use Rattle.reel_disk.specs.Call.{OnlyWrites}
 use Rattle.reel_disk.specs.Disk.{Files, History, view_of}
+use Rattle.reel_disk.specs.Runs.{Spares}
 use Rattle.reel_disk.specs.State.{DiskState}
 use Rattle.resume_ledger.specs.Attach.{IsOtherJob, IsBadLedger}
 use Rattle.resume_ledger.specs.Ledger.{IsFit, AreFlagsOf}
 use Rattle.resume_ledger.specs.Look.{ViewState, IsViewOf}
-use Rattle.resume_ledger.specs.Sound.{IsSound}
-use Rattle.reel_writer.specs.Changes.{HasKept}
-use Rattle.reel_writer.specs.Reel.{frames_of, reel_of}
+use Rattle.resume_ledger.specs.Sound.{IsSound, WritesOnly}
+use Rattle.reel_writer.specs.Changes.{HasKept, IsOwnFile, MayWrite}
+use Rattle.reel_writer.specs.Reel.{frames_of, reel_of, HasFrameFiles, IsReelRun, IsRunFile, IsSoundReel}
 use Rattle.reconform.specs.Donor.{HasIntactDonor}
 use Rattle.reconform.specs.declared.adopting.Adopted.{Adopted}
 use Rattle.reconform.specs.declared.adopting.AdoptFault.{AdoptFault}
@@ -96,5 +101,28 @@ pub record LeavesBoth (Failed : Type 0) (old old_after disk disk_after : DiskSta
   pub old_steady : (Failed → ⊥) → old_after.faults ≡ old.faults
   pub lent : disk_after.loans ≡ disk.loans
   pub old_lent : old_after.loans ≡ old.loans
+
+-- Which files an adoption may write over any disk, by what it comes to: those of a run, and none where a folder is refused.
+abbrev pub AdoptionMayWrite : JobData → Result Adopted AdoptFault → FileId → Type 0
+AdoptionMayWrite job (Ok done) q = IsRunFile job 0 (frames_of job) q
+AdoptionMayWrite job (Err (OldOtherJob kept wanted)) q = ⊥
+AdoptionMayWrite job (Err (OldBadLedger len)) q = ⊥
+AdoptionMayWrite job (Err (OtherJob kept wanted)) q = ⊥
+AdoptionMayWrite job (Err (BadLedger len)) q = ⊥
+AdoptionMayWrite job (Err DiskFault) q = IsRunFile job 0 (frames_of job) q
+AdoptionMayWrite job (Err NoMemory) q = IsRunFile job 0 (frames_of job) q
+
+-- What an adoption does to the new folder: a crash at any moment leaves only frames acknowledged that are the reel's, and no
+-- acknowledgement is lost where each frame that version 1 acknowledged had a file of a frame's length, as sound files have. No
+-- file is changed but the ledger's and those of frames that the opening didn't keep, and of the ledger's those of version 2
+-- alone are written.
+pub record IsSafeAdoption (job : JobData) (told : Option World) (tells : Bool) (result : Result Adopted AdoptFault)
+    (before after : DiskState) : Type 0 where
+  pub run : tells ≡ true → IsReelRun job told before.history after.history
+  pub sound_has : (world : World) (files : Files) → IsSoundReel job world files → HasFrameFiles job files
+  pub spares : tells ≡ true → Spares before.history after.history (IsOwnFile job (view_of before.history))
+  pub writes : tells ≡ true → WritesOnly before.history after.history (MayWrite job (view_of before.history))
+  -- by its calls, also where the disk tells nothing
+  pub own : OnlyWrites (AdoptionMayWrite job result) before.calls after.calls
 
 -- The rest is said of the frames as they are taken in order.

@@ -1,16 +1,12 @@
 //! Taking over frames of an old reel.
 ghost use Rattle.std.specs.Prelude.{◌≡◌, true, false, length, IfOk, IfSome, IfErr, IsErrOf};
-ghost use Rattle.reel_disk.specs.Disk.{Files, view_of};
+ghost use Rattle.reel_disk.specs.Disk.{view_of};
 ghost use Rattle.reel_disk.specs.State.{OnlyReads};
-ghost use Rattle.reel_disk.specs.Runs.{Spares};
 ghost use Rattle.resume_ledger.specs.Ledger.{IsInForce};
-ghost use Rattle.resume_ledger.specs.Sound.{WritesOnly};
-ghost use Rattle.reel_writer.specs.Changes.{IsOwnFile, MayWrite};
-ghost use Rattle.reel_writer.specs.Reel.{frames_of, HasFrameFiles, IsReelRun, IsSoundReel};
-ghost use Rattle.scan_source.specs.World.{World};
-ghost use Rattle.reconform.specs.Adopt.{CanServe, HasAnswered, IsOfOld, LeavesBoth, LeavesBoth};
+ghost use Rattle.reel_writer.specs.Reel.{frames_of};
+ghost use Rattle.reconform.specs.Adopt.{CanServe, HasAnswered, IsOfOld, IsSafeAdoption, LeavesBoth};
 ghost use Rattle.reconform.specs.inside.Adopt.{AsOpenedFor, by_new, by_old};
-ghost use Rattle.reconform.specs.inside.Parts.{IsPart, IsSafeAdoption, WasLookedAt};
+ghost use Rattle.reconform.specs.inside.Parts.{IsPart, WasLookedAt};
 
 use crate::whole::adopt_alike;
 use conform_job::{Job, Work};
@@ -75,20 +71,13 @@ pub fn adopt<N: Work, O: Work, D: Disk, H: Hasher>(
     ensures untouched { IfErr result (λ fault. IsOfOld fault → disk.new ≡ disk.old) }
 
     // A crash at any moment leaves only frames acknowledged that are the reel's. No acknowledgement is lost, where each frame
-    // that version 1 of the ledger acknowledged at the start had a file of a frame's length, as sound files have.
-    ensures run { D.tells ≡ true → IsReelRun N.job N.files (D.state disk.old).history (D.state disk.new).history }
-    ensures sound_has { (world : World) (files : Files) → IsSoundReel N.job world files
-        → HasFrameFiles N.job files }
+    // that version 1 of the ledger acknowledged at the start had a file of a frame's length, as sound files have. In the new
+    // folder no file is changed but the ledger's and those of frames that the opening didn't keep. Of the ledger's those of
+    // version 2 alone are written. Over every disk no file is written but a run's, and none where a folder is refused.
+    ensures safe { IsSafeAdoption N.job N.files D.tells result (D.state disk.old) (D.state disk.new) }
 
     // At Ok the new folder is sealed by version 2, so the next opening keeps each frame that it acknowledges.
     ensures sealed { IfOk result (λ done. D.tells ≡ true → IsInForce Version.Two (view_of (D.state disk.new).history)) }
-
-    // In the new folder no file is changed but the ledger's and those of frames that the opening didn't keep. Of the
-    // ledger's those of version 2 alone are written.
-    ensures spares { D.tells ≡ true
-        → Spares (D.state disk.old).history (D.state disk.new).history (IsOwnFile N.job (view_of (D.state disk.old).history)) }
-    ensures writes { D.tells ≡ true
-        → WritesOnly (D.state disk.old).history (D.state disk.new).history (MayWrite N.job (view_of (D.state disk.old).history)) }
 
     // What the old folder holds stays as it is, at every moment and whatever the answer is.
     ensures reads { OnlyReads D.tells (D.state old.old) (D.state old.new) }
@@ -118,7 +107,7 @@ fn adopt_into<N: Work, O: Work, D: Disk, E: Disk, H: Hasher>(
     ensures answer { HasAnswered N.job O.job E.tells (D.state old.old).history (D.state old.new).history
         (E.state disk).history (E.state result.1).history result.0 }
     ensures untouched { IfErr result.0 (λ fault. IsOfOld fault → result.1 ≡ disk) }
-    ensures safe { IsSafeAdoption N.job N.files E.tells (E.state disk) (E.state result.1) }
+    ensures safe { IsSafeAdoption N.job N.files E.tells result.0 (E.state disk) (E.state result.1) }
     ensures sealed { IfOk result.0 (λ done. E.tells ≡ true → IsInForce Version.Two (view_of (E.state result.1).history)) }
     ensures reads { OnlyReads D.tells (D.state old.old) (D.state old.new) }
     ensures disks { LeavesBoth (IsErrOf result.0 AdoptFault.DiskFault) (D.state old.old) (D.state old.new) (E.state disk)
@@ -149,7 +138,7 @@ fn adopt_owned<N: Work, O: Work, D: Disk, E: Disk, H: Hasher>(
     ensures answer { HasAnswered N.job O.job E.tells (D.state old.old).history (D.state old.new).history
         (E.state disk).history (E.state result.1).history result.0 }
     ensures not_old { IfErr result.0 (λ fault. IsOfOld fault → ⊥) }
-    ensures safe { IsSafeAdoption N.job N.files E.tells (E.state disk) (E.state result.1) }
+    ensures safe { IsSafeAdoption N.job N.files E.tells result.0 (E.state disk) (E.state result.1) }
     ensures sealed { IfOk result.0 (λ done. E.tells ≡ true → IsInForce Version.Two (view_of (E.state result.1).history)) }
     ensures reads { OnlyReads D.tells (D.state old.old) (D.state old.new) }
     ensures disks { LeavesBoth (IsErrOf result.0 AdoptFault.DiskFault) (D.state old.old) (D.state old.new) (E.state disk)

@@ -64,9 +64,8 @@ impl Takeover<'_, '_, '_, '_> {
         requires is_open { reel.old.ledger.closed ≡ false }
         requires fresh { slice_index_or reel.old.ledger.gates i false ≡ false }
         ensures free { OnOk result (IsFree (frame_size N.job) room.new) }
-        ensures finished { OnOk result (reel.new.ledger.gates ≡ set reel.old.ledger.gates i true) }
+        ensures finished { OnOk result ((reel.new.ledger.gates ≡ set reel.old.ledger.gates i true) × (reel.new.ledger.closed ≡ false)) }
         ensures stays { IsSameReel reel.old reel.new }
-        ensures stays_open { OnOk result (reel.new.ledger.closed ≡ false) }
         ensures part { IsPart N.job N.files E.tells reel.old.ledger.gates (E.state reel.old.disk) (E.state reel.new.disk) }
         ensures disk { LeavesDisk (IsErr result) (E.state reel.old.disk) (E.state reel.new.disk) }
     {

@@ -8,20 +8,18 @@
 --     HasServed      what is done for one frame
 --     HasServedTo      what is done for some in order
 --     HasAdopted      what the frames that are taken over do to both folders
---     IsSafeAdoption      what all of it does, the opening among it
 use Rattle.std.specs.Prelude.{◌≡◌, ℕ, ◌+◌, ◌-◌, ◌/◌, ◌≤◌, Bool, true, false, List, length, Option, IfSome, Result, OnOk, IfErr, IsErr}
 use Rattle.std.specs.BTreeMap.{BTreeMap}
 use Rattle.scan_source.specs.World.{World}
 use Rattle.conform_job.specs.Job.{JobData}
+use Rattle.reel_disk.specs.Call.{OnlyWrites}
 use Rattle.reel_disk.specs.Disk.{Files, view_of}
 use Rattle.reel_disk.specs.Runs.{Spares}
 use Rattle.reel_disk.specs.State.{DiskState, OnlyReads}
 use Rattle.reel_disk.specs.declared.disk.DiskFault.{DiskFault}
 use Rattle.resume_ledger.specs.Look.{ViewState, IsViewOf}
-use Rattle.resume_ledger.specs.Sound.{WritesOnly}
-use Rattle.reel_writer.specs.Changes.{IsOwnFile, MayWrite}
-use Rattle.reel_writer.specs.inside.Changes.{IsRunFile}
-use Rattle.reel_writer.specs.Reel.{frames_of, HasFrameFiles, IsReelRun, IsSoundReel, KeepsReel}
+use Rattle.reel_writer.specs.inside.Changes.{IsUnfinishedFile}
+use Rattle.reel_writer.specs.Reel.{frames_of, IsReelRun, IsRunFile, KeepsReel}
 use Rattle.reel_writer.specs.View.{ReelView}
 use Rattle.reconform.specs.Adopt.{CanServe, LeavesBoth}
 use Rattle.reconform.specs.inside.Adopt.{AreServed, IsReelServed, IsSameReel, IsServed, IsStop}
@@ -54,11 +52,12 @@ pub record CanTake (new old : JobData) (told : Option World) (tells : Bool) (fil
 
 -- What a part does to the new folder, from where these frames were acknowledged: a crash at any moment leaves only frames
 -- acknowledged that are the reel's, no acknowledgement is lost, and no file is changed but the ledger's and those of the other
--- frames.
+-- frames; over every disk it writes no file but a run's.
 pub record IsPart (job : JobData) (told : Option World) (tells : Bool) (gates : List Bool) (before after : DiskState) : Type 0 where
   pub run : tells ≡ true → IsReelRun job told before.history after.history
   pub none_lost : tells ≡ true → KeepsReel job before.history after.history
-  pub spares : tells ≡ true → Spares before.history after.history (IsRunFile job gates)
+  pub spares : tells ≡ true → Spares before.history after.history (IsUnfinishedFile job gates)
+  pub own : OnlyWrites (IsRunFile job 0 (frames_of job)) before.calls after.calls
 
 -- how far an adoption is, in order
 pub record IsInOrder (count : ℕ) (at : Reached) : Type 0 where
@@ -111,13 +110,3 @@ pub record HasAdopted {D E : Type 0} (new old : JobData) (told : Option World)
   pub end : IfErr result IsStop
   pub part : IsPart new told reel_tells reel.ledger.gates (reel_state reel.disk) (reel_state reel_after.disk)
   pub reads : OnlyReads tells (state disk) (state disk_after)
-
--- What an adoption does to the new folder: a crash at any moment leaves only frames acknowledged that are the reel's, and no
--- acknowledgement is lost where each frame that version 1 acknowledged had a file of a frame's length, as sound files have. No
--- file is changed but the ledger's and those of frames that the opening didn't keep, and of the ledger's those of version 2
--- alone are written.
-pub record IsSafeAdoption (job : JobData) (told : Option World) (tells : Bool) (before after : DiskState) : Type 0 where
-  pub run : tells ≡ true → IsReelRun job told before.history after.history
-  pub sound_has : (world : World) (files : Files) → IsSoundReel job world files → HasFrameFiles job files
-  pub spares : tells ≡ true → Spares before.history after.history (IsOwnFile job (view_of before.history))
-  pub writes : tells ≡ true → WritesOnly before.history after.history (MayWrite job (view_of before.history))

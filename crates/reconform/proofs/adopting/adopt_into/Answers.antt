@@ -5,6 +5,7 @@ use Rattle.record_timeline.specs.Accepted.{RecordReel, frame_count}
 use Rattle.reel_disk.specs.Disk.{view_of}
 use Rattle.reel_disk.proofs.Leaving.{disk_as}
 use Rattle.reel_disk.proofs.Sparing.{spares_itself}
+use Rattle.reel_disk.proofs.Writing.{writing_none}
 use Rattle.resume_ledger.specs.Attach.{IsRefused, IsRefusalFor}
 use Rattle.resume_ledger.specs.declared.attach.OpenFault.TheVariants as cause
 use Rattle.resume_ledger.specs.Look.{IsViewOf}
@@ -76,4 +77,5 @@ returns-in-Err-clause-safe g c =
       sound_has = sound_has g.N.Work.job (length-frame_file g.N.Work.job (subst (λ (job : JobData). length job.parts.project.title ≤ 199) c.requires.new_job here));
       spares = λ told. spares_itself held (IsOwnFile g.N.Work.job (view_of held));
       writes = λ told. spares_writes may _ _ (spares_itself held may);
+      own = writing_none;
     }

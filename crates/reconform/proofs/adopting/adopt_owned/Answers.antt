@@ -1,19 +1,22 @@
 use Rattle.std.proofs.Common.{◌≡◌, inl, refl, sym, ap, ◌∙◌, subst}
 use Rattle.std.specs.Prelude.{Err}
+use Rattle.cf_base.specs.declared.file.FileId.{FileId}
+use Rattle.reel_disk.specs.Call.{OnlyWrites}
 use Rattle.reel_disk.specs.Disk.{view_of}
 use Rattle.reel_disk.proofs.Leaving.{disk_as}
 use Rattle.reel_disk.proofs.Sparing.{spares_along, spares_wider}
+use Rattle.reel_disk.proofs.Writing.{writing_then, writing_wider}
 use Rattle.resume_ledger.specs.Ledger.{IsLedgerFile, IsWrittenLedgerFile}
 use Rattle.resume_ledger.specs.declared.attach.OpenFault.TheVariants as cause
 use Rattle.resume_ledger.proofs.Reading.{spares_writes, writes_along, reads_none}
 use Rattle.reel_writer.specs.Changes.{IsOwnFile, MayWrite}
-use Rattle.reel_writer.specs.inside.Changes.{IsRunFile}
+use Rattle.reel_writer.specs.inside.Changes.{IsUnfinishedFile}
 use Rattle.reel_writer.proofs.ReelLaws.{reel_run_along}
 use Rattle.reel_writer.proofs.Writing.{own_file, own_written, writes_wider}
 use Rattle.reconform.specs.declared.adopting.AdoptFault.{AdoptFault}
-use Rattle.reconform.specs.Adopt.{IsOfOld, IsWhyUnadopted}
+use Rattle.reconform.specs.Adopt.{AdoptionMayWrite, IsOfOld, IsWhyUnadopted}
 use Rattle.reconform.specs.inside.Adopt.{by_new}
-use Rattle.reconform.proofs.Answering.{err_is, never_old, never_opened, new_disk, new_refused, opened_answer}
+use Rattle.reconform.proofs.Answering.{err_is, may_adopt, may_refuse, never_old, never_opened, new_disk, new_refused, opened_answer}
 use Rattle.reconform.proofs.Going.{both_behind, new_asked}
 use Rattle.reconform.proofs.adopting.adopt_owned.Goals as goal
 
@@ -35,13 +38,15 @@ returns-in-Ok-clause-safe g c =
     let held = view_of (g.E.Disk.state c.args.disk).history in
     let own = IsOwnFile g.N.Work.job held in
     let may = MayWrite g.N.Work.job held in
+    let mine = λ (q : FileId). may_adopt g.N.Work.job g.O.Work.job g.D.Disk.tells g.E.Disk.tells _ _ _ _ q c.adopt_opened.result.0 c.adopt_opened.ensures.answer in
     record {
-      run = λ told. reel_run_along g.N.Work.job g.N.Work.files _ _ _ (begun.run told) (part.run told) (part.none_lost told);
+      run = λ told. reel_run_along g.N.Work.job g.N.Work.files _ _ _ (begun.safe told).run (part.run told) (part.none_lost told);
       sound_has = begun.sound_has;
-      spares = λ told. spares_along _ _ _ own (begun.run told).extends (part.run told).extends (spares_wider _ _ IsLedgerFile own (λ q is. inl is) (begun.spares told))
-          (spares_wider _ _ (IsRunFile g.N.Work.job gates) own (own_file g.N.Work.job gates held (begun.answer told).gates) (part.spares told));
-      writes = λ told. writes_along may _ _ _ (begun.run told).extends (part.run told).extends (writes_wider _ _ IsWrittenLedgerFile may (λ q is. inl is) (begun.writes told))
-          (spares_writes may _ _ (spares_wider _ _ (IsRunFile g.N.Work.job gates) may (own_written g.N.Work.job gates held (begun.answer told).gates) (part.spares told)));
+      spares = λ told. spares_along _ _ _ own (begun.safe told).run.extends (part.run told).extends (spares_wider _ _ IsLedgerFile own (λ q is. inl is) (begun.safe told).spares)
+          (spares_wider _ _ (IsUnfinishedFile g.N.Work.job gates) own (own_file g.N.Work.job gates held (begun.answer told).gates) (part.spares told));
+      writes = λ told. writes_along may _ _ _ (begun.safe told).run.extends (part.run told).extends (writes_wider _ _ IsWrittenLedgerFile may (λ q is. inl is) (begun.safe told).writes)
+          (spares_writes may _ _ (spares_wider _ _ (IsUnfinishedFile g.N.Work.job gates) may (own_written g.N.Work.job gates held (begun.answer told).gates) (part.spares told)));
+      own = writing_then (writing_wider (λ q is. mine q (inl is)) begun.own) (writing_wider mine part.own);
     }
 
 pub returns-in-Err-clause-answer : goal.returns-in-Err-clause-answer
@@ -71,8 +76,10 @@ returns-in-Err-clause-safe g c =
     let begun = c.in-Err.ensures in
     let held = view_of (g.E.Disk.state c.args.disk).history in
     record {
-      run = begun.run;
+      run = λ told. (begun.safe told).run;
       sound_has = begun.sound_has;
-      spares = λ told. spares_wider _ _ IsLedgerFile (IsOwnFile g.N.Work.job held) (λ q is. inl is) (begun.spares told);
-      writes = λ told. writes_wider _ _ IsWrittenLedgerFile (MayWrite g.N.Work.job held) (λ q is. inl is) (begun.writes told);
+      spares = λ told. spares_wider _ _ IsLedgerFile (IsOwnFile g.N.Work.job held) (λ q is. inl is) (begun.safe told).spares;
+      writes = λ told. writes_wider _ _ IsWrittenLedgerFile (MayWrite g.N.Work.job held) (λ q is. inl is) (begun.safe told).writes;
+      own = subst (λ (e : AdoptFault). OnlyWrites (AdoptionMayWrite g.N.Work.job (Err e)) (g.E.Disk.state c.args.disk).calls (g.E.Disk.state c.in-Err.disk).calls) (sym c.of_new.ensures)
+          (writing_wider (λ q. may_refuse g.N.Work.job q c.in-Err.fault) begun.own);
     }

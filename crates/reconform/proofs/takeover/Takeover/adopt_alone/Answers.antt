@@ -42,10 +42,10 @@ returns-then-served-clause-done g c =
     let done = c.finish_frame.ensures in
     let old = c.read_donor.new.old in
     record {
-      served = on_ok c.finish_frame.result _ _ (λ finished told. subst (λ (gs : List Bool). IsServed g.N.Work.job g.O.Work.job c.args.self.now.view.now files c.args.i gates gs) (sym finished)
+      served = on_ok c.finish_frame.result _ _ (λ finished told. subst (λ (gs : List Bool). IsServed g.N.Work.job g.O.Work.job c.args.self.now.view.now files c.args.i gates gs) (sym finished.0)
           (served_set g.N.Work.job g.O.Work.job c.args.self.now.view.now files c.args.i gates (omega (arith, index, size)) ((c.in-Ok.ensures.intact told).0 c.if-served.true))) done.finished;
       stays = done.stays;
-      stays_open = done.stays_open;
+      stays_open = on_ok c.finish_frame.result _ _ (λ finished. finished.1) done.finished;
       part = done.part;
       reads = c.in-Ok.ensures.reads;
       disks = both_behind (λ is. is) (λ is. is) (c.in-Ok.ensures.disk.counts.steady (λ is. cc)) refl c.in-Ok.ensures.disk.lent refl

@@ -23,10 +23,10 @@ returns-in-Some-clause-done g c =
     let donor = subst (λ (frame : Option ℕ). IfSome frame (λ i. g.D.Disk.tells ≡ true → HasIntactDonor g.N.Work.job g.O.Work.job c.args.self.now.view.now files i)) (c.in-Some.ensures.holds c.finish_frame.new.room) can.holds.donor in
     let done = c.finish_frame.ensures in
     record {
-      served = on_ok c.finish_frame.result _ _ (λ finished told. subst (λ (gs : List Bool). IsServed g.N.Work.job g.O.Work.job c.args.self.now.view.now files c.args.i gates gs) (sym finished)
+      served = on_ok c.finish_frame.result _ _ (λ finished told. subst (λ (gs : List Bool). IsServed g.N.Work.job g.O.Work.job c.args.self.now.view.now files c.args.i gates gs) (sym finished.0)
           (served_set g.N.Work.job g.O.Work.job c.args.self.now.view.now files c.args.i gates (omega (arith, index, size)) (donor told))) done.finished;
       stays = done.stays;
-      stays_open = done.stays_open;
+      stays_open = on_ok c.finish_frame.result _ _ (λ finished. finished.1) done.finished;
       part = done.part;
       reads = reads_none;
       disks = new_asked done.disk;
