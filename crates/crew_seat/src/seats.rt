@@ -45,8 +45,7 @@ pub fn seat_all<S: Scans, N: Work, C: Crewed>(
     ensures numbers { (k : ℕ) (d : _) → k < vec_len scans → (slice_index_or result.items k d).number ≡ k }
     ensures fresh { All (λ s. IsFresh s) result.items }
     ensures given { HasGiven marks.old (vec_len scans) marks.new }
-    ensures shares { units.new.parts + vec_len scans ≡ units.old.parts }
-    ensures amount { units.new.amount ≡ units.old.amount }
+    ensures units { (units.new.parts + vec_len scans ≡ units.old.parts) × (units.new.amount ≡ units.old.amount) }
 {
     let mut seats = room;
     let mut number = 0;

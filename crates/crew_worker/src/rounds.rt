@@ -111,9 +111,9 @@ impl<D: Disk, N: Work + Start, C: Crewed, R: Threads + Wait + Sync> Shared<'_, D
         requires closed { seat.old.loader.units.pending ≡ 0 }
         ensures number { seat.new.number ≡ seat.old.number }
         ensures stepped { HasStepped N.files S.state 2 seat.old seat.new }
-        ensures closed { OnOk result (seat.new.loader.units.pending ≡ 0) }
         ensures room { IfOk result (λ back. length back ≡ frame_size N.job) }
-        ensures goes_on { OnOk result ((seat.new.marks ≡ seat.old.marks) × (seat.new.has_failed ≡ false)) }
+        ensures goes_on { OnOk result ((seat.new.marks ≡ seat.old.marks) × (seat.new.has_failed ≡ false)
+            × (seat.new.loader.units.pending ≡ 0)) }
         ensures left { IfErr result (HasLeft (λ why. seat.new.has_failed ≡ true → why ≡ whys.Source) seat.old.marks seat.new.marks) }
     {
         let held = match self.take_frame(seat.number) {

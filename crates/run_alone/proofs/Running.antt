@@ -13,6 +13,7 @@ use Rattle.reel_writer.specs.View.{ReelView}
 use Rattle.reel_writer.proofs.ReelLaws.{reel_run_itself}
 use Rattle.reel_writer.proofs.Writing.{kept_itself}
 use Rattle.frame_fetch.specs.Ends.{IsUnrendered}
+use Rattle.run_alone.specs.Ends.{IsEnd}
 use Rattle.run_alone.specs.inside.Ends.{IsStop}
 use Rattle.run_alone.specs.Asks.{IsNext, closed_frames, asks_of_frames}
 use Rattle.run_alone.specs.inside.Asks.{frame_if_closed}
@@ -21,7 +22,7 @@ use Rattle.run_alone.specs.Ran.{WereFinished}
 use Rattle.run_alone.specs.inside.Ran.{IsUnfinished, ArePast}
 use Rattle.reel_disk.proofs.Leaving.{disk_still}
 use Rattle.reel_disk.proofs.Writing.{writing_none}
-use Rattle.run_alone.specs.inside.Run.{AreOpened, HasRunFrame, HasRunOver, IsRangeFile}
+use Rattle.run_alone.specs.inside.Run.{AreOpened, HasRunFrame, HasRunOver, IsJustOpened, IsRangeFile}
 use Rattle.frame_fetch.specs.Sharing.{HasTried, IsPaired, asks_of}
 use Rattle.frame_fetch.specs.declared.run_end.RunEnd.{RunEnd}
 use Rattle.frame_fetch.specs.declared.run_end.RunEnd.TheVariants.{Done, OtherJob, BadLedger, Changed, SourceFault, DiskFault, NoMemory}
@@ -70,6 +71,16 @@ unrendered_stop job told (Changed key was now) stop = stop
 unrendered_stop job told SourceFault stop = tt
 unrendered_stop job told DiskFault stop = absurd stop
 unrendered_stop job told NoMemory stop = tt
+
+-- an end of a frame is one of a run whose folder is open
+pub stop_end : (job : JobData) (told : Option World) (end : RunEnd) → IsStop job told end → IsEnd job told end
+stop_end job told Done stop = absurd stop
+stop_end job told (OtherJob kept wanted) stop = absurd stop
+stop_end job told (BadLedger len) stop = absurd stop
+stop_end job told (Changed key was now) stop = stop
+stop_end job told SourceFault stop = tt
+stop_end job told DiskFault stop = tt
+stop_end job told NoMemory stop = tt
 
 -- and no fault of the disk
 unrendered_other : {R : Type 0} (job : JobData) (told : Option World) (end : RunEnd) → IsUnrendered job told end → ◌≢◌ {A = Result R RunEnd} (Err end) (Err DiskFault)
@@ -124,12 +135,13 @@ unmade i job told tells state end reel stop fresh is_open = record {
 
 -- nothing was done yet
 pub not_begun : {D : Type 0} (job : JobData) (low high : ℕ) (told : Option World) (tells : Bool) (state : D → DiskState) (end : RunEnd) (reel : ReelView D)
-    → end ≢ DiskFault → reel.acks ≡ [] → reel.ledger.closed ≡ false → HasRunOver job low high told tells state end reel reel
-not_begun job low high told tells state end reel other none is_open = record {
-  acks = subst (λ (l : List ℕ). l ≡ take (length l) (closed_frames reel.ledger.gates low high)) (sym none) refl;
-  gates = subst (λ (l : List ℕ). AreOpened reel.ledger.gates l reel.ledger.gates) (sym none) (search rules);
+    → end ≢ DiskFault → IsEnd job told end → IsJustOpened job reel → HasRunOver job low high told tells state end reel reel
+not_begun job low high told tells state end reel other is_end opened = record {
+  is_end = is_end;
+  acks = subst (λ (l : List ℕ). l ≡ take (length l) (closed_frames reel.ledger.gates low high)) (sym opened.unfinished) refl;
+  gates = subst (λ (l : List ℕ). AreOpened reel.ledger.gates l reel.ledger.gates) (sym opened.unfinished) (search rules);
   kept = refl;
-  stays_open = λ _. is_open;
+  stays_open = λ _. opened.is_open;
   failed = λ _ failed. absurd (other failed);
   run = λ _. reel_run_itself job told (state reel.disk).history;
   spares = λ _. spares_itself (state reel.disk).history (IsRangeFile job low high reel.ledger.gates);

@@ -1,23 +1,19 @@
 //! A run on one thread.
-ghost use Rattle.std.specs.Prelude.{◌≡◌, ◌≢◌, ◌≤◌, [], true, false, length};
+ghost use Rattle.std.specs.Prelude.{◌≡◌, ◌≢◌, ◌≤◌, [], length};
 ghost use Rattle.cf_base.specs.Count.{HasRisen};
 ghost use Rattle.conform_job.specs.Answers.{AreInfosOf};
 ghost use Rattle.conform_job.specs.Names.{Tells};
 ghost use Rattle.frame_share.specs.Share.{IsBlankOf, IsLegal, misses_of};
-ghost use Rattle.reel_disk.specs.Disk.{Files, moment_of, view_of};
-ghost use Rattle.reel_disk.specs.Runs.{Spares};
-ghost use Rattle.reel_disk.specs.Call.{OnlyWrites};
-ghost use Rattle.reel_disk.specs.State.{LeavesDisk};
-ghost use Rattle.resume_ledger.specs.Sound.{WritesOnly};
-ghost use Rattle.reel_writer.specs.Reel.{frames_of, HasFrameFiles, IsReelRun, IsRunFile, IsSoundReel};
-ghost use Rattle.scan_source.specs.World.{World};
+ghost use Rattle.reel_disk.specs.State.{LeavesDisk, OnDisk};
+ghost use Rattle.reel_writer.specs.Reel.{frames_of};
 ghost use Rattle.frame_fetch.specs.Ends.{IsChange};
-ghost use Rattle.run_alone.specs.Ends.{IsEnd, refused_by};
+ghost use Rattle.run_alone.specs.Ends.{refused_by};
 ghost use Rattle.run_alone.specs.Ran.{WereFinished};
-ghost use Rattle.run_alone.specs.Run.{AcksAtExit, AreAllAcked, HasWhole, IsOwnFileOf, MayWriteOf, RunMayWrite, WasRun};
-ghost use Rattle.run_alone.specs.inside.Run.{HasRunOver, IsRangeFile};
+ghost use Rattle.run_alone.specs.Run.{WasRun};
+ghost use Rattle.run_alone.specs.Safe.{IsSafeRun};
+ghost use Rattle.run_alone.specs.inside.Run.{HasRunOver, HasRunThrough, IsJustOpened};
 ghost use Rattle.frame_fetch.specs.Scanned.{IsScanned};
-ghost use Rattle.run_alone.specs.Sharing.{IsDetermined, WereShared};
+ghost use Rattle.run_alone.specs.Sharing.{IsDetermined};
 ghost use Rattle.run_alone.specs.Task.{IsTask};
 
 use crate::frames::run_frames;
@@ -46,11 +42,8 @@ fn run_shared<N: Work, L: Ledger, S: Scans, D: Disk>(
     requires files { Tells N.files (S.state scan).world }
     requires infos { AreInfosOf N.job.parts N.files N.job.infos }
     requires blank { IsBlankOf L.name L.parts blank.name blank.parts }
-    requires is_open { reel.old.ledger.closed ≡ false }
-    requires size { length reel.old.ledger.gates ≡ frames_of N.job }
-    requires unfinished { reel.old.acks ≡ [] }
+    requires opened { IsJustOpened N.job reel.old }
 
-    ensures end { IsEnd N.job N.files result.0 }
     ensures finished { WereFinished N.job task.now.range.low task.now.range.high reel.old.ledger.gates result.0
         (length reel.new.acks) result.1 }
     ensures legal { IsLegal task.now.share result.1 }
@@ -83,27 +76,13 @@ fn run_opened<N: Work, L: Ledger, S: Scans, D: Disk>(
     requires files { Tells N.files (S.state scan).world }
     requires infos { AreInfosOf N.job.parts N.files N.job.infos }
     requires blank { IsBlankOf L.name L.parts blank.name blank.parts }
-    requires is_open { reel.ledger.closed ≡ false }
-    requires size { length reel.ledger.gates ≡ frames_of N.job }
-    requires unfinished { reel.acks ≡ [] }
+    requires opened { IsJustOpened N.job reel }
 
-    ensures end { IsEnd N.job N.files result.0 }
-    ensures finished { WereFinished N.job task.now.range.low task.now.range.high reel.ledger.gates result.0
-        result.1.rendered result.2 }
-    ensures shared { WereShared task.now.share result.2 result.1 }
+    ensures ran { HasRunThrough N.job task.now.range N.files task.now.share D.tells reel.ledger.gates result.0 result.1 result.2
+        (D.state reel.disk) (D.state result.4) }
     ensures kept { result.1.kept ≡ reel.kept }
     ensures frames { result.1.frames ≡ frames_of N.job }
     ensures misses { result.1.misses ≡ result.1.loads }
-    ensures exit { D.tells ≡ true → AcksAtExit N.job task.now.range.low task.now.range.high reel.ledger.gates result.0
-        result.1.rendered (D.state result.4).history }
-    ensures acked { result.0 ≡ RunEnd.Done → D.tells ≡ true
-        → AreAllAcked N.job task.now.range.low task.now.range.high (moment_of (D.state result.4).history) }
-    ensures run { D.tells ≡ true
-        → IsReelRun N.job N.files (D.state reel.disk).history (D.state result.4).history }
-    ensures spares { D.tells ≡ true → Spares (D.state reel.disk).history (D.state result.4).history
-        (IsRangeFile N.job task.now.range.low task.now.range.high reel.ledger.gates) }
-    ensures own { OnlyWrites (IsRunFile N.job task.now.range.low task.now.range.high)
-        (D.state reel.disk).calls (D.state result.4).calls }
     ensures changed { IsChange result.0 → HasRisen (S.state scan).loads (S.state result.3).loads }
     ensures scan { IsScanned result.1.loads (result.0 ≡ RunEnd.SourceFault) (S.state scan) (S.state result.3) }
     ensures disk { LeavesDisk (result.0 ≡ RunEnd.DiskFault) (D.state reel.disk) (D.state result.4) }
@@ -146,19 +125,7 @@ fn run_owned<N: Work, L: Ledger, S: Scans, D: Disk>(
         (D.state disk).history (D.state result.3).history result.0 result.1 log.new }
     ensures frames { result.1.frames ≡ frames_of N.job }
     ensures misses { result.1.misses ≡ result.1.loads }
-    ensures acked { result.0 ≡ RunEnd.Done → D.tells ≡ true
-        → AreAllAcked N.job task.now.range.low task.now.range.high (moment_of (D.state result.3).history) }
-    ensures whole { result.0 ≡ RunEnd.Done → D.tells ≡ true
-        → HasWhole N.job task.now.range.low task.now.range.high N.files (D.state disk).history (D.state result.3).history }
-    ensures run { D.tells ≡ true → IsReelRun N.job N.files (D.state disk).history (D.state result.3).history }
-    ensures sound_has { (world : World) (files : Files) → IsSoundReel N.job world files
-        → HasFrameFiles N.job files }
-    ensures spares { D.tells ≡ true → Spares (D.state disk).history (D.state result.3).history
-        (IsOwnFileOf N.job task.now.range.low task.now.range.high (view_of (D.state disk).history)) }
-    ensures writes { D.tells ≡ true → WritesOnly (D.state disk).history (D.state result.3).history
-        (MayWriteOf N.job task.now.range.low task.now.range.high (view_of (D.state disk).history)) }
-    ensures own { OnlyWrites (RunMayWrite N.job task.now.range.low task.now.range.high result.0)
-        (D.state disk).calls (D.state result.3).calls }
+    ensures keeps { OnDisk D.tells (D.state disk) (D.state result.3) (IsSafeRun N.job task.now.range N.files result.0) }
     ensures changed { IsChange result.0 → HasRisen (S.state scan).loads (S.state result.2).loads }
     ensures scan { IsScanned result.1.loads (result.0 ≡ RunEnd.SourceFault) (S.state scan) (S.state result.2) }
     ensures disk { LeavesDisk (result.0 ≡ RunEnd.DiskFault) (D.state disk) (D.state result.3) }
@@ -210,30 +177,12 @@ pub fn run_alone<N: Work, S: Scans, D: Disk>(
     ensures frames { result.1.frames ≡ frames_of N.job }
     ensures misses { result.1.misses ≡ result.1.loads }
 
-    // At Done every image acknowledges every frame of the range, and the folder has the whole range.
-    ensures acked { result.0 ≡ RunEnd.Done → D.tells ≡ true
-        → AreAllAcked N.job task.now.range.low task.now.range.high (moment_of (D.state disk.new).history) }
-    ensures whole { result.0 ≡ RunEnd.Done → D.tells ≡ true
-        → HasWhole N.job task.now.range.low task.now.range.high N.files (D.state disk.old).history (D.state disk.new).history }
-
-    // A crash at any moment leaves only frames acknowledged that are the reel's. No acknowledgement
-    // is lost, where each frame that version 1 of the ledger acknowledged at the start had a file of
-    // a frame's length, as sound files have.
-    ensures run { D.tells ≡ true
-        → IsReelRun N.job N.files (D.state disk.old).history (D.state disk.new).history }
-    ensures sound_has { (world : World) (files : Files) → IsSoundReel N.job world files
-        → HasFrameFiles N.job files }
-
-    // No file is changed but the ledger's and those of the range's frames that the opening didn't keep. Of the
-    // ledger's those of version 2 alone are written.
-    ensures spares { D.tells ≡ true → Spares (D.state disk.old).history (D.state disk.new).history
-        (IsOwnFileOf N.job task.now.range.low task.now.range.high (view_of (D.state disk.old).history)) }
-    ensures writes { D.tells ≡ true → WritesOnly (D.state disk.old).history (D.state disk.new).history
-        (MayWriteOf N.job task.now.range.low task.now.range.high (view_of (D.state disk.old).history)) }
-
-    // Over every disk, also one that tells nothing, no file is written but these, and none where the folder is refused.
-    ensures own { OnlyWrites (RunMayWrite N.job task.now.range.low task.now.range.high result.0)
-        (D.state disk.old).calls (D.state disk.new).calls }
+    // A crash at any moment leaves only frames acknowledged that are the reel's. No acknowledgement is lost, where each frame
+    // that version 1 of the ledger acknowledged at the start had a file of a frame's length, as sound files have. At Done every
+    // image acknowledges every frame of the range, and the folder has the whole range. No file is changed but the ledger's and
+    // those of the range's frames that the opening didn't keep; of the ledger's those of version 2 alone are written. Over every
+    // disk, also one that tells nothing, no file is written but these, and none where the folder is refused.
+    ensures keeps { OnDisk D.tells (D.state disk.old) (D.state disk.new) (IsSafeRun N.job task.now.range N.files result.0) }
 
     ensures changed { IsChange result.0 → HasRisen (S.state scan.old).loads (S.state scan.new).loads }
     ensures scan { IsScanned result.1.loads (result.0 ≡ RunEnd.SourceFault) (S.state scan.old) (S.state scan.new) }

@@ -6,10 +6,9 @@ ghost use Rattle.reel_writer.specs.Reel.{frames_of};
 ghost use Rattle.reel_writer.specs.View.{IsReelOf};
 ghost use Rattle.frame_fetch.specs.Asks.{keys_of_need};
 ghost use Rattle.frame_fetch.specs.Ends.{IsChange};
-ghost use Rattle.run_alone.specs.Ends.{IsEnd};
 ghost use Rattle.run_alone.specs.inside.Ends.{IsStop};
 ghost use Rattle.run_alone.specs.Ran.{WereFinished};
-ghost use Rattle.run_alone.specs.inside.Run.{HasRunFrame, HasRunOver};
+ghost use Rattle.run_alone.specs.inside.Run.{HasRunFrame, HasRunOver, IsJustOpened};
 ghost use Rattle.frame_fetch.specs.Loading.{CanLoad, HasLoadedFor};
 ghost use Rattle.frame_fetch.specs.Scanned.{IsScanned};
 ghost use Rattle.frame_fetch.specs.Sharing.{HasAsked, HasTried};
@@ -48,7 +47,6 @@ fn run_frame<N: Work, L: Ledger, S: Scans, D: Disk>(
     requires index { i < frames_of N.job }
     requires room { length room ≡ frame_size N.job }
     requires is_open { reel.old.ledger.closed ≡ false }
-    requires size { length reel.old.ledger.gates ≡ frames_of N.job }
     requires reel { IsReelOf N.job D.tells D.state reel.old }
     requires fresh { slice_index_or reel.old.ledger.gates i false ≡ false }
 
@@ -81,12 +79,9 @@ pub(crate) fn run_frames<N: Work, L: Ledger, S: Scans, D: Disk>(
     requires task { IsTask N.job N.share task.now }
     requires ready { CanLoad S.state N.job N.files task.now.job.now 0 loader.old }
     requires none { (loader.old.loads ≡ 0) × (loader.old.units.amount ≡ 0) }
-    requires is_open { reel.old.ledger.closed ≡ false }
-    requires size { length reel.old.ledger.gates ≡ frames_of N.job }
-    requires unfinished { reel.old.acks ≡ [] }
+    requires opened { IsJustOpened N.job reel.old }
     requires unasked { share.old.steps ≡ [] }
 
-    ensures end { IsEnd N.job N.files result }
     ensures finished { WereFinished N.job task.now.range.low task.now.range.high reel.old.ledger.gates result
         (length reel.new.acks) share.new.steps }
     ensures reel { HasRunOver N.job task.now.range.low task.now.range.high N.files D.tells D.state result reel.old

@@ -4,12 +4,15 @@ use Rattle.std.specs.Prelude.{◌↔◌, Option, Some, None, IfSome, MatchOption
 use Rattle.std.proofs.lemmas.Bool.{false≢true, true≢false}
 use Rattle.std.proofs.lemmas.Option.{same_Some}
 use Rattle.cf_base.specs.declared.file.FileId.{FileId}
-use Rattle.reel_disk.specs.State.{DiskState, LeavesDisk}
+use Rattle.frame_range.specs.declared.range.FrameRange.{FrameRange}
+use Rattle.reel_disk.specs.Call.{OnlyWrites}
+use Rattle.reel_disk.specs.State.{DiskState, LeavesDisk, folder_state}
+use Rattle.reel_disk.proofs.Writing.{writing_wider}
 use Rattle.scan_source.specs.World.{World}
 use Rattle.frame_share.specs.declared.step.ShareStep.{ShareStep}
 use Rattle.conform_job.specs.Job.{JobData, file_of}
 use Rattle.frame_render.specs.Frame.{frame_size}
-use Rattle.reel_disk.specs.Disk.{Moment, History, IsFirm, IsLoose, moment_of, view_of}
+use Rattle.reel_disk.specs.Disk.{Files, Moment, History, IsFirm, IsLoose, moment_of, view_of}
 use Rattle.reel_disk.specs.Runs.{Spares}
 use Rattle.reel_disk.specs.Start.{start_of, at_start}
 use Rattle.reel_disk.proofs.Sparing.{spares_wider}
@@ -25,7 +28,7 @@ use Rattle.render_board.specs.declared.step.Step.TheVariants.{Claim, Finish, Sto
 use Rattle.render_board.specs.declared.step.Why.{Why}
 use Rattle.render_board.specs.declared.step.Why.TheVariants.{Source, Disk, Memory, Changed}
 use Rattle.reel_writer.specs.Changes.{HasKept}
-use Rattle.reel_writer.specs.Reel.{frames_of, IsReelRun, IsRunFile}
+use Rattle.reel_writer.specs.Reel.{frames_of, HasFrameFiles, IsReelRun, IsRunFile, IsSoundReel}
 use Rattle.run_alone.specs.declared.report.Report.{Report}
 use Rattle.frame_fetch.specs.declared.run_end.RunEnd.{RunEnd}
 use Rattle.frame_fetch.specs.declared.run_end.RunEnd.TheVariants.{Done, NoMemory}
@@ -38,7 +41,8 @@ use Rattle.run_alone.specs.inside.Run.{IsRangeFile}
 use Rattle.station.specs.Station.{IsStation, StationView, HasChanges, IsCrewFile, IsRangeFile as IsLogFile, MayCrewWrite, ShowsDone}
 use Rattle.reel_writer.specs.View.{IsReelOf}
 use Rattle.reel_writer.proofs.Writing.{writes_wider}
-use Rattle.run_alone.proofs.Closing.{images_acked}
+use Rattle.run_alone.specs.Safe.{IsSafeRun}
+use Rattle.run_alone.proofs.Closing.{images_acked, whole_reel}
 use Rattle.run_alone.proofs.Ranging.{own_of, written_of}
 use Rattle.run_crew.proofs.Gathering.{end_done, no_first}
 use Rattle.station.proofs.Opening.{opened_acks, run_back, start_at}
@@ -259,3 +263,21 @@ may_crew job low high (Some Source) q own = own
 may_crew job low high (Some Disk) q own = own
 may_crew job low high (Some Memory) q own = own
 may_crew job low high (Some (Changed key was now)) q own = own
+
+-- what it keeps at each moment, and which files it writes
+pub crew_keeps : {D : Type 0} (job : JobData) (range : FrameRange) (told : Option World) (workers : ℕ) (start : Option Moment) (tells : Bool) (state : D → DiskState) (disk other : D) (steps : List Step) (end : RunEnd) (report : Report)
+    → start ≡ start_of tells (state disk).history → (tells ≡ true → (state disk).history.now ≡ 0) → IsClosedStation job range.low range.high told workers start tells state steps end report other
+    → ((world : World) (files : Files) → IsSoundReel job world files → HasFrameFiles job files) → (end ≡ Done → tells ≡ true → AreAllAcked job range.low range.high (moment_of (state other).history))
+    → OnlyWrites (IsRunFile job range.low range.high) (state disk).calls (state other).calls → IsSafeRun job range told end (folder_state tells (state disk)) (folder_state tells (state other))
+crew_keeps job range told workers start tells state disk other steps end report start_is at_zero made sound_has acked own = record {
+  run = run;
+  acked = acked;
+  whole = λ done t. whole_reel job range.low range.high told (state disk).history (state other).history (run t) (acked done t);
+  sound_has = sound_has;
+  spares = crew_spares job range.low range.high told workers start tells state disk other steps end report start_is at_zero made;
+  writes = crew_writes job range.low range.high told workers start tells state disk other steps end report start_is at_zero made;
+  own = subst (λ (e : RunEnd). OnlyWrites (RunMayWrite job range.low range.high e) (state disk).calls (state other).calls) (sym made.ends) (writing_wider (may_crew job range.low range.high (first_why steps)) own);
+}
+  where
+    run : tells ≡ true → IsReelRun job told (state disk).history (state other).history
+    run = crew_run job range.low range.high told workers start tells state disk other steps end report start_is at_zero made

@@ -4,6 +4,7 @@
 --     TookSteps      a run whose folder was opened and whose board was made: its steps, which frames its opening kept, and what
 --                    the folder acknowledges
 --     WasUnmade      a run whose board or share could not be made
+--     IsReported      what a crew reports
 --     AreShared      the log of the source frames that the workers shared
 --     AreWorked      what the workers did with their scans
 --     IsFirstUse      a disk before its first call
@@ -27,6 +28,7 @@ use Rattle.resume_ledger.specs.Ledger.{IsFit}
 use Rattle.reel_writer.specs.Changes.{HasKept}
 use Rattle.reel_writer.specs.Reel.{frames_of, HasAcked}
 use Rattle.run_alone.specs.declared.report.Report.{Report}
+use Rattle.frame_fetch.specs.Ends.{IsChange}
 use Rattle.frame_fetch.specs.declared.run_end.RunEnd.{RunEnd}
 use Rattle.frame_fetch.specs.declared.run_end.RunEnd.TheVariants.{Done, Changed as IsNow, SourceFault, DiskFault, NoMemory}
 use Rattle.run_alone.specs.Ends.{IsEnd}
@@ -54,6 +56,12 @@ end_by (Some (Changed key was now)) = IsNow key was now
 -- a board's log: the frames that were done at its start, the range, the number of workers, and the steps
 abbrev pub log_of : List Bool → (low high : ℕ) → (workers : ℕ) → List Step → Log
 log_of gates low high workers steps = record { start = gates; low = low; high = high; workers = workers; steps = steps }
+
+-- The frames of the reel, a miss for each load, and a load at least where a source file has changed.
+pub record IsReported (job : JobData) (end : RunEnd) (report : Report) : Type 0 where
+  pub frames : report.frames ≡ frames_of job
+  pub misses : report.misses ≡ report.loads
+  pub changed : IsChange end → 1 ≤ report.loads
 
 -- The log of what the workers shared, so many source frames at most: each answer is what the steps before it say, and each miss was
 -- a load.

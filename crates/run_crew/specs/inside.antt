@@ -1,3 +1,4 @@
 -- The words of private clauses, of this crate or of one above: nothing public is said by them.
+pub mod Blanks
 pub mod Crews
 pub mod Each

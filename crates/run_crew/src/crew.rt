@@ -1,23 +1,20 @@
 //! A crew: a worker for each of several scans over one reel, and what is known once all have returned.
-ghost use Rattle.std.specs.Prelude.{◌≡◌, ◌≤◌, All, [], true, length, vec_len, vec_capacity, min, is_some, IfErr, IfOk, IfSome, Some, None};
+ghost use Rattle.std.specs.Prelude.{◌≡◌, ◌≤◌, All, [], true, length, vec_len, vec_capacity, min, IfErr, IfOk, IfSome, Some, None};
 ghost use Rattle.conform_job.specs.Answers.{AreInfosOf};
 ghost use Rattle.conform_job.specs.Names.{Tells};
 ghost use Rattle.reel_disk.specs.Call.{OnlyWrites};
-ghost use Rattle.reel_disk.specs.Disk.{Files, moment_of, view_of};
-ghost use Rattle.reel_disk.specs.Runs.{Spares};
-ghost use Rattle.reel_disk.specs.State.{LeavesDisk};
+ghost use Rattle.reel_disk.specs.Disk.{moment_of};
+ghost use Rattle.reel_disk.specs.State.{LeavesDisk, OnDisk};
 ghost use Rattle.render_board.specs.History.{first_why};
-ghost use Rattle.reel_writer.specs.Reel.{frames_of, HasFrameFiles, IsReelRun, IsRunFile, IsSoundReel};
-ghost use Rattle.resume_ledger.specs.Sound.{WritesOnly};
-ghost use Rattle.scan_source.specs.World.{World};
+ghost use Rattle.reel_writer.specs.Reel.{frames_of, IsRunFile};
 ghost use Rattle.frame_share.specs.Share.{IsBlankOf as IsCounterOf};
 ghost use Rattle.frame_share.specs.Units.{whole};
-ghost use Rattle.run_crew.specs.Crews.{AreShared, HasDiskFailed, HasScansBack, IsFirstUse, WasRunByCrew, end_by, log_of};
-ghost use Rattle.run_crew.specs.inside.Crews.{HasClosedStation, IsClosedStation};
+ghost use Rattle.run_crew.specs.Crews.{HasDiskFailed, HasScansBack, IsFirstUse, IsReported, WasRunByCrew, end_by, log_of};
+ghost use Rattle.run_crew.specs.inside.Blanks.{AreBlanks};
+ghost use Rattle.run_crew.specs.inside.Crews.{HasRunCrew, IsClosedStation};
 ghost use Rattle.crew_rest.specs.Left.{HasFinished};
-ghost use Rattle.frame_fetch.specs.Ends.{IsChange};
-ghost use Rattle.station.specs.Marks.{IsBlankOf};
-ghost use Rattle.run_alone.specs.Run.{AreAllAcked, HasWhole, IsOwnFileOf, MayWriteOf, RunMayWrite};
+ghost use Rattle.run_alone.specs.Run.{AreAllAcked};
+ghost use Rattle.run_alone.specs.Safe.{IsSafeRun};
 ghost use Rattle.run_alone.specs.Task.{IsTask};
 ghost use Rattle.station.specs.StationSteps.{IsBeginning};
 
@@ -213,13 +210,12 @@ fn closing<N: Work + Start, C: Crewed, S: Scans, D: Disk>(
     ensures loads { (result.report.loads ≡ loads) × (result.report.misses ≡ loads) }
     ensures end { result.end ≡ end_by (first_why station.log.steps) }
     ensures steps { result.history ≡ Some station.log.steps }
-    ensures log { result.log ≡ log }
+    ensures handed { (result.log ≡ log) × (result.scans ≡ scans) }
     ensures made { IsClosedStation N.job C.low C.high N.files C.workers N.start D.tells D.state station.log.steps
         result.end result.report result.disk }
     ensures acked { result.end ≡ RunEnd.Done → D.tells ≡ true → AreAllAcked N.job C.low C.high (moment_of (D.state result.disk).history) }
     ensures lent { (D.state result.disk).loans ≡ N.loans }
     ensures own { OnlyWrites (IsRunFile N.job C.low C.high) N.calls (D.state result.disk).calls }
-    ensures scans { result.scans ≡ scans }
 {
     let (reel, board) = station.into_parts();
     let end = end_of(board.history());
@@ -256,33 +252,19 @@ fn run_opened<
     workers: u16,
     reel: Reel<D, N>,
 ) -> Result<Crew<S, D>, (Vec<S>, Reel<D, N>)>
-    requires source { IsBlankOf A.name A.parts blanks.source.name blanks.source.parts × (blanks.source.parts ≡ 17) }
-    requires failed { IsBlankOf B.name B.parts blanks.disk.name blanks.disk.parts × (blanks.disk.parts ≡ 17) }
-    requires memory { IsBlankOf C.name C.parts blanks.memory.name blanks.memory.parts × (blanks.memory.parts ≡ 17) }
-    requires changed { IsBlankOf E.name E.parts blanks.changed.name blanks.changed.parts × (blanks.changed.parts ≡ 17) }
-    requires misses { IsCounterOf F.name F.parts blanks.misses.name blanks.misses.parts × (blanks.misses.parts ≡ 17) }
+    requires blanks { AreBlanks blanks (A.name, A.parts) (B.name, B.parts) (C.name, C.parts) (E.name, E.parts) (F.name, F.parts) }
     requires task { IsTask N.job N.share task.now }
     requires files { All (λ s. Tells N.files (S.state s).world) scans.items }
     requires infos { AreInfosOf N.job.parts N.files N.job.infos }
-    requires few { vec_len scans ≤ 16 }
-    requires workers { (1 ≤ workers) × (workers ≤ vec_len scans) }
-    requires crew { workers ≡ W.workers }
-    requires named { (task.now.range.low ≡ W.low) × (task.now.range.high ≡ W.high) }
+    requires workers { (1 ≤ workers) × (workers ≤ vec_len scans) × (vec_len scans ≤ 16) }
+    requires named { (workers ≡ W.workers) × (task.now.range.low ≡ W.low) × (task.now.range.high ≡ W.high) }
     requires beginning { IsBeginning N.job N.files N.start D.tells D.state reel
         (log_of reel.ledger.gates task.now.range.low task.now.range.high workers []) }
     requires lent { (D.state reel.disk).loans ≡ N.loans }
     requires own { OnlyWrites (IsRunFile N.job W.low W.high) N.calls (D.state reel.disk).calls }
     ensures unmade { IfErr result (λ back. (back.0 ≡ scans) × (back.1 ≡ reel)) }
-    ensures frames { IfOk result (λ crew. crew.report.frames ≡ frames_of N.job) }
-    ensures misses { IfOk result (λ crew. crew.report.misses ≡ crew.report.loads) }
-    ensures shared { IfOk result (λ crew. AreShared task.now.share crew.log crew.report) }
-    ensures some { IfOk result (λ crew. is_some crew.history ≡ true) }
-    ensures acked { IfOk result (λ crew. crew.end ≡ RunEnd.Done → D.tells ≡ true
-        → AreAllAcked N.job W.low W.high (moment_of (D.state crew.disk).history)) }
-    ensures changed { IfOk result (λ crew. IsChange crew.end → 1 ≤ crew.report.loads) }
-    ensures made { IfOk result (HasClosedStation N.job W.low W.high N.files W.workers N.start D.tells D.state) }
-    ensures lent { IfOk result (λ crew. (D.state crew.disk).loans ≡ N.loans) }
-    ensures own { IfOk result (λ crew. OnlyWrites (IsRunFile N.job W.low W.high) N.calls (D.state crew.disk).calls) }
+    ensures ran { IfOk result (HasRunCrew N.job W.low W.high N.files W.workers task.now.share N.start N.loans N.calls D.tells
+        D.state) }
     ensures scans { IfOk result (HasScansBack S.state workers scans.items) }
 {
     let Blanks {
@@ -341,37 +323,18 @@ pub fn run_crew<
     requires scans { (1 ≤ vec_len scans) × (vec_len scans ≤ 16) }
     requires workers { (1 ≤ workers) × (workers ≤ 16) }
     requires disk { IsFirstUse N.start N.loans N.calls D.tells (D.state disk) }
-    ensures frames { result.report.frames ≡ frames_of N.job }
-    ensures misses { result.report.misses ≡ result.report.loads }
 
     // Which frames the opening kept, what the folder acknowledges now, and the steps by which it came; or why there are none.
     // There are as many workers as were asked for, at most one a scan.
-    ensures ran { WasRunByCrew N.job task.now.range.low task.now.range.high N.files (min workers (vec_len scans)) task.now.share D.tells (D.state disk).history
-        (D.state result.disk).history result }
+    ensures ran { WasRunByCrew N.job task.now.range.low task.now.range.high N.files (min workers (vec_len scans)) task.now.share
+        D.tells (D.state disk).history (D.state result.disk).history result }
+    ensures reported { IsReported N.job result.end result.report }
 
-    // At Done every image acknowledges every frame of the range, and the folder has the whole range: that of a run on one thread.
-    ensures acked { result.end ≡ RunEnd.Done → D.tells ≡ true → AreAllAcked N.job task.now.range.low task.now.range.high (moment_of (D.state result.disk).history) }
-    ensures whole { result.end ≡ RunEnd.Done → D.tells ≡ true
-        → HasWhole N.job task.now.range.low task.now.range.high N.files (D.state disk).history (D.state result.disk).history }
-
-    // A crash at any moment leaves only frames acknowledged that are the reel's. No acknowledgement is lost, where each frame
-    // that version 1 of the ledger acknowledged at the start had a file of a frame's length, as sound files have.
-    ensures run { D.tells ≡ true → IsReelRun N.job N.files (D.state disk).history (D.state result.disk).history }
-    ensures sound_has { (world : World) (files : Files) → IsSoundReel N.job world files → HasFrameFiles N.job files }
-
-    // No file is changed but the ledger's and those of the range's frames that the opening didn't keep. Of the ledger's those of
-    // version 2 alone are written.
-    ensures spares { D.tells ≡ true → Spares (D.state disk).history (D.state result.disk).history
-        (IsOwnFileOf N.job task.now.range.low task.now.range.high (view_of (D.state disk).history)) }
-    ensures writes { D.tells ≡ true → WritesOnly (D.state disk).history (D.state result.disk).history
-        (MayWriteOf N.job task.now.range.low task.now.range.high (view_of (D.state disk).history)) }
-
-    // Over every disk, also one that tells nothing, no file is written but these, and none where the folder is refused.
-    ensures own { OnlyWrites (RunMayWrite N.job task.now.range.low task.now.range.high result.end) (D.state disk).calls (D.state result.disk).calls }
+    // What every run keeps at each moment, and which files it writes: that of a run on one thread.
+    ensures keeps { OnDisk D.tells (D.state disk) (D.state result.disk) (IsSafeRun N.job task.now.range N.files result.end) }
 
     // Each scan is handed back in its place. A stop has its cause: a load failed, a loaded file has changed, the disk failed.
     ensures scans { HasScansBack S.state (min workers (vec_len scans)) scans.items result }
-    ensures changed { IsChange result.end → 1 ≤ result.report.loads }
     ensures failed { result.end ≡ RunEnd.DiskFault → HasDiskFailed result.history result.end }
     ensures disk { LeavesDisk (HasDiskFailed result.history result.end) (D.state disk) (D.state result.disk) }
 {

@@ -8,14 +8,14 @@ use Rattle.conform_job.specs.Job.{JobData, file_of}
 use Rattle.reel_disk.specs.Disk.{Moment, moment_of, view_of}
 use Rattle.reel_disk.specs.Runs.{Spares, Surely}
 use Rattle.reel_disk.specs.Start.{start_of, at_start}
-use Rattle.resume_ledger.specs.Sound.{AddsAtMost, WritesOnly}
+use Rattle.resume_ledger.specs.Sound.{WritesOnly}
 use Rattle.render_board.specs.Board.{Log, with_step, after_claim}
 use Rattle.render_board.specs.declared.board.Claim.{Claim}
 use Rattle.render_board.specs.declared.step.Step.TheVariants.{Finish, Stop}
 use Rattle.render_board.specs.declared.step.Why.{Why}
 use Rattle.render_board.specs.declared.step.Why.TheVariants.{Source, Disk, Memory, Changed}
 use Rattle.reel_writer.specs.Changes.{HasKept}
-use Rattle.reel_writer.specs.Reel.{frames_of, HasAcked, HasStored, IsReelRun, IsWrittenFile}
+use Rattle.reel_writer.specs.Reel.{frames_of, HasAcked, HasStored, IsReelRun}
 use Rattle.reel_writer.specs.View.{ReelView, after_finish, after_fault}
 use Rattle.frame_fetch.specs.Ends.{IsChanged}
 use Rattle.frame_fetch.specs.declared.run_end.RunEnd.{RunEnd}
@@ -48,14 +48,6 @@ why_by NoMemory = Memory
 
 -- What a finish leaves on the disk of a station.
 module _ {D : Type 0} (job : JobData) (frame : ℕ) (state : D → DiskState) where
-  -- of the ledger's gates this frame's alone may have been opened
-  abbrev pub AddsFrame : (old new : StationView D) → Type 0
-  AddsFrame old new = AddsAtMost frame job.parts.digest (frames_of job) (state old.reel.disk).history (state new.reel.disk).history
-
-  -- no file but this frame's was written
-  abbrev pub WritesFrame : (old new : StationView D) → Type 0
-  WritesFrame old new = Spares (state old.reel.disk).history (state new.reel.disk).history (IsWrittenFile (file_of job frame))
-
   -- the frame's file has these bytes
   abbrev pub ShowsFrame : (bytes : List ℕ) → StationView D → Type 0
   ShowsFrame bytes now = view_of (state now.reel.disk).history (file_of job frame) ≡ Some bytes

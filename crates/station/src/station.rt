@@ -5,10 +5,10 @@ ghost use Rattle.reel_disk.specs.State.{LeavesDisk};
 ghost use Rattle.render_board.specs.Board.{turn_of, claim_of};
 ghost use Rattle.render_board.specs.declared.board.Turn.TheVariants as turns;
 ghost use Rattle.render_board.specs.declared.step.Why.TheVariants as whys;
-ghost use Rattle.reel_writer.specs.Reel.{IsReelRun, IsRunFile, KeepsReel};
-ghost use Rattle.station.specs.Marks.{IsBlankOf, IsSettled, raised_by};
+ghost use Rattle.reel_writer.specs.Reel.{IsRunFile, IsSafeFinish};
+ghost use Rattle.station.specs.Marks.{AreWhole, IsBlankOf, IsSettled, raised_by};
 ghost use Rattle.station.specs.Station.{StationView, IsStation};
-ghost use Rattle.station.specs.StationSteps.{AddsFrame, IsBeginning, IsSurelyAcked, IsSurelyStored, MayStop, ShowsFrame, WritesFrame, after_claimed, after_failed, after_finished, after_stopped};
+ghost use Rattle.station.specs.StationSteps.{IsBeginning, IsSurelyAcked, IsSurelyStored, MayStop, ShowsFrame, after_claimed, after_failed, after_finished, after_stopped};
 
 use crate::crewed::Crewed;
 use crate::marks::Marks;
@@ -85,10 +85,7 @@ impl<D: Disk, N: Work + Start, C: Crewed> Station<D, N, C> {
         requires own { OnlyWrites (IsRunFile N.job C.low C.high) N.calls (D.state reel.disk).calls }
         ensures reel { result.0.reel ≡ reel }
         ensures log { result.0.log ≡ board }
-        ensures source { (result.1.source.parts ≡ C.SourceStops.parts) × (result.1.source.amount ≡ 0) }
-        ensures disk { (result.1.disk.parts ≡ C.DiskStops.parts) × (result.1.disk.amount ≡ 0) }
-        ensures memory { (result.1.memory.parts ≡ C.MemoryStops.parts) × (result.1.memory.amount ≡ 0) }
-        ensures changed { (result.1.changed.parts ≡ C.ChangeStops.parts) × (result.1.changed.amount ≡ 0) }
+        ensures marks { AreWhole C.SourceStops.parts C.DiskStops.parts C.MemoryStops.parts C.ChangeStops.parts result.1 }
     {
         let (source_book, source_share) = source.open::<C::SourceStops>();
         let (disk_book, disk_share) = disk.open::<C::DiskStops>();
@@ -143,10 +140,8 @@ impl<D: Disk, N: Work + Start, C: Crewed> Station<D, N, C> {
         ensures marked { OnErr result (marks.new ≡ raised_by whys.Disk marks.old) }
 
         // What the reel's finish says.
-        ensures run { D.tells ≡ true → IsReelRun N.job N.files (D.state self.old.reel.disk).history (D.state self.new.reel.disk).history }
-        ensures none_lost { D.tells ≡ true → KeepsReel N.job (D.state self.old.reel.disk).history (D.state self.new.reel.disk).history }
-        ensures others { D.tells ≡ true → AddsFrame N.job frame.now.index D.state self.old self.new }
-        ensures spares { D.tells ≡ true → WritesFrame N.job frame.now.index D.state self.old self.new }
+        ensures safe { D.tells ≡ true → IsSafeFinish N.job N.files frame.now.index
+            (D.state self.old.reel.disk).history (D.state self.new.reel.disk).history }
         ensures acked { OnOk result (D.tells ≡ true → IsSurelyAcked N.job frame.now.index D.state self.new) }
         ensures shown { OnOk result (D.tells ≡ true → ShowsFrame N.job frame.now.index D.state frame.now.bytes self.new) }
         ensures stored { OnOk result (D.tells ≡ true → IsSurelyStored N.job frame.now.index D.state frame.now.bytes self.new) }

@@ -56,6 +56,5 @@ returns g c =
       numbers = λ k d lt. inv.numbers k d (omega (arith, lt, size));
       fresh = inv.fresh;
       given = subst (λ n. HasGiven c.args.marks.now n c.loop-scan.marks) size inv.given;
-      shares = let shares = inv.shares in omega (arith, shares, size);
-      amount = inv.amount;
+      units = (let shares = inv.shares in omega (arith, shares, size), inv.amount);
     }

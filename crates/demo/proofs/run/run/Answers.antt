@@ -21,4 +21,4 @@ pub returns-in-Done-clause-acknowledged : goal.returns-in-Done-clause-acknowledg
 returns-in-Done-clause-acknowledged c = acked_at_done _ _ c.requires.empty c.args.job.now c.count.result c.count.ensures.count _ _ _ _ _ (rw c.in-Done.is at c.run_alone-end.ensures.ran)
 
 pub returns-in-Done-clause-whole : goal.returns-in-Done-clause-whole
-returns-in-Done-clause-whole c = whole_at_done _ _ c.requires.empty c.args.job.now c.count.result c.count.ensures.count _ _ (c.run_alone-end.ensures.whole c.in-Done.is refl)
+returns-in-Done-clause-whole c = whole_at_done _ _ c.requires.empty c.args.job.now c.count.result c.count.ensures.count _ _ (c.run_alone-end.ensures.keeps.whole c.in-Done.is refl)

@@ -12,10 +12,10 @@ use Rattle.run_alone.proofs.alone.run_shared.Goals as goal
 
 -- no room for the share
 pub returns-in-Err-clause-finished : goal.returns-in-Err-clause-finished
-returns-in-Err-clause-finished g c = unbegun g.N.Work.job c.args.task.now.range.low c.args.task.now.range.high c.args.reel.now.ledger.gates end.NoMemory _ _ (λ same. cc) (ap length c.requires.unfinished) c.empty.ensures
+returns-in-Err-clause-finished g c = unbegun g.N.Work.job c.args.task.now.range.low c.args.task.now.range.high c.args.reel.now.ledger.gates end.NoMemory _ _ (λ same. cc) (ap length c.requires.opened.unfinished) c.empty.ensures
 
 pub returns-in-Err-clause-reel : goal.returns-in-Err-clause-reel
-returns-in-Err-clause-reel g c = not_begun g.N.Work.job c.args.task.now.range.low c.args.task.now.range.high g.N.Work.files g.D.Disk.tells g.D.Disk.state end.NoMemory c.args.reel.now (λ same. cc) c.requires.unfinished c.requires.is_open
+returns-in-Err-clause-reel g c = not_begun g.N.Work.job c.args.task.now.range.low c.args.task.now.range.high g.N.Work.files g.D.Disk.tells g.D.Disk.state end.NoMemory c.args.reel.now (λ same. cc) tt c.requires.opened
 
 pub run_frames-end-requires-clause-ready : goal.run_frames-end-requires-clause-ready
 run_frames-end-requires-clause-ready g c =

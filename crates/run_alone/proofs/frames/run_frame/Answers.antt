@@ -32,7 +32,7 @@ returns-in-Ok-finish-clause-reel g c =
     let old = c.args.reel.now in
     let same : c.of-hashed.result.index ≡ c.args.i = ap (λ (f : FrameBytes). f.index) c.of-hashed.ensures ∙ c.in-Ok.ensures.index in
     let within = c.requires.index in
-    let size = c.requires.size in
+    let size = c.requires.reel.size in
     let past = past_finished old c.args.i c.of-hashed.result.index c.finish.new.self.disk c.finish.new.self c.in-Ok-finish.ensures.finished same c.requires.fresh (omega (arith, within, size)) c.requires.is_open in
     record {
       fresh = c.requires.fresh;
@@ -40,11 +40,11 @@ returns-in-Ok-finish-clause-reel g c =
       unfinished = tt;
       stays_open = λ _. past.is_open;
       failed = λ _ failed. cc;
-      run = c.finish.ensures.run;
-      none_lost = c.finish.ensures.none_lost;
+      run = λ told. (c.finish.ensures.safe told).run;
+      none_lost = λ told. (c.finish.ensures.safe told).none_lost;
       spares = λ told.
           spares_wider _ _ (IsWrittenFile (file_of g.N.Work.job c.of-hashed.result.index)) (IsWrittenFile (file_of g.N.Work.job c.args.i))
-          (frame_written g.N.Work.job c.args.i c.of-hashed.result.index same) (c.finish.ensures.spares told);
+          (frame_written g.N.Work.job c.args.i c.of-hashed.result.index same) (c.finish.ensures.safe told).spares;
       own = writing_wider (frame_written g.N.Work.job c.args.i c.of-hashed.result.index same) c.finish.ensures.own;
       disk = disk_done (λ is. cc) (λ is. cc) c.in-Ok-finish.ensures.disk;
     }
@@ -69,13 +69,13 @@ returns-in-Err-finish-clause-reel g c =
       };
       stays_open = λ other. absurd (other refl);
       failed = λ told _ k other.
-          others_acked g.N.Work.job g.D.Disk.tells g.D.Disk.state old of (of.agrees c.requires.is_open told) c.of-hashed.result.index (g.D.Disk.state c.finish.new.self.disk).history (c.finish.ensures.run told).extends.later (c.finish.ensures.others told) k
+          others_acked g.N.Work.job g.D.Disk.tells g.D.Disk.state old of (of.agrees c.requires.is_open told) c.of-hashed.result.index (g.D.Disk.state c.finish.new.self.disk).history (c.finish.ensures.safe told).run.extends.later (c.finish.ensures.safe told).others k
           (λ is. other (is ∙ same));
-      run = c.finish.ensures.run;
-      none_lost = c.finish.ensures.none_lost;
+      run = λ told. (c.finish.ensures.safe told).run;
+      none_lost = λ told. (c.finish.ensures.safe told).none_lost;
       spares = λ told.
           spares_wider _ _ (IsWrittenFile (file_of g.N.Work.job c.of-hashed.result.index)) (IsWrittenFile (file_of g.N.Work.job c.args.i))
-          (frame_written g.N.Work.job c.args.i c.of-hashed.result.index same) (c.finish.ensures.spares told);
+          (frame_written g.N.Work.job c.args.i c.of-hashed.result.index same) (c.finish.ensures.safe told).spares;
       own = writing_wider (frame_written g.N.Work.job c.args.i c.of-hashed.result.index same) c.finish.ensures.own;
       disk = disk_as (λ _. refl) (λ _. refl) c.in-Err-finish.ensures.disk;
     }

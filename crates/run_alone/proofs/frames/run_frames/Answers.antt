@@ -17,7 +17,7 @@ use Rattle.run_alone.specs.inside.Ran.{ArePast}
 use Rattle.frame_fetch.specs.Sharing.{IsPaired, asks_of}
 use Rattle.frame_fetch.specs.declared.run_end.RunEnd.TheVariants as end
 use Rattle.frame_fetch.proofs.Logs.{asks_along, paired_along}
-use Rattle.run_alone.proofs.Running.{acked_then, acks_are, is_next, all_finished, asks_more, asks_passed, asks_first, taken, stopped, not_begun, unbegun, gates_are, acks_then, gates_then, kept_then, not_done}
+use Rattle.run_alone.proofs.Running.{acked_then, acks_are, is_next, all_finished, asks_more, asks_passed, asks_first, taken, stop_end, stopped, not_begun, unbegun, gates_are, acks_then, gates_then, kept_then, not_done}
 use Rattle.frame_fetch.proofs.Counting.{err_same}
 use Rattle.frame_fetch.proofs.Scanning.{scanned_itself, scanned_as, scanned_along}
 use Rattle.run_alone.proofs.Stepping.{past_itself, past_none, past_more, asks_if_closed, gate_still, if_still}
@@ -27,7 +27,7 @@ pub loop-i-init : goal.loop-i-init
 loop-i-init g c = record {
   late = omega arith;
   within = c.requires.task.ordered;
-  past = past_none c.args.task.now.range.low c.args.reel.now c.requires.is_open;
+  past = past_none c.args.task.now.range.low c.args.reel.now c.requires.opened.is_open;
   asked = ap asks_of c.requires.unasked ∙ sym (asks_first g.N.Work.job c.args.reel.now.ledger.gates c.args.task.now.range.low);
   paired = subst (IsPaired ⊥) (sym c.requires.unasked) tt;
   capacity = refl;
@@ -115,38 +115,39 @@ loop-i-preserved g c =
 
 -- no room for a frame
 pub returns-in-Err-clause-finished : goal.returns-in-Err-clause-finished
-returns-in-Err-clause-finished g c = unbegun g.N.Work.job c.args.task.now.range.low c.args.task.now.range.high c.args.reel.now.ledger.gates end.NoMemory _ _ (λ same. cc) (ap length c.requires.unfinished) c.requires.unasked
+returns-in-Err-clause-finished g c = unbegun g.N.Work.job c.args.task.now.range.low c.args.task.now.range.high c.args.reel.now.ledger.gates end.NoMemory _ _ (λ same. cc) (ap length c.requires.opened.unfinished) c.requires.unasked
 
 pub returns-in-Err-clause-reel : goal.returns-in-Err-clause-reel
-returns-in-Err-clause-reel g c = not_begun g.N.Work.job c.args.task.now.range.low c.args.task.now.range.high g.N.Work.files g.D.Disk.tells g.D.Disk.state end.NoMemory c.args.reel.now (λ same. cc) c.requires.unfinished c.requires.is_open
+returns-in-Err-clause-reel g c = not_begun g.N.Work.job c.args.task.now.range.low c.args.task.now.range.high g.N.Work.files g.D.Disk.tells g.D.Disk.state end.NoMemory c.args.reel.now (λ same. cc) tt c.requires.opened
 
 -- a frame could not be made or finished
 pub returns-in-Err-run_frame-clause-finished : goal.returns-in-Err-run_frame-clause-finished
 returns-in-Err-run_frame-clause-finished g c =
     let inv = c.loop-i.invariant in
     let lt : c.loop-i.i < c.args.task.now.range.high = c.loop-i-test.true in
-    subst (λ (l : List ℕ). WereFinished g.N.Work.job c.args.task.now.range.low c.args.task.now.range.high c.args.reel.now.ledger.gates c.in-Err-run_frame.end (length l) c.run_frame.new.share.steps) (sym (acks_then c.args.task.now.range.low c.args.reel.now c.loop-i.reel c.loop-i.i inv.late c.requires.unfinished inv.past c.run_frame.new.reel c.in-Err-run_frame.ensures.reel.unfinished))
+    subst (λ (l : List ℕ). WereFinished g.N.Work.job c.args.task.now.range.low c.args.task.now.range.high c.args.reel.now.ledger.gates c.in-Err-run_frame.end (length l) c.run_frame.new.share.steps) (sym (acks_then c.args.task.now.range.low c.args.reel.now c.loop-i.reel c.loop-i.i inv.late c.requires.opened.unfinished inv.past c.run_frame.new.reel c.in-Err-run_frame.ensures.reel.unfinished))
     (stopped g.N.Work.job c.args.task.now.range.low c.args.task.now.range.high c.args.reel.now.ledger.gates c.in-Err-run_frame.end c.loop-i.i c.loop-i.share c.run_frame.new.share (not_done g.N.Work.job g.N.Work.files c.in-Err-run_frame.end c.in-Err-run_frame.ensures.stop) inv.late (omega (arith, lt))
     (sym (gate_still c.args.task.now.range.low c.args.reel.now c.loop-i.reel c.loop-i.i inv.late inv.past) ∙ c.in-Err-run_frame.ensures.reel.fresh) inv.asked inv.paired c.in-Err-run_frame.ensures.tried)
 
 pub returns-in-Err-run_frame-clause-reel : goal.returns-in-Err-run_frame-clause-reel
 returns-in-Err-run_frame-clause-reel g c = record {
+  is_end = stop_end g.N.Work.job g.N.Work.files c.in-Err-run_frame.end c.in-Err-run_frame.ensures.stop;
   acks =
       let inv = c.loop-i.invariant in
       let within = inv.within in
       let late = inv.late in
-      let then_acks = acks_then c.args.task.now.range.low c.args.reel.now c.loop-i.reel c.loop-i.i inv.late c.requires.unfinished inv.past c.run_frame.new.reel c.in-Err-run_frame.ensures.reel.unfinished in
+      let then_acks = acks_then c.args.task.now.range.low c.args.reel.now c.loop-i.reel c.loop-i.i inv.late c.requires.opened.unfinished inv.past c.run_frame.new.reel c.in-Err-run_frame.ensures.reel.unfinished in
       then_acks ∙ sym (taken c.args.reel.now.ledger.gates c.args.task.now.range.low c.args.task.now.range.high c.loop-i.i late within) ∙ ap (λ (l : List ℕ). take (length l) (closed_frames c.args.reel.now.ledger.gates c.args.task.now.range.low c.args.task.now.range.high)) (sym then_acks);
-  gates = gates_then c.args.task.now.range.low c.args.reel.now c.loop-i.reel c.loop-i.i c.loop-i.invariant.late c.requires.unfinished c.loop-i.invariant.past c.run_frame.new.reel c.in-Err-run_frame.ensures.reel.unfinished;
-  kept = kept_then c.args.task.now.range.low c.args.reel.now c.loop-i.reel c.loop-i.i c.loop-i.invariant.late c.requires.unfinished c.loop-i.invariant.past c.run_frame.new.reel c.in-Err-run_frame.ensures.reel.unfinished;
+  gates = gates_then c.args.task.now.range.low c.args.reel.now c.loop-i.reel c.loop-i.i c.loop-i.invariant.late c.requires.opened.unfinished c.loop-i.invariant.past c.run_frame.new.reel c.in-Err-run_frame.ensures.reel.unfinished;
+  kept = kept_then c.args.task.now.range.low c.args.reel.now c.loop-i.reel c.loop-i.i c.loop-i.invariant.late c.requires.opened.unfinished c.loop-i.invariant.past c.run_frame.new.reel c.in-Err-run_frame.ensures.reel.unfinished;
   stays_open = λ other. c.in-Err-run_frame.ensures.reel.stays_open (λ is. other (err_same _ _ is));
   failed = λ told failed k other.
       let inv = c.loop-i.invariant in
       let lt : c.loop-i.i < c.args.task.now.range.high = c.loop-i-test.true in
       let unfinished = c.in-Err-run_frame.ensures.reel.unfinished in
       let shut = sym (gate_still c.args.task.now.range.low c.args.reel.now c.loop-i.reel c.loop-i.i inv.late inv.past) ∙ c.in-Err-run_frame.ensures.reel.fresh in
-      let next = is_next c.args.reel.now.ledger.gates c.args.task.now.range.low c.args.task.now.range.high c.loop-i.i (length c.run_frame.new.reel.acks) inv.late (omega (arith, lt)) shut (ap length (acks_then c.args.task.now.range.low c.args.reel.now c.loop-i.reel c.loop-i.i inv.late c.requires.unfinished inv.past c.run_frame.new.reel unfinished)) in
-      acked_then c.args.task.now.range.low c.args.reel.now c.loop-i.reel c.loop-i.i inv.late c.requires.unfinished inv.past c.run_frame.new.reel unfinished _ k
+      let next = is_next c.args.reel.now.ledger.gates c.args.task.now.range.low c.args.task.now.range.high c.loop-i.i (length c.run_frame.new.reel.acks) inv.late (omega (arith, lt)) shut (ap length (acks_then c.args.task.now.range.low c.args.reel.now c.loop-i.reel c.loop-i.i inv.late c.requires.opened.unfinished inv.past c.run_frame.new.reel unfinished)) in
+      acked_then c.args.task.now.range.low c.args.reel.now c.loop-i.reel c.loop-i.i inv.late c.requires.opened.unfinished inv.past c.run_frame.new.reel unfinished _ k
       (c.in-Err-run_frame.ensures.reel.failed told (ap Err failed) k (λ is. other (subst (λ n. IsNext c.args.reel.now.ledger.gates c.args.task.now.range.low c.args.task.now.range.high (length c.run_frame.new.reel.acks) n) (sym is) next)));
   run = λ told. reel_run_along g.N.Work.job g.N.Work.files _ _ _ (c.loop-i.invariant.run told) (c.run_frame.ensures.reel.run told) (c.run_frame.ensures.reel.none_lost told);
   spares = λ told.
@@ -164,13 +165,14 @@ returns-in-Err-run_frame-clause-scan g c =
 -- every frame is finished
 pub returns-clause-reel : goal.returns-clause-reel
 returns-clause-reel g c = record {
+  is_end = tt;
   acks =
       let inv = c.loop-i.invariant in
       let within = inv.within in
       let late = inv.late in
-      let acks = acks_are c.args.task.now.range.low c.args.reel.now c.loop-i.reel c.loop-i.i inv.late c.requires.unfinished inv.past in
+      let acks = acks_are c.args.task.now.range.low c.args.reel.now c.loop-i.reel c.loop-i.i inv.late c.requires.opened.unfinished inv.past in
       acks ∙ sym (taken c.args.reel.now.ledger.gates c.args.task.now.range.low c.args.task.now.range.high c.loop-i.i late within) ∙ ap (λ (l : List ℕ). take (length l) (closed_frames c.args.reel.now.ledger.gates c.args.task.now.range.low c.args.task.now.range.high)) (sym acks);
-  gates = gates_are c.args.task.now.range.low c.args.reel.now c.loop-i.reel c.loop-i.i c.loop-i.invariant.late c.requires.unfinished c.loop-i.invariant.past;
+  gates = gates_are c.args.task.now.range.low c.args.reel.now c.loop-i.reel c.loop-i.i c.loop-i.invariant.late c.requires.opened.unfinished c.loop-i.invariant.past;
   kept = c.loop-i.invariant.past.kept;
   stays_open = λ other. c.loop-i.invariant.past.is_open;
   failed = λ told failed. cc;
@@ -187,5 +189,5 @@ returns-clause-finished g c =
     let within = inv.within in
     let all : c.loop-i.i ≡ c.args.task.now.range.high = omega (arith, past, within) in
     all_finished g.N.Work.job c.args.task.now.range.low c.args.task.now.range.high c.args.reel.now.ledger.gates (length c.loop-i.reel.acks) c.loop-i.share.steps
-    (ap length (acks_are c.args.task.now.range.low c.args.reel.now c.loop-i.reel c.loop-i.i inv.late c.requires.unfinished inv.past) ∙ ap (λ (n : ℕ). length (closed_frames c.args.reel.now.ledger.gates c.args.task.now.range.low n)) all)
+    (ap length (acks_are c.args.task.now.range.low c.args.reel.now c.loop-i.reel c.loop-i.i inv.late c.requires.opened.unfinished inv.past) ∙ ap (λ (n : ℕ). length (closed_frames c.args.reel.now.ledger.gates c.args.task.now.range.low n)) all)
     (inv.asked ∙ ap (λ (n : ℕ). asks_of_frames g.N.Work.job (closed_frames c.args.reel.now.ledger.gates c.args.task.now.range.low n)) all) inv.paired c.requires.task.ordered

@@ -38,24 +38,6 @@ closing-requires-clause-whole g c none i lt inside =
     subst (λ (v : StationView _). is_done v.log i ≡ true) (sym c.settle.ensures.same) (c.work_all-station.ensures.whole (ap (λ (v : StationView _). has_stop v.log.steps) (sym c.settle.ensures.same) ∙ none) i lt
     (subst (λ (v : StationView _). is_in v.log i ≡ true) c.settle.ensures.same inside))
 
-pub returns-clause-changed : goal.returns-clause-changed
-returns-clause-changed g c change =
-    let xs = c.deref_mut.result.now in
-    let ys = c.work_all-station.new.seats in
-    let steps = c.settle.new.self.log.steps in
-    let idle : All (λ s. IsFresh s) xs = rw c.deref_mut.ensures.value c.seat_all-seats.ensures.fresh in
-    let full : c.seat_all-seats.result.len ≡ length c.deref_mut.result.now = search rules in
-    let back = refilled ys c.seat_all-seats.result.items c.seat_all-seats.result.len (omega (arith, c.work_all-station.ensures.size, full)) in
-    let stops = end_changed steps (first_why steps) refl (subst IsChange c.closing.ensures.end change) in
-    let settled = c.settle.ensures.settled.changed ∙ ap (λ (v : StationView _). stops_of is_changed v.log.steps) (sym c.settle.ensures.same) in
-    let counted = c.unseat-scans.ensures.changed in
-    let none = c.seat_all-seats.ensures.given.changed.1 ∙ c.new-station.ensures.changed.1 in
-    let sum = ap (sum_by (λ s. s.marks.changed.amount)) back in
-    let loaded = changed_seat g.N.Work.files g.S.Scans.state
-    xs ys c.from-threads.result seat_loads c.work_all-station.ensures.size c.work_all-station.ensures.worked idle (omega (arith, stops, settled, counted, none, sum)) in
-    let total = c.closing.ensures.loads.0 ∙ c.unseat-scans.ensures.loads ∙ ap (sum_by (λ s. s.loader.loads)) back in
-    omega (arith, loaded, total)
-
 pub returns-clause-scans : goal.returns-clause-scans
 returns-clause-scans g c =
     let xs = c.deref_mut.result.now in
@@ -66,28 +48,55 @@ returns-clause-scans g c =
     let back = refilled ys c.seat_all-seats.result.items c.seat_all-seats.result.len (omega (arith, c.work_all-station.ensures.size, full)) in
     let settled = c.settle.ensures.settled.source ∙ ap (λ (v : StationView _). stops_of is_source v.log.steps) (sym c.settle.ensures.same) in
     let counted = c.unseat-scans.ensures.source in
-    let none = c.seat_all-seats.ensures.given.source.1 ∙ c.new-station.ensures.source.1 in
+    let none = c.seat_all-seats.ensures.given.source.1 ∙ c.new-station.ensures.marks.source.1 in
     let sum = ap (sum_by (λ s. s.marks.source.amount)) back in
     gathered g.N.Work.files g.S.Scans.state
     xs ys c.args.workers seat_loads c.work_all-station.ensures.size c.work_all-station.ensures.worked idle
     c.args.scans.items c.closing.result.scans.items c.closing.result.report.loads _
     (search rules)
-    (ap (λ (v : Vec _ Global). v.items) c.closing.ensures.scans ∙ c.unseat-scans.ensures.scans ∙ ap (map (λ s. s.loader.scan)) back)
+    (ap (λ (v : Vec _ Global). v.items) c.closing.ensures.handed.1 ∙ c.unseat-scans.ensures.scans ∙ ap (map (λ s. s.loader.scan)) back)
     (c.closing.ensures.loads.0 ∙ c.unseat-scans.ensures.loads ∙ ap (sum_by (λ s. s.loader.loads)) back)
     (λ k d late. let is = c.from-threads.ensures in c.work_all-station.ensures.unused k d (omega (arith, is, late)))
     (λ failed. let stops = end_source steps (first_why steps) refl (sym c.closing.ensures.end ∙ failed) in omega (arith, stops, settled, counted, none, sum))
 
-pub returns-clause-shared : goal.returns-clause-shared
-returns-clause-shared g c =
-    let kept = c.into_log.ensures.kept in
-    let steps : c.closing.result.log ≡ c.settle-2.new.self.steps = c.closing.ensures.log ∙ c.into_log.ensures.steps in
-    let counted = c.unseat-scans.ensures.amount in
-    let none = c.seat_all-seats.ensures.amount ∙ ap (λ (u : Tally). u.amount) c.in-Some.ensures.units in
-    let all : c.unseat-scans.result.1 ≡ c.unseat-scans.new.units.amount = omega (arith, counted, none) in
-    subst (λ n. AreShared n c.closing.result.log c.closing.result.report) (c.into_log.ensures.capacity ∙ sym c.requires.task.shared) (record {
-      some = kept.some;
-      most = kept.most;
-      legal = subst (IsLegal c.settle-2.new.self.capacity) (sym steps) kept.legal;
-      misses = c.closing.ensures.loads.1 ∙ all ∙ c.settle-2.ensures.settled ∙ ap (λ (v : ShareView). misses_of v.steps) (sym c.settle-2.ensures.same) ∙ ap misses_of (sym steps);
-      loads = c.closing.ensures.loads.0 ∙ sym c.closing.ensures.loads.1;
-    })
+pub returns-clause-ran : goal.returns-clause-ran
+returns-clause-ran g c = record {
+  reported = record {
+    frames = c.closing.ensures.frames;
+    misses = c.closing.ensures.loads.1 ∙ sym c.closing.ensures.loads.0;
+    changed = λ change.
+        let xs = c.deref_mut.result.now in
+        let ys = c.work_all-station.new.seats in
+        let steps = c.settle.new.self.log.steps in
+        let idle : All (λ s. IsFresh s) xs = rw c.deref_mut.ensures.value c.seat_all-seats.ensures.fresh in
+        let full : c.seat_all-seats.result.len ≡ length c.deref_mut.result.now = search rules in
+        let back = refilled ys c.seat_all-seats.result.items c.seat_all-seats.result.len (omega (arith, c.work_all-station.ensures.size, full)) in
+        let stops = end_changed steps (first_why steps) refl (subst IsChange c.closing.ensures.end change) in
+        let settled = c.settle.ensures.settled.changed ∙ ap (λ (v : StationView _). stops_of is_changed v.log.steps) (sym c.settle.ensures.same) in
+        let counted = c.unseat-scans.ensures.changed in
+        let none = c.seat_all-seats.ensures.given.changed.1 ∙ c.new-station.ensures.marks.changed.1 in
+        let sum = ap (sum_by (λ s. s.marks.changed.amount)) back in
+        let loaded = changed_seat g.N.Work.files g.S.Scans.state
+        xs ys c.from-threads.result seat_loads c.work_all-station.ensures.size c.work_all-station.ensures.worked idle (omega (arith, stops, settled, counted, none, sum)) in
+        let total = c.closing.ensures.loads.0 ∙ c.unseat-scans.ensures.loads ∙ ap (sum_by (λ s. s.loader.loads)) back in
+        omega (arith, loaded, total);
+  };
+  shared =
+      let kept = c.into_log.ensures.kept in
+      let steps : c.closing.result.log ≡ c.settle-2.new.self.steps = c.closing.ensures.handed.0 ∙ c.into_log.ensures.steps in
+      let counted = c.unseat-scans.ensures.amount in
+      let none = c.seat_all-seats.ensures.units.1 ∙ ap (λ (u : Tally). u.amount) c.in-Some.ensures.units in
+      let all : c.unseat-scans.result.1 ≡ c.unseat-scans.new.units.amount = omega (arith, counted, none) in
+      subst (λ n. AreShared n c.closing.result.log c.closing.result.report) (c.into_log.ensures.capacity ∙ sym c.requires.task.shared) (record {
+        some = kept.some;
+        most = kept.most;
+        legal = subst (IsLegal c.settle-2.new.self.capacity) (sym steps) kept.legal;
+        misses = c.closing.ensures.loads.1 ∙ all ∙ c.settle-2.ensures.settled ∙ ap (λ (v : ShareView). misses_of v.steps) (sym c.settle-2.ensures.same) ∙ ap misses_of (sym steps);
+        loads = c.closing.ensures.loads.0 ∙ sym c.closing.ensures.loads.1;
+      });
+  some = search rules;
+  made = search rules;
+  acked = c.closing.ensures.acked;
+  lent = c.closing.ensures.lent;
+  own = c.closing.ensures.own;
+}

@@ -11,8 +11,5 @@ returns-clause-stepped g c =
     stepped_made g.N.Work.files g.S.Scans.state 2 c.args.seat.now _ c.make_forked-made.result c.is_source_fault-seat.result c.is_source_fault-seat.ensures (failed_alone _ _ c.requires.unfailed)
     c.make_forked-made.ensures.loaded c.deliver.ensures.marks
 
-pub returns-clause-closed : goal.returns-clause-closed
-returns-clause-closed g c = on_ok_weaker c.deliver.result (λ both. of_ok c.make_forked-made.result _ both.1 c.make_forked-made.ensures.loaded.closed) c.deliver.ensures.goes_on
-
 pub returns-clause-goes_on : goal.returns-clause-goes_on
-returns-clause-goes_on g c = on_ok_weaker c.deliver.result (λ both. (both.0, none_failed c.make_forked-made.result c.is_source_fault-seat.result c.is_source_fault-seat.ensures both.1)) c.deliver.ensures.goes_on
+returns-clause-goes_on g c = on_ok_weaker c.deliver.result (λ both. (both.0, none_failed c.make_forked-made.result c.is_source_fault-seat.result c.is_source_fault-seat.ensures both.1, of_ok c.make_forked-made.result _ both.1 c.make_forked-made.ensures.loaded.closed)) c.deliver.ensures.goes_on

@@ -1,6 +1,5 @@
 use Rattle.std.proofs.Common.{◌≡◌, true, rules, ◌∙◌, ap, subst}
-use Rattle.resume_ledger.specs.Sound.{AddsAtMost}
-use Rattle.reel_writer.specs.Reel.{frames_of, KeepsReel}
+use Rattle.reel_writer.specs.Reel.{IsSafeFinish}
 use Rattle.render_board.specs.Board.{Log}
 use Rattle.render_board.proofs.Holding.{held_isnt_done}
 use Rattle.station.specs.Station.{StationView}
@@ -16,7 +15,7 @@ invariant_of-self g c =
     let s = c.self.inside in
     let v : StationView _ = record { reel = s.reel; log = s.board; totals = record { source = s.totals.source.total; disk = s.totals.disk.total; memory = s.totals.memory.total; changed = s.totals.changed.total } } in (
       finished_as g.N.Work.job g.N.Work.files g.N.Start.start g.D.Disk.tells g.D.Disk.state v c.args.worker c.self.invariant.0
-          c.args.frame.now.index c.finish.new.self c.finished.new.self (search rules) (search rules) (search rules) c.finish.ensures.run c.finish.ensures.none_lost c.finish.ensures.others c.finish.ensures.spares
+          c.args.frame.now.index c.finish.new.self c.finished.new.self (search rules) (search rules) (search rules) (λ told. (c.finish.ensures.safe told).run) (λ told. (c.finish.ensures.safe told).none_lost) (λ told. (c.finish.ensures.safe told).others) (λ told. (c.finish.ensures.safe told).spares)
           (c.in-Ok.ensures.finished) (search rules) c.in-Ok.ensures.acked (c.in-Ok.ensures.disk.counts.steady (λ is. cc)),
       ap (λ (l : Log). l.workers) c.finished.ensures ∙ c.self.invariant.1,
       c.finish.ensures.disk.lent ∙ c.self.invariant.2,
@@ -29,7 +28,7 @@ invariant_of-self-in-Err g c =
     let s = c.self.inside in
     let v : StationView _ = record { reel = s.reel; log = s.board; totals = record { source = s.totals.source.total; disk = s.totals.disk.total; memory = s.totals.memory.total; changed = s.totals.changed.total } } in (
       failed_as g.N.Work.job g.N.Work.files g.N.Start.start g.D.Disk.tells g.D.Disk.state v c.args.worker c.self.invariant.0
-          c.args.frame.now.index c.finish.new.self c.stop.new.self (search rules) (search rules) (search rules) c.finish.ensures.run c.finish.ensures.none_lost c.finish.ensures.others c.finish.ensures.spares
+          c.args.frame.now.index c.finish.new.self c.stop.new.self (search rules) (search rules) (search rules) (λ told. (c.finish.ensures.safe told).run) (λ told. (c.finish.ensures.safe told).none_lost) (λ told. (c.finish.ensures.safe told).others) (λ told. (c.finish.ensures.safe told).spares)
           c.add.new.self.total c.in-Err.ensures.closed c.stop.ensures (search rules) (search rules),
       ap (λ (l : Log). l.workers) c.stop.ensures ∙ c.self.invariant.1,
       c.finish.ensures.disk.lent ∙ c.self.invariant.2,
@@ -37,19 +36,13 @@ invariant_of-self-in-Err g c =
       writing_then c.self.invariant.4 (writing_wider (held_of_run g.N.Work.job s.board _ _ c.args.worker c.args.frame.now.index c.self.invariant.3.0 c.self.invariant.3.1 c.self.invariant.0.legal (search rules)) c.finish.ensures.own),
     )
 
-pub returns-in-Ok-clause-others : goal.returns-in-Ok-clause-others
-returns-in-Ok-clause-others g c =
-    subst (λ (v : StationView _). g.D.Disk.tells ≡ true → AddsAtMost c.args.frame.now.index g.N.Work.job.parts.digest (frames_of g.N.Work.job) (g.D.Disk.state v.reel.disk).history (g.D.Disk.state c.finish.new.self.disk).history) c.self.view_is c.finish.ensures.others
+pub returns-in-Ok-clause-safe : goal.returns-in-Ok-clause-safe
+returns-in-Ok-clause-safe g c =
+    subst (λ (v : StationView _). g.D.Disk.tells ≡ true → IsSafeFinish g.N.Work.job g.N.Work.files c.args.frame.now.index (g.D.Disk.state v.reel.disk).history (g.D.Disk.state c.finish.new.self.disk).history) c.self.view_is c.finish.ensures.safe
 
-pub returns-in-Err-clause-others : goal.returns-in-Err-clause-others
-returns-in-Err-clause-others g c =
-    subst (λ (v : StationView _). g.D.Disk.tells ≡ true → AddsAtMost c.args.frame.now.index g.N.Work.job.parts.digest (frames_of g.N.Work.job) (g.D.Disk.state v.reel.disk).history (g.D.Disk.state c.finish.new.self.disk).history) c.self.view_is c.finish.ensures.others
-
-pub returns-in-Ok-clause-none_lost : goal.returns-in-Ok-clause-none_lost
-returns-in-Ok-clause-none_lost g c = subst (λ (v : StationView _). g.D.Disk.tells ≡ true → KeepsReel g.N.Work.job (g.D.Disk.state v.reel.disk).history (g.D.Disk.state c.finish.new.self.disk).history) c.self.view_is c.finish.ensures.none_lost
-
-pub returns-in-Err-clause-none_lost : goal.returns-in-Err-clause-none_lost
-returns-in-Err-clause-none_lost g c = subst (λ (v : StationView _). g.D.Disk.tells ≡ true → KeepsReel g.N.Work.job (g.D.Disk.state v.reel.disk).history (g.D.Disk.state c.finish.new.self.disk).history) c.self.view_is c.finish.ensures.none_lost
+pub returns-in-Err-clause-safe : goal.returns-in-Err-clause-safe
+returns-in-Err-clause-safe g c =
+    subst (λ (v : StationView _). g.D.Disk.tells ≡ true → IsSafeFinish g.N.Work.job g.N.Work.files c.args.frame.now.index (g.D.Disk.state v.reel.disk).history (g.D.Disk.state c.finish.new.self.disk).history) c.self.view_is c.finish.ensures.safe
 
 -- the worker held the frame until the disk failed
 pub stop-requires-clause-running : goal.stop-requires-clause-running
