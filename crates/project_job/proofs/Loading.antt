@@ -1,10 +1,9 @@
 -- Of which step a refusal is, and how many files were loaded by then.
-use Rattle.std.proofs.Common.{◌≡◌, ◌∙◌, ℕ, ◌+◌, List, Option, Some, None, Ok, Err, IfSome, refl, sym, ap, subst, [], arith}
-use Rattle.scan_source.specs.World.{World, file_at}
+use Rattle.std.proofs.Common.{◌≡◌, ◌∙◌, ℕ, ◌+◌, List, Option, Some, None, Ok, Err, refl, sym, ap, subst, [], arith}
+use Rattle.scan_source.specs.World.{World}
 use Rattle.conform_job.proofs.Heads.{count_sum}
 use Rattle.conform_job.specs.Answers.{count_after}
 use Rattle.conform_job.specs.Ended.{HasAsked}
-use Rattle.conform_job.specs.Refusals.{Files}
 use Rattle.conform_job.specs.declared.parts.JobParts.{JobParts}
 use Rattle.conform_job.specs.declared.parts.JobFault.{JobFault}
 use Rattle.conform_job.specs.declared.parts.JobFault.TheVariants as faults
@@ -15,11 +14,12 @@ use Rattle.outcome.specs.declared.Refused.TheVariants as refused
 use Rattle.outcome.specs.declared.Which.{Which}
 use Rattle.project_job.specs.Asked.{loads_of, FileHasParts, FileNames, HasInspectedFor, HasLoadedFor, WereInspected, WereJudged}
 use Rattle.project_job.specs.inside.Asked.{ComesBehind, HasLoadedBehind, IsOfTexts}
-use Rattle.project_job.specs.Jobs.{cube_count, parts_of}
+use Rattle.project_job.specs.Jobs.{cube_count, FilesRead, parts_from}
+use Rattle.project_job.specs.Texts.{ByFiles}
 use Rattle.project_job.specs.inside.Jobs.{MeansFile, outcome_of_fault}
 use Rattle.project_job.specs.Load.{IsOfLoad}
 use Rattle.project_job.specs.declared.project.ProjectText.{ProjectText}
-use Rattle.project_job.proofs.Projects.{told_one, told_two}
+use Rattle.project_job.proofs.Reading.{joined, joined_told}
 
 one_refusal : (a b : Refused) → outcomes.Refused a ≡ outcomes.Refused b → a ≡ b
 one_refusal a b is = cc
@@ -79,20 +79,20 @@ names_own : (file : Option (List ℕ)) (read : ProjectText) → MeansFile file (
 names_own file read is = subst (λ f. FileNames f read.project.cube) (sym is.0) (Ok read.project, is.1, refl)
 
 module _ (told : Option World) (path : List ℕ) where
-  pub project_loaded : (reached : Outcome) (before after : ℕ) → ComesBehind 1 reached → IfSome told (λ world. MeansFile (file_at world path) (Err reached))
+  pub project_loaded : (reached : Outcome) (before after : ℕ) → ComesBehind 1 reached → ByFiles told (λ files. MeansFile (files.project path) (Err reached))
       → after ≡ count_after 1 before → HasLoadedFor told path before after reached
   project_loaded reached before after stage means loads refusal is = record {
     cube = None;
-    named = told_one told _ _ (λ world had. names_none (file_at world path) refusal (subst (λ r. MeansFile (file_at world path) (Err r)) is had)) means;
+    named = (means.0, means.1, names_none (means.0.project path) refusal (subst (λ r. MeansFile (means.0.project path) (Err r)) is means.2));
     loads = loads ∙ ap (λ n. count_after n before) (sym (stage refusal is None));
   }
 
-  module _ (read : ProjectText) (means : IfSome told (λ world. MeansFile (file_at world path) (Ok read))) where
+  module _ (read : ProjectText) (means : ByFiles told (λ files. MeansFile (files.project path) (Ok read))) where
     pub parts_loaded : (reached : Outcome) (before between after : ℕ) → between ≡ count_after 1 before → HasLoadedBehind read.project.cube between after reached
         → HasLoadedFor told path before after reached
     parts_loaded reached before between after project behind refusal is = record {
       cube = read.project.cube;
-      named = told_one told _ _ (λ world had. names_own (file_at world path) read had) means;
+      named = (means.0, means.1, names_own (means.0.project path) read means.2);
       loads = behind refusal is before project;
     }
 
@@ -100,7 +100,7 @@ module _ (told : Option World) (path : List ℕ) where
         → HasLoadedFor told path before after reached
     job_loaded fault reached before after of_fault loads refusal is = record {
       cube = read.project.cube;
-      named = told_one told _ _ (λ world had. names_own (file_at world path) read had) means;
+      named = (means.0, means.1, names_own (means.0.project path) read means.2);
       loads = loads ∙ ap (λ n. count_after n before) (sym (job_loads fault refusal read.project.cube (sym of_fault ∙ is)));
     }
       where
@@ -135,15 +135,19 @@ stage_texts count reached stage fault is =
     let with_one : 3 ≡ count = stage (refused.Job fault) is (Some []) in
     absurd (omega (arith, without, with_one))
 
-has_parts : (files : Files) (file : Option (List ℕ)) (read : ProjectText) (parts : JobParts) → MeansFile file (Ok read) → parts_of files read.text.items read.project ≡ Ok parts → FileHasParts files file parts
+has_parts : (files : FilesRead) (file : Option (List ℕ)) (read : ProjectText) (parts : JobParts) → MeansFile file (Ok read) → parts_from files read.text.items read.project ≡ Ok parts → FileHasParts files file parts
 has_parts files file read parts means is = subst (λ f. FileHasParts files f parts) (sym means.0) (read.project, means.1, is)
 
 pub judged : (told here : Option World) (path : List ℕ) (read : ProjectText) (parts : JobParts) (fault : JobFault) (before between after : ℕ) → here ≡ told → between ≡ before
-    → IfSome told (λ world. MeansFile (file_at world path) (Ok read)) → IfSome told (λ world. parts_of (file_at world) read.text.items read.project ≡ Ok parts)
+    → ByFiles told (λ files. MeansFile (files.project path) (Ok read)) → ByFiles told (λ files. parts_from files read.text.items read.project ≡ Ok parts)
     → HasAsked parts here between after fault → WereJudged told path before after fault
 judged told here path read parts fault before between after same heads means is asked = record {
   parts = parts;
-  comes = told_two told _ _ _ (λ world had made. has_parts (file_at world) (file_at world path) read parts had made) means is;
+  comes = (
+    joined means.0 is.0 is.0,
+    joined_told told means.0 is.0 is.0 means.1 is.1 is.1,
+    has_parts (joined means.0 is.0 is.0) (means.0.project path) read parts means.2 is.2,
+  );
   heads = subst (λ t. HasAsked parts t before after fault) same (subst (λ n. HasAsked parts here n after fault) heads asked);
 }
 

@@ -28,9 +28,11 @@ use Rattle.source_reels.specs.Reels.{table_of, IsTabled}
 use Rattle.tetra_look.specs.Look.{Lattice, lattice_of}
 use Rattle.scan_source.specs.World.{World, file_at}
 use Rattle.conform_job.specs.Refusals.{Files, first_refusal}
-use Rattle.project_job.specs.Jobs.{list_in, look_in, look_of_text, cube_in, unless_refused, parts_of, FileHasPlanned, HasPlanned, AreLoaded, cube_count}
+use Rattle.project_job.specs.Jobs.{list_in, look_in, look_of_text, cube_in, unless_refused, FilesRead, parts_from, parts_of, FileHasPlanned, HasPlanned, AreLoaded, cube_count}
 use Rattle.project_job.specs.inside.Jobs.{list_and_text, look_and_text, itself, outcome_of_fault, MeansFile, Reaches}
-use Rattle.project_job.specs.Load.{IsFront, IsMissing}
+use Rattle.project_job.specs.Load.{ByFile, IsFront, IsMissing}
+use Rattle.project_job.specs.Texts.{ByFiles}
+use Rattle.project_job.proofs.Reading.{any_files, as_project, as_list, as_cube, by_told, joined, joined_told}
 use Rattle.project_job.specs.declared.loads.Front.{Front}
 use Rattle.project_job.specs.declared.project.ListText.{ListText}
 use Rattle.project_job.specs.declared.project.LookText.{LookText}
@@ -46,13 +48,13 @@ pub told_one : {A : Type 0} (told : Option A) (P Q : A → Type 0) → ((a : A) 
 told_one None P Q f h = tt
 told_one (Some a) P Q f h = f a h
 
-pub told_all : {A : Type 0} (told : Option A) (P : A → Type 0) → ((a : A) → P a) → IfSome told P
-told_all None P f = tt
-told_all (Some a) P f = f a
-
 pub told_two : {A : Type 0} (told : Option A) (P Q R : A → Type 0) → ((a : A) → P a → Q a → R a) → IfSome told P → IfSome told Q → IfSome told R
 told_two None P Q R f h k = tt
 told_two (Some a) P Q R f h k = f a h k
+
+told_both : {A : Type 0} (told : Option A) (P Q : A → Type 0) → IfSome told P → IfSome told Q → IfSome told (λ a. P a × Q a)
+told_both None P Q h k = tt
+told_both (Some a) P Q h k = (h, k)
 
 -- an error is the same in a result of another type, and no value
 pub err_as : {A B E : Type 0} (e f : E) → ◌≡◌ {A = Result A E} (Err e) (Err f) → ◌≡◌ {A = Result B E} (Err e) (Err f)
@@ -100,15 +102,43 @@ project_faulty (Some text) front fault is means = elim (whole_or_long 1048576 te
   | inr long ↦ means_long text front.bytes.items fault long.0 long.1 means
 ]
 
-pub project_had : (told : Option World) (path : List ℕ) (front : Front) (project : Project) → IfSome told (λ world. IsFront (file_at world path) 1048577 front)
-    → Means front.bytes.items (Ok project) → IfSome told (λ world. MeansFile (file_at world path) (Ok (record { text = front.bytes; project = project })))
-project_had None path front project is means = tt
-project_had (Some world) path front project is means = (project_whole (file_at world path) front project is means, means)
+pub project_had : (told : Option World) (path : List ℕ) (front : Front) (project : Project) → ByFile told path (λ file. IsFront file 1048577 front)
+    → Means front.bytes.items (Ok project) → ByFiles told (λ files. MeansFile (files.project path) (Ok (record { text = front.bytes; project = project })))
+project_had told path front project read means =
+    as_project told path (λ file. MeansFile file (Ok (record { text = front.bytes; project = project }))) (read.0, read.1, (project_whole read.0 front project read.2 means, means))
 
-pub project_refused : (told : Option World) (path : List ℕ) (front : Front) (fault : ProjectFault) → IfSome told (λ world. IsFront (file_at world path) 1048577 front)
-    → Means front.bytes.items (Err fault) → IfSome told (λ world. MeansFile (file_at world path) (Err (outcomes.Refused (refused.Project fault))))
-project_refused None path front fault is means = tt
-project_refused (Some world) path front fault is means = project_faulty (file_at world path) front fault is means
+pub project_refused : (told : Option World) (path : List ℕ) (front : Front) (fault : ProjectFault) → ByFile told path (λ file. IsFront file 1048577 front)
+    → Means front.bytes.items (Err fault) → ByFiles told (λ files. MeansFile (files.project path) (Err (outcomes.Refused (refused.Project fault))))
+project_refused told path front fault read means =
+    as_project told path (λ file. MeansFile file (Err (outcomes.Refused (refused.Project fault)))) (read.0, read.1, project_faulty read.0 front fault read.2 means)
+
+-- what a load without a file comes to
+project_gone : (file : Option (List ℕ)) (outcome : Outcome) → IsMissing which.Project file outcome → MeansFile file (Err outcome)
+project_gone file (outcomes.Refused (refused.NoFile absent)) is = is
+project_gone file outcomes.SourceFault is = tt
+project_gone file outcomes.NoMemory is = tt
+project_gone file outcomes.Done is = absurd is
+project_gone file outcomes.Usage is = absurd is
+project_gone file (outcomes.OtherJob kept wanted) is = absurd is
+project_gone file (outcomes.BadLedger len) is = absurd is
+project_gone file (outcomes.OldRefused refusal) is = absurd is
+project_gone file (outcomes.OldOtherJob kept wanted) is = absurd is
+project_gone file (outcomes.OldBadLedger len) is = absurd is
+project_gone file (outcomes.Damaged frame kept found) is = absurd is
+project_gone file (outcomes.Changed reel key was now) is = absurd is
+project_gone file outcomes.DiskFault is = absurd is
+project_gone file (outcomes.SinkFault instead) is = absurd is
+project_gone file (outcomes.Refused (refused.Project fault)) is = absurd is
+project_gone file (outcomes.Refused (refused.Reels fault)) is = absurd is
+project_gone file (outcomes.Refused (refused.List fault)) is = absurd is
+project_gone file (outcomes.Refused (refused.Timeline fault)) is = absurd is
+project_gone file (outcomes.Refused (refused.Cube fault)) is = absurd is
+project_gone file (outcomes.Refused (refused.Job fault)) is = absurd is
+project_gone file (outcomes.Refused (refused.Frame fault)) is = absurd is
+
+pub project_missing : (told : Option World) (path : List ℕ) (outcome : Outcome) → ByFile told path (λ file. IsMissing which.Project file outcome)
+    → ByFiles told (λ files. MeansFile (files.project path) (Err outcome))
+project_missing told path outcome read = as_project told path (λ file. MeansFile file (Err outcome)) (read.0, read.1, project_gone read.0 outcome read.2)
 
 -- a list that is read is short, and a front of it that is too long is refused as the list is
 pub front_list : (rate : Rate) (text into : List ℕ) → into ≡ take 4194305 text → list_of rate into ≡ list_of rate text
@@ -139,15 +169,15 @@ list_faulty rate None front refusal is read = absurd is
 list_faulty rate (Some text) front refusal is read =
     let here : list_of rate text ≡ Err refusal = sym (front_list rate text front.bytes.items is.1) ∙ read in rw here refl
 
-pub list_had : (told : Option World) (rate : Rate) (path : List ℕ) (front : Front) (list : EventList) → IfSome told (λ world. IsFront (file_at world path) 4194305 front)
-    → list_of rate front.bytes.items ≡ Ok list → IfSome told (λ world. Reaches list_and_text (Ok (record { text = front.bytes; list = list })) (list_in rate (file_at world path)))
-list_had None rate path front list is read = tt
-list_had (Some world) rate path front list is read = list_whole rate (file_at world path) front list is read
+pub list_had : (told : Option World) (rate : Rate) (path : List ℕ) (front : Front) (list : EventList) → ByFile told path (λ file. IsFront file 4194305 front)
+    → list_of rate front.bytes.items ≡ Ok list → ByFiles told (λ files. Reaches list_and_text (Ok (record { text = front.bytes; list = list })) (list_in rate (files.list path)))
+list_had told rate path front list read is =
+    as_list told path (λ file. Reaches list_and_text (Ok (record { text = front.bytes; list = list })) (list_in rate file)) (read.0, read.1, list_whole rate read.0 front list read.2 is)
 
-pub list_refused : (told : Option World) (rate : Rate) (path : List ℕ) (front : Front) (refusal : ListRefusal) → IfSome told (λ world. IsFront (file_at world path) 4194305 front)
-    → list_of rate front.bytes.items ≡ Err refusal → IfSome told (λ world. Reaches list_and_text (Err (outcomes.Refused (refused.List refusal))) (list_in rate (file_at world path)))
-list_refused None rate path front refusal is read = tt
-list_refused (Some world) rate path front refusal is read = list_faulty rate (file_at world path) front refusal is read
+pub list_refused : (told : Option World) (rate : Rate) (path : List ℕ) (front : Front) (refusal : ListRefusal) → ByFile told path (λ file. IsFront file 4194305 front)
+    → list_of rate front.bytes.items ≡ Err refusal → ByFiles told (λ files. Reaches list_and_text (Err (outcomes.Refused (refused.List refusal))) (list_in rate (files.list path)))
+list_refused told rate path front refusal read is =
+    as_list told path (λ file. Reaches list_and_text (Err (outcomes.Refused (refused.List refusal))) (list_in rate file)) (read.0, read.1, list_faulty rate read.0 front refusal read.2 is)
 
 -- what a load without a file comes to
 list_gone : (rate : Rate) (file : Option (List ℕ)) (outcome : Outcome) → IsMissing which.List file outcome → Reaches list_and_text (Err outcome) (list_in rate file)
@@ -173,10 +203,9 @@ list_gone rate file (outcomes.Refused (refused.Cube fault)) is = absurd is
 list_gone rate file (outcomes.Refused (refused.Job fault)) is = absurd is
 list_gone rate file (outcomes.Refused (refused.Frame fault)) is = absurd is
 
-pub list_missing : (told : Option World) (rate : Rate) (path : List ℕ) (outcome : Outcome) → IfSome told (λ world. IsMissing which.List (file_at world path) outcome)
-    → IfSome told (λ world. Reaches list_and_text (Err outcome) (list_in rate (file_at world path)))
-list_missing None rate path outcome is = tt
-list_missing (Some world) rate path outcome is = list_gone rate (file_at world path) outcome is
+pub list_missing : (told : Option World) (rate : Rate) (path : List ℕ) (outcome : Outcome) → ByFile told path (λ file. IsMissing which.List file outcome)
+    → ByFiles told (λ files. Reaches list_and_text (Err outcome) (list_in rate (files.list path)))
+list_missing told rate path outcome read = as_list told path (λ file. Reaches list_and_text (Err outcome) (list_in rate file)) (read.0, read.1, list_gone rate read.0 outcome read.2)
 
 -- the same of a cube
 front_cube : (text into : List ℕ) → into ≡ take 100663297 text → cube_of into ≡ cube_of text
@@ -255,20 +284,19 @@ cube_gone file (outcomes.Refused (refused.Cube fault)) is = absurd is
 cube_gone file (outcomes.Refused (refused.Job fault)) is = absurd is
 cube_gone file (outcomes.Refused (refused.Frame fault)) is = absurd is
 
-pub cube_had : (told : Option World) (path : List ℕ) (front : Front) (look : Option Lattice) → IfSome told (λ world. IsFront (file_at world path) 100663297 front)
-    → look_of_text front.bytes.items ≡ Ok look → IfSome told (λ world. Reaches look_and_text (Ok (record { text = Some front.bytes; look = look })) (cube_in (file_at world path)))
-cube_had None path front look is read = tt
-cube_had (Some world) path front look is read = cube_whole (file_at world path) front look is read
+pub cube_had : (told : Option World) (path : List ℕ) (front : Front) (look : Option Lattice) → ByFile told path (λ file. IsFront file 100663297 front)
+    → look_of_text front.bytes.items ≡ Ok look → ByFiles told (λ files. Reaches look_and_text (Ok (record { text = Some front.bytes; look = look })) (cube_in (files.cube path)))
+cube_had told path front look read is =
+    as_cube told path (λ file. Reaches look_and_text (Ok (record { text = Some front.bytes; look = look })) (cube_in file)) (read.0, read.1, cube_whole read.0 front look read.2 is)
 
-pub cube_refused : (told : Option World) (path : List ℕ) (front : Front) (outcome : Outcome) → IfSome told (λ world. IsFront (file_at world path) 100663297 front)
-    → Reaches (itself {A = Option Lattice}) (Err outcome) (look_of_text front.bytes.items) → IfSome told (λ world. Reaches look_and_text (Err outcome) (cube_in (file_at world path)))
-cube_refused None path front outcome is read = tt
-cube_refused (Some world) path front outcome is read = cube_faulty (file_at world path) front outcome is read
+pub cube_refused : (told : Option World) (path : List ℕ) (front : Front) (outcome : Outcome) → ByFile told path (λ file. IsFront file 100663297 front)
+    → Reaches (itself {A = Option Lattice}) (Err outcome) (look_of_text front.bytes.items) → ByFiles told (λ files. Reaches look_and_text (Err outcome) (cube_in (files.cube path)))
+cube_refused told path front outcome read is =
+    as_cube told path (λ file. Reaches look_and_text (Err outcome) (cube_in file)) (read.0, read.1, cube_faulty read.0 front outcome read.2 is)
 
-pub cube_missing : (told : Option World) (path : List ℕ) (outcome : Outcome) → IfSome told (λ world. IsMissing which.Cube (file_at world path) outcome)
-    → IfSome told (λ world. Reaches look_and_text (Err outcome) (cube_in (file_at world path)))
-cube_missing None path outcome is = tt
-cube_missing (Some world) path outcome is = cube_gone (file_at world path) outcome is
+pub cube_missing : (told : Option World) (path : List ℕ) (outcome : Outcome) → ByFile told path (λ file. IsMissing which.Cube file outcome)
+    → ByFiles told (λ files. Reaches look_and_text (Err outcome) (cube_in (files.cube path)))
+cube_missing told path outcome read = as_cube told path (λ file. Reaches look_and_text (Err outcome) (cube_in file)) (read.0, read.1, cube_gone read.0 outcome read.2)
 
 -- a list and, where one is named, a cube
 pub loaded_both : (named : Option (List ℕ)) (before between after : ℕ) → between ≡ count_after 1 before → after ≡ count_after (cube_count named) between → AreLoaded 0 2 before after
@@ -292,43 +320,55 @@ went_on Wanted step b next is rest = rw is rest
 
 -- The steps to the parts of a job: what the first of them that stopped comes to, and all that went on.
 module _ (told : Option World) (text : List ℕ) (project : Project) where
-  abbrev Stops : Outcome → World → Type 0
-  Stops outcome world = Reaches (itself {A = JobParts}) (Err outcome) (parts_of (file_at world) text project)
+  abbrev Stops : Outcome → FilesRead → Type 0
+  Stops outcome files = Reaches (itself {A = JobParts}) (Err outcome) (parts_from files text project)
 
-  pub no_reels : (outcome : Outcome) → Reaches (itself {A = List ReelEntry}) (Err outcome) (unless_refused refused.Reels (table_of project.reels)) → IfSome told (Stops outcome)
-  no_reels outcome is = told_all told _ (λ world. stopped itself itself outcome (unless_refused refused.Reels (table_of project.reels)) _ is)
+  pub no_reels : (outcome : Outcome) → Reaches (itself {A = List ReelEntry}) (Err outcome) (unless_refused refused.Reels (table_of project.reels)) → ByFiles told (Stops outcome)
+  no_reels outcome is = any_files told (Stops outcome) (λ files. stopped itself itself outcome (unless_refused refused.Reels (table_of project.reels)) _ is)
 
   module _ (reels : List ReelEntry) (table : unless_refused refused.Reels (table_of project.reels) ≡ Ok reels) where
-    pub no_list : (outcome : Outcome) → IfSome told (λ world. Reaches list_and_text (Err outcome) (list_in project.rate (file_at world project.edl))) → IfSome told (Stops outcome)
-    no_list outcome = told_one told _ _ (λ world is.
-        went_on (Reaches itself (Err outcome)) (unless_refused refused.Reels (table_of project.reels)) reels _ table
-        (stopped list_and_text itself outcome (list_in project.rate (file_at world project.edl)) _ is))
+    pub no_list : (outcome : Outcome) → ByFiles told (λ files. Reaches list_and_text (Err outcome) (list_in project.rate (files.list project.edl))) → ByFiles told (Stops outcome)
+    no_list outcome read = (
+      read.0,
+      read.1,
+      went_on (Reaches itself (Err outcome)) (unless_refused refused.Reels (table_of project.reels)) reels _ table
+          (stopped list_and_text itself outcome (list_in project.rate (read.0.list project.edl)) _ read.2),
+    )
 
-    module _ (read : ListText) (list : IfSome told (λ world. list_in project.rate (file_at world project.edl) ≡ Ok (list_and_text read))) where
-      pub no_timeline : (outcome : Outcome) → Reaches (itself {A = RecordReel}) (Err outcome) (unless_refused refused.Timeline (timeline_of project.rate read.list)) → IfSome told (Stops outcome)
-      no_timeline outcome is = told_one told _ _ (λ world had.
-          went_on (Reaches itself (Err outcome)) (unless_refused refused.Reels (table_of project.reels)) reels _ table
-          (went_on (Reaches itself (Err outcome)) (list_in project.rate (file_at world project.edl)) (list_and_text read) _ had
-          (stopped itself itself outcome (unless_refused refused.Timeline (timeline_of project.rate read.list)) _ is))) list
+    module _ (read : ListText) (list : ByFiles told (λ files. list_in project.rate (files.list project.edl) ≡ Ok (list_and_text read))) where
+      pub no_timeline : (outcome : Outcome) → Reaches (itself {A = RecordReel}) (Err outcome) (unless_refused refused.Timeline (timeline_of project.rate read.list)) → ByFiles told (Stops outcome)
+      no_timeline outcome is = (
+        list.0,
+        list.1,
+        went_on (Reaches itself (Err outcome)) (unless_refused refused.Reels (table_of project.reels)) reels _ table
+            (went_on (Reaches itself (Err outcome)) (list_in project.rate (list.0.list project.edl)) (list_and_text read) _ list.2
+            (stopped itself itself outcome (unless_refused refused.Timeline (timeline_of project.rate read.list)) _ is)),
+      )
 
       module _ (timeline : RecordReel) (built : unless_refused refused.Timeline (timeline_of project.rate read.list) ≡ Ok timeline) where
-        pub no_look : (outcome : Outcome) → IfSome told (λ world. Reaches look_and_text (Err outcome) (look_in (file_at world) project.cube)) → IfSome told (Stops outcome)
-        no_look outcome = told_two told _ _ _ (λ world had is.
-            went_on (Reaches itself (Err outcome)) (unless_refused refused.Reels (table_of project.reels)) reels _ table
-            (went_on (Reaches itself (Err outcome)) (list_in project.rate (file_at world project.edl)) (list_and_text read) _ had
-            (went_on (Reaches itself (Err outcome)) (unless_refused refused.Timeline (timeline_of project.rate read.list)) timeline _ built
-            (stopped look_and_text itself outcome (look_in (file_at world) project.cube) _ is)))) list
+        pub no_look : (outcome : Outcome) → ByFiles told (λ files. Reaches look_and_text (Err outcome) (look_in files.cube project.cube)) → ByFiles told (Stops outcome)
+        no_look outcome cube = (
+          joined list.0 list.0 cube.0,
+          joined_told told list.0 list.0 cube.0 list.1 list.1 cube.1,
+          went_on (Reaches itself (Err outcome)) (unless_refused refused.Reels (table_of project.reels)) reels _ table
+              (went_on (Reaches itself (Err outcome)) (list_in project.rate (list.0.list project.edl)) (list_and_text read) _ list.2
+              (went_on (Reaches itself (Err outcome)) (unless_refused refused.Timeline (timeline_of project.rate read.list)) timeline _ built
+              (stopped look_and_text itself outcome (look_in cube.0.cube project.cube) _ cube.2))),
+        )
 
         pub all_parts : (look : LookText) (digest : List ℕ) → digest ≡ digest_of text read.text.items (look_and_text look).0
-            → IfSome told (λ world. look_in (file_at world) project.cube ≡ Ok (look_and_text look))
-            → IfSome told (λ world. parts_of (file_at world) text project ≡ Ok (record { digest = digest; project = project; reels = reels; timeline = timeline; look = look.look }))
-        all_parts look digest is = told_two told _ _ _ (λ world had looked.
-            let Comes = λ (all : Result JobParts Refused). all ≡ Ok (record { digest = digest; project = project; reels = reels; timeline = timeline; look = look.look }) in
-            went_on Comes (unless_refused refused.Reels (table_of project.reels)) reels _ table
-            (went_on Comes (list_in project.rate (file_at world project.edl)) (list_and_text read) _ had
-            (went_on Comes (unless_refused refused.Timeline (timeline_of project.rate read.list)) timeline _ built
-            (went_on Comes (look_in (file_at world) project.cube) (look_and_text look) _ looked
-            (ap (λ (d : List ℕ). Ok (record { digest = d; project = project; reels = reels; timeline = timeline; look = look.look })) (sym is)))))) list
+            → ByFiles told (λ files. look_in files.cube project.cube ≡ Ok (look_and_text look))
+            → ByFiles told (λ files. parts_from files text project ≡ Ok (record { digest = digest; project = project; reels = reels; timeline = timeline; look = look.look }))
+        all_parts look digest is cube =
+            let Comes = λ (all : Result JobParts Refused). all ≡ Ok (record { digest = digest; project = project; reels = reels; timeline = timeline; look = look.look }) in (
+              joined list.0 list.0 cube.0,
+              joined_told told list.0 list.0 cube.0 list.1 list.1 cube.1,
+              went_on Comes (unless_refused refused.Reels (table_of project.reels)) reels _ table
+                  (went_on Comes (list_in project.rate (list.0.list project.edl)) (list_and_text read) _ list.2
+                  (went_on Comes (unless_refused refused.Timeline (timeline_of project.rate read.list)) timeline _ built
+                  (went_on Comes (look_in cube.0.cube project.cube) (look_and_text look) _ cube.2
+                  (ap (λ (d : List ℕ). Ok (record { digest = d; project = project; reels = reels; timeline = timeline; look = look.look })) (sym is))))),
+            )
 
 -- From the steps to the job.
 planned_without : (files : Files) (file : Option (List ℕ)) (outcome : Outcome) → MeansFile file (Err outcome) → FileHasPlanned files file (Err outcome)
@@ -383,6 +423,10 @@ planned_whole files text project parts (faults.MissingFrame line reel source) me
 planned_whole files text project parts (faults.BadFrame line reel source bad) means is first = (Ok project, means, rw (is, first) refl)
 planned_whole files text project parts (faults.Geometry line reel source) means is first = (Ok project, means, rw (is, first) refl)
 
+planned_job : (files : Files) (text : List ℕ) (project : Project) (parts : JobParts) (job : JobData) → Means text (Ok project) → parts_of files text project ≡ Ok parts
+    → first_refusal parts files ≡ None → job.parts ≡ parts → FileHasPlanned files (Some text) (Ok job)
+planned_job files text project parts job means is first same = (Ok project, means, rw (is, first, same) refl)
+
 -- a job's refusal comes to a fault of the scan exactly where it is one
 fault_is : (fault : JobFault) → outcome_of_fault fault ≡ outcomes.SourceFault → fault ≡ faults.SourceFault
 fault_is faults.SourceFault is = refl
@@ -401,30 +445,34 @@ pub job_of_scan : {A B : Type 0} (fault : JobFault) (outcome : Outcome) → outc
     → ◌≡◌ {A = Result A Outcome} (Err outcome) (Err outcomes.SourceFault)
 job_of_scan fault outcome is e = let same : fault ≡ faults.SourceFault = cc in ap Err (is ∙ ap outcome_of_fault same)
 
-pub no_project : (told : Option World) (path : List ℕ) (outcome : Outcome) → IfSome told (λ world. MeansFile (file_at world path) (Err outcome))
-    → IfSome told (λ world. HasPlanned (file_at world) path (Err outcome))
-no_project None path outcome is = tt
-no_project (Some world) path outcome is = planned_without (file_at world) (file_at world path) outcome is
+-- Over files that are told.
+module _ (told : Option World) (path : List ℕ) where
+  pub no_project : (outcome : Outcome) → ByFiles told (λ files. MeansFile (files.project path) (Err outcome)) → IfSome told (λ world. HasPlanned (file_at world) path (Err outcome))
+  no_project outcome read =
+      told_one told _ _ (λ world is. planned_without (file_at world) (file_at world path) outcome is) (by_told told (λ files. MeansFile (files.project path) (Err outcome)) read)
 
-pub no_parts : (told : Option World) (path : List ℕ) (read : ProjectText) (outcome : Outcome) → IfSome told (λ world. MeansFile (file_at world path) (Ok read))
-    → IfSome told (λ world. Reaches (itself {A = JobParts}) (Err outcome) (parts_of (file_at world) read.text.items read.project))
-    → IfSome told (λ world. HasPlanned (file_at world) path (Err outcome))
-no_parts None path read outcome means is = tt
-no_parts (Some world) path read outcome means is =
-    subst (λ file. FileHasPlanned (file_at world) file (Err outcome)) (sym means.0) (planned_in_part (file_at world) read.text.items read.project outcome means.1 is)
+  module _ (read : ProjectText) (means : ByFiles told (λ files. MeansFile (files.project path) (Ok read))) where
+    has : IfSome told (λ world. MeansFile (file_at world path) (Ok read))
+    has = by_told told (λ files. MeansFile (files.project path) (Ok read)) means
 
-pub no_job : (told : Option World) (path : List ℕ) (read : ProjectText) (parts : JobParts) (fault : JobFault) → IfSome told (λ world. MeansFile (file_at world path) (Ok read))
-    → IfSome told (λ world. parts_of (file_at world) read.text.items read.project ≡ Ok parts)
-    → IfSome told (λ world. IsRefusal fault (first_refusal parts (file_at world)))
-    → IfSome told (λ world. HasPlanned (file_at world) path (Err (outcome_of_fault fault)))
-no_job None path read parts fault means is first = tt
-no_job (Some world) path read parts fault means is first =
-    subst (λ file. FileHasPlanned (file_at world) file (Err (outcome_of_fault fault))) (sym means.0) (planned_whole (file_at world) read.text.items read.project parts fault means.1 is first)
+    pub no_parts : (outcome : Outcome) → ByFiles told (λ files. Reaches (itself {A = JobParts}) (Err outcome) (parts_from files read.text.items read.project))
+        → IfSome told (λ world. HasPlanned (file_at world) path (Err outcome))
+    no_parts outcome stops = told_two told _ _ _ (λ world means is.
+        subst (λ file. FileHasPlanned (file_at world) file (Err outcome)) (sym means.0) (planned_in_part (file_at world) read.text.items read.project outcome means.1 is))
+        has (by_told told (λ files. Reaches (itself {A = JobParts}) (Err outcome) (parts_from files read.text.items read.project)) stops)
 
-pub a_job : (told : Option World) (path : List ℕ) (read : ProjectText) (parts : JobParts) (job : JobData) → IfSome told (λ world. MeansFile (file_at world path) (Ok read))
-    → IfSome told (λ world. parts_of (file_at world) read.text.items read.project ≡ Ok parts)
-    → IfSome told (λ world. first_refusal parts (file_at world) ≡ None) → job.parts ≡ parts
-    → IfSome told (λ world. HasPlanned (file_at world) path (Ok job))
-a_job None path read parts job means is first same = tt
-a_job (Some world) path read parts job means is first same =
-    subst (λ file. FileHasPlanned (file_at world) file (Ok job)) (sym means.0) (Ok read.project, means.1, rw (is, first, same) refl)
+    module _ (parts : JobParts) (comes : ByFiles told (λ files. parts_from files read.text.items read.project ≡ Ok parts)) where
+      come : IfSome told (λ world. parts_of (file_at world) read.text.items read.project ≡ Ok parts)
+      come = by_told told (λ files. parts_from files read.text.items read.project ≡ Ok parts) comes
+
+      pub no_job : (fault : JobFault) → IfSome told (λ world. IsRefusal fault (first_refusal parts (file_at world)))
+          → IfSome told (λ world. HasPlanned (file_at world) path (Err (outcome_of_fault fault)))
+      no_job fault first = told_two told _ _ _ (λ world all first.
+          subst (λ file. FileHasPlanned (file_at world) file (Err (outcome_of_fault fault))) (sym all.0.0) (planned_whole (file_at world) read.text.items read.project parts fault all.0.1 all.1 first))
+          (told_both told _ _ has come) first
+
+      pub a_job : (job : JobData) → IfSome told (λ world. first_refusal parts (file_at world) ≡ None) → job.parts ≡ parts
+          → IfSome told (λ world. HasPlanned (file_at world) path (Ok job))
+      a_job job first same = told_two told _ _ _ (λ world all first.
+          subst (λ file. FileHasPlanned (file_at world) file (Ok job)) (sym all.0.0) (planned_job (file_at world) read.text.items read.project parts job all.0.1 all.1 first same))
+          (told_both told _ _ has come) first

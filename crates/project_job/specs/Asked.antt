@@ -5,11 +5,10 @@
 --     loads_of refusal cube      how many files are loaded before the refusal, of a project that names this cube
 --     HasLoadedFor told path before after reached      so many were loaded, where a refusal was reached
 --     HasInspectedFor told path before after reached      and no head was asked for, but those of a job's frames up to the refused one
-use Rattle.std.specs.Prelude.{◌≡◌, ℕ, ◌+◌, List, Option, Some, None, IfSome, IfOk, Result, Ok}
-use Rattle.scan_source.specs.World.{World, file_at}
+use Rattle.std.specs.Prelude.{◌≡◌, ℕ, ◌+◌, List, Option, Some, None, IfOk, Result, Ok}
+use Rattle.scan_source.specs.World.{World}
 use Rattle.conform_job.specs.Answers.{count_after}
 use Rattle.conform_job.specs.Ended.{HasAsked}
-use Rattle.conform_job.specs.Refusals.{Files}
 use Rattle.conform_job.specs.declared.parts.JobFault.{JobFault}
 use Rattle.conform_job.specs.declared.parts.JobParts.{JobParts}
 use Rattle.project_file.specs.Projects.{Means}
@@ -20,7 +19,8 @@ use Rattle.outcome.specs.declared.Outcome.TheVariants as outcome
 use Rattle.outcome.specs.declared.Refused.{Refused}
 use Rattle.outcome.specs.declared.Refused.TheVariants as refused
 use Rattle.outcome.specs.declared.Which.TheVariants as which
-use Rattle.project_job.specs.Jobs.{cube_count, parts_of}
+use Rattle.project_job.specs.Jobs.{cube_count, FilesRead, parts_from}
+use Rattle.project_job.specs.Texts.{ByFiles}
 
 -- The project is loaded first, then the list, then the cube if one is named; a job is judged behind them all. A file that stands
 -- alone is no project's.
@@ -49,21 +49,21 @@ FileNames (Some text) cube = (read : Result Project ProjectFault) × Means text 
 -- the files up to this refusal were loaded, of the project at the path, which names this cube
 pub record WereLoaded (told : Option World) (path : List ℕ) (before after : ℕ) (refusal : Refused) : Type 0 where
   pub cube : Option (List ℕ)
-  pub named : IfSome told (λ world. FileNames (file_at world path) cube)
+  pub named : ByFiles told (λ files. FileNames (files.project path) cube)
   pub loads : after ≡ count_after (loads_of refusal cube) before
 
 abbrev pub HasLoadedFor : Option World → List ℕ → (before after : ℕ) → Outcome → Type 0
 HasLoadedFor told path before after reached = IfRefused reached (WereLoaded told path before after)
 
--- the project at the path has these parts
-abbrev pub FileHasParts : Files → Option (List ℕ) → JobParts → Type 0
+-- the project of this file has these parts
+abbrev pub FileHasParts : FilesRead → Option (List ℕ) → JobParts → Type 0
 FileHasParts files None parts = ⊥
-FileHasParts files (Some text) parts = (project : Project) × Means text (Ok project) × (parts_of files text project ≡ Ok parts)
+FileHasParts files (Some text) parts = (project : Project) × Means text (Ok project) × (parts_from files text project ≡ Ok parts)
 
 -- the frames of a job were judged until this fault ended it
 pub record WereJudged (told : Option World) (path : List ℕ) (before after : ℕ) (fault : JobFault) : Type 0 where
   pub parts : JobParts
-  pub comes : IfSome told (λ world. FileHasParts (file_at world) (file_at world path) parts)
+  pub comes : ByFiles told (λ files. FileHasParts files (files.project path) parts)
   pub heads : HasAsked parts told before after fault
 
 -- no head is asked for before the frames of a job are judged, and then those up to the refused one

@@ -2,6 +2,7 @@
 -- rule.
 -- * job of a project [Laws]: its texts in the order in which they are read, and the first refusal, as one list of steps; else
 --   the parts of its job; reels that are counted in modes that the rate has. Law: a project comes to one of them alone
+--     FilesRead, unchanged files      the files as they are at each load, the same ones at all of them
 --     job_of files text read      what the job of a project comes to, whose text was read so: its parts, or the first refusal
 --     ComesTo files path answer      what the project at a path comes to
 use Rattle.std.specs.Prelude.{◌≡◌, ◌≤◌, ℕ, List, Option, Some, None, Result, Ok, Err}
@@ -73,14 +74,27 @@ abbrev pub unless_job : JobParts → Option JobFault → Result JobParts Refused
 unless_job parts None = Ok parts
 unless_job parts (Some fault) = Err (refused.Job fault)
 
+-- The files as they are when a project is loaded, when its list is, and when its cube is: they may change in between.
+pub record FilesRead : Type 0 where
+  pub project : Files
+  pub list : Files
+  pub cube : Files
+
+-- the same files at each load
+abbrev pub unchanged : Files → FilesRead
+unchanged files = record { project = files; list = files; cube = files }
+
 -- the parts of the job of a project with this text
-abbrev pub parts_of : Files → List ℕ → Project → Result JobParts Refused
-parts_of files text project = do
+abbrev pub parts_from : FilesRead → List ℕ → Project → Result JobParts Refused
+parts_from files text project = do
   reels ← unless_refused refused.Reels (table_of project.reels)
-  edl ← list_in project.rate (files project.edl)
+  edl ← list_in project.rate (files.list project.edl)
   timeline ← unless_refused refused.Timeline (timeline_of project.rate edl.1)
-  cube ← look_in files project.cube
+  cube ← look_in files.cube project.cube
   Ok (record { digest = digest_of text edl.0 cube.0; project = project; reels = reels; timeline = timeline; look = cube.1 })
+
+abbrev pub parts_of : Files → List ℕ → Project → Result JobParts Refused
+parts_of files text project = parts_from (unchanged files) text project
 
 abbrev pub job_of : Files → List ℕ → Result Project ProjectFault → Result JobParts Refused
 job_of files text read = do
@@ -88,10 +102,14 @@ job_of files text read = do
   parts ← parts_of files text project
   unless_job parts (first_refusal parts files)
 
--- what the project of this file comes to, if it is there
+-- what the project of this file comes to, if it is there, where its job is had of its text so
+abbrev pub FileComesBy : (List ℕ → Result Project ProjectFault → Result JobParts Refused) → Option (List ℕ)
+    → Result JobParts Refused → Type 0
+FileComesBy job None answer = answer ≡ Err (refused.NoFile which.Project)
+FileComesBy job (Some text) answer = (read : Result Project ProjectFault) × Means text read × (answer ≡ job text read)
+
 abbrev pub FileComesTo : Files → Option (List ℕ) → Result JobParts Refused → Type 0
-FileComesTo files None answer = answer ≡ Err (refused.NoFile which.Project)
-FileComesTo files (Some text) answer = (read : Result Project ProjectFault) × Means text read × (answer ≡ job_of files text read)
+FileComesTo files file answer = FileComesBy (job_of files) file answer
 
 abbrev pub ComesTo : Files → List ℕ → Result JobParts Refused → Type 0
 ComesTo files path answer = FileComesTo files (files path) answer

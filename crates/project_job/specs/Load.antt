@@ -1,11 +1,19 @@
 -- What a load of a file comes to.
--- * front of a file: its length and as many of its first bytes as are asked for, or why there are none
-use Rattle.std.specs.Prelude.{◌≡◌, ℕ, List, length, take, Option, None, IsSomeAnd, Result, MatchResult}
+-- * front of a file: its length and as many of its first bytes as are asked for, or why there are none; of the file at the path
+--   where the scan tells its files, else of some file
+--     ByFile told path IsRight      something is right by the file at the path
+--     IsLoadOf absent most file answer      the answer is a front of the file, or says why there is none
+use Rattle.std.specs.Prelude.{◌≡◌, ℕ, List, length, take, Option, None, IfSome, IsSomeAnd, Result, MatchResult}
+use Rattle.scan_source.specs.World.{World, file_at}
 use Rattle.project_job.specs.declared.loads.Front.{Front}
 use Rattle.outcome.specs.declared.Outcome.{Outcome}
 use Rattle.outcome.specs.declared.Outcome.TheVariants.{Refused as IsRefused, SourceFault, NoMemory}
 use Rattle.outcome.specs.declared.Refused.TheVariants.{NoFile}
 use Rattle.outcome.specs.declared.Which.{Which}
+
+-- A file, or that there is none: the one at the path where the scan tells its files, else some one that it read.
+abbrev pub ByFile : Option World → List ℕ → (Option (List ℕ) → Type 0) → Type 0
+ByFile told path IsRight = (file : Option (List ℕ)) × IfSome told (λ world. file ≡ file_at world path) × IsRight file
 
 -- it is the front of the file
 abbrev pub IsFront : Option (List ℕ) → ℕ → Front → Type 0

@@ -1,9 +1,8 @@
 //! Loads of files.
-ghost use Rattle.std.specs.Prelude.{◌≡◌, min, length, Err, IfSome, IfOk, IfErr};
+ghost use Rattle.std.specs.Prelude.{◌≡◌, min, length, Err, IfOk, IfErr};
 ghost use Rattle.scan_source.specs.Plan.{one_more};
-ghost use Rattle.scan_source.specs.World.{file_at};
 ghost use Rattle.scan_source.specs.State.{LeavesScan};
-ghost use Rattle.project_job.specs.Load.{IsLoadOf, IsOfLoad};
+ghost use Rattle.project_job.specs.Load.{ByFile, IsLoadOf, IsOfLoad};
 
 use cf_base::PathText;
 use outcome::{Outcome, Refused, Which};
@@ -27,7 +26,7 @@ pub fn load<S: Scans>(
     absent: Which,
     scan: &mut S,
 ) -> Result<Front, Outcome>
-    ensures told { IfSome (S.state scan.old).world (λ world. IsLoadOf absent most (file_at world path.now) result) }
+    ensures read { ByFile (S.state scan.old).world path.now (λ file. IsLoadOf absent most file result) }
     ensures fills { IfOk result (λ front. length front.bytes.items ≡ min front.len most) }
     ensures kind { IfErr result (IsOfLoad absent) }
 

@@ -11,7 +11,8 @@ ghost use Rattle.conform_job.specs.Infos.{HasEachOnce};
 ghost use Rattle.conform_job.specs.Job.{ArePlanned};
 ghost use Rattle.project_job.specs.Asked.{HasInspectedFor, HasLoadedFor};
 ghost use Rattle.project_job.specs.inside.Asked.{ComesBehind, HasLoadedBehind, IsOfTexts};
-ghost use Rattle.project_job.specs.Jobs.{list_in, cube_in, look_in, look_of_text, parts_of, HasPlanned, unless_refused, IsOfJob, cube_count, AreCounted, AreLoaded};
+ghost use Rattle.project_job.specs.Jobs.{list_in, cube_in, look_in, look_of_text, parts_from, HasPlanned, unless_refused, IsOfJob, cube_count, AreCounted, AreLoaded};
+ghost use Rattle.project_job.specs.Texts.{ByFiles, IsByTexts};
 ghost use Rattle.project_job.specs.inside.Jobs.{itself, list_and_text, look_and_text, outcome_of_fault, Reaches, MeansFile};
 ghost use Rattle.scan_source.specs.State.{LeavesScan};
 ghost use Rattle.outcome.specs.declared.Refused.TheVariants as refused;
@@ -62,6 +63,7 @@ struct LookText {
 /// The job of the project at a path, or what was reached in its place.
 pub fn planned<S: Scans>(alloc: Global, path: &PathText, scan: &mut S) -> Result<Job, Outcome>
     ensures told { IfSome (S.state scan.old).world (λ world. HasPlanned (file_at world) path.now result) }
+    ensures read { ByFiles (S.state scan.old).world (λ files. IsByTexts files path.now result) }
     ensures kind { IfErr result IsOfJob }
     ensures job { IfOk result (λ job. Grows job.parts (S.state scan.old).world (asks_of job.parts.timeline) [] job.infos) }
     ensures once { IfOk result (λ job. HasEachOnce job.infos) }
@@ -107,7 +109,7 @@ fn project_in<S: Scans>(
     path: &PathText,
     scan: &mut S,
 ) -> Result<ProjectText, Outcome>
-    ensures told { IfSome (S.state scan.old).world (λ world. MeansFile (file_at world path.now) result) }
+    ensures read { ByFiles (S.state scan.old).world (λ files. MeansFile (files.project path.now) result) }
     ensures kind { IfErr result IsOfJob }
     ensures stage { IfErr result (ComesBehind 1) }
     ensures range { IfOk result (λ read. IsInRange read.project) }
@@ -139,7 +141,7 @@ fn parts_of<S: Scans>(
     scan: &mut S,
 ) -> Result<JobParts, Outcome>
     requires { IsInRange project }
-    ensures told { IfSome (S.state scan.old).world (λ world. Reaches itself result (parts_of (file_at world) text.now project)) }
+    ensures read { ByFiles (S.state scan.old).world (λ files. Reaches itself result (parts_from files text.now project)) }
     ensures kind { IfErr result IsOfJob }
     ensures planned { IfOk result ArePlanned }
     ensures project { IfOk result (λ parts. parts.project ≡ project) }
@@ -203,7 +205,7 @@ fn list_in<S: Scans>(
     path: &PathText,
     scan: &mut S,
 ) -> Result<ListText, Outcome>
-    ensures told { IfSome (S.state scan.old).world (λ world. Reaches list_and_text result (list_in rate (file_at world path.now))) }
+    ensures read { ByFiles (S.state scan.old).world (λ files. Reaches list_and_text result (list_in rate (files.list path.now))) }
     ensures kind { IfErr result IsOfJob }
     ensures stage { IfErr result (ComesBehind 2) }
     ensures made { IfOk result (λ read. IsWellMade rate read.list.mode read.list.events) }
@@ -248,7 +250,7 @@ fn look_in<S: Scans>(
     named: &Option<PathText>,
     scan: &mut S,
 ) -> Result<LookText, Outcome>
-    ensures told { IfSome (S.state scan.old).world (λ world. Reaches look_and_text result (look_in (file_at world) named.now)) }
+    ensures read { ByFiles (S.state scan.old).world (λ files. Reaches look_and_text result (look_in files.cube named.now)) }
     ensures kind { IfErr result IsOfJob }
     ensures stage { IfErr result (ComesBehind 3) }
     ensures named { IfErr result (λ _. cube_count named.now ≡ 1) }
@@ -268,7 +270,7 @@ fn look_in<S: Scans>(
 
 /// The look of the cube at a path.
 fn cube_in<S: Scans>(alloc: Global, path: &PathText, scan: &mut S) -> Result<LookText, Outcome>
-    ensures told { IfSome (S.state scan.old).world (λ world. Reaches look_and_text result (cube_in (file_at world path.now))) }
+    ensures read { ByFiles (S.state scan.old).world (λ files. Reaches look_and_text result (cube_in (files.cube path.now))) }
     ensures kind { IfErr result IsOfJob }
     ensures stage { IfErr result (ComesBehind 3) }
 

@@ -7,6 +7,7 @@ use Rattle.outcome.specs.declared.Outcome.TheVariants as outcomes
 use Rattle.outcome.specs.declared.Refused.TheVariants as refused
 use Rattle.outcome.specs.declared.Which.{Which}
 use Rattle.project_job.proofs.Projects.{no_err}
+use Rattle.project_job.proofs.Reading.{any_file, got_file, no_file}
 use Rattle.project_job.specs.declared.loads.Front.{Front}
 use Rattle.project_job.proofs.loads.load.Goals as goal
 
@@ -26,3 +27,16 @@ returns-in-Got-clause-scan g c =
 pub returns-in-Absent-clause-scan : goal.returns-in-Absent-clause-scan
 returns-in-Absent-clause-scan g c =
     leaves_by c.in-Absent.ensures.fault.counts.cause.later (λ failed. absurd (absent_no_fault c.args.absent failed)) (λ _. c.in-Absent.ensures.fault.counts.steady absent_unfailed) c.in-Absent.ensures.world c.in-Absent.ensures.same
+
+-- What was read is a file, also where the scan tells none.
+pub returns-in-Got-clause-read : goal.returns-in-Got-clause-read
+returns-in-Got-clause-read g c = got_file (g.S.Scans.state c.args.scan.now).world c.args.path.now c.args.most _ _ c.in-Got.ensures.told c.in-Got.ensures.fills
+
+pub returns-in-Absent-clause-read : goal.returns-in-Absent-clause-read
+returns-in-Absent-clause-read g c = no_file (g.S.Scans.state c.args.scan.now).world c.args.path.now c.args.absent c.in-Absent.ensures.told
+
+pub returns-in-Failed-clause-read : goal.returns-in-Failed-clause-read
+returns-in-Failed-clause-read g c = any_file (g.S.Scans.state c.args.scan.now).world c.args.path.now _ (λ file. tt)
+
+pub returns-in-NoMemory-clause-read : goal.returns-in-NoMemory-clause-read
+returns-in-NoMemory-clause-read g c = any_file (g.S.Scans.state c.args.scan.now).world c.args.path.now _ (λ file. tt)

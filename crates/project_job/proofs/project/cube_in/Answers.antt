@@ -8,18 +8,18 @@ use Rattle.project_job.proofs.Loading.{load_stage}
 use Rattle.outcome.specs.declared.Which.TheVariants as which
 use Rattle.project_job.proofs.project.cube_in.Goals as goal
 
-pub returns-in-Ok-look_of-clause-told : goal.returns-in-Ok-look_of-clause-told
-returns-in-Ok-look_of-clause-told g c =
-    cube_had (g.S.Scans.state c.args.scan.now).world c.args.path.now c.in-Ok.front c.in-Ok-look_of.look c.in-Ok.ensures.told
+pub returns-in-Ok-look_of-clause-read : goal.returns-in-Ok-look_of-clause-read
+returns-in-Ok-look_of-clause-read g c =
+    cube_had (g.S.Scans.state c.args.scan.now).world c.args.path.now c.in-Ok.front c.in-Ok-look_of.look c.in-Ok.ensures.read
     (subst (λ text. look_of_text text ≡ Ok c.in-Ok-look_of.look) c.deref.ensures.value c.in-Ok-look_of.ensures.look)
 
-pub returns-in-Err-look_of-clause-told : goal.returns-in-Err-look_of-clause-told
-returns-in-Err-look_of-clause-told g c =
-    cube_refused (g.S.Scans.state c.args.scan.now).world c.args.path.now c.in-Ok.front c.in-Err-look_of.outcome c.in-Ok.ensures.told
+pub returns-in-Err-look_of-clause-read : goal.returns-in-Err-look_of-clause-read
+returns-in-Err-look_of-clause-read g c =
+    cube_refused (g.S.Scans.state c.args.scan.now).world c.args.path.now c.in-Ok.front c.in-Err-look_of.outcome c.in-Ok.ensures.read
     (subst (λ text. Reaches itself (Err c.in-Err-look_of.outcome) (look_of_text text)) c.deref.ensures.value c.in-Err-look_of.ensures.look)
 
-pub returns-in-Err-clause-told : goal.returns-in-Err-clause-told
-returns-in-Err-clause-told g c = cube_missing (g.S.Scans.state c.args.scan.now).world c.args.path.now c.in-Err.outcome c.in-Err.ensures.told
+pub returns-in-Err-clause-read : goal.returns-in-Err-clause-read
+returns-in-Err-clause-read g c = cube_missing (g.S.Scans.state c.args.scan.now).world c.args.path.now c.in-Err.outcome c.in-Err.ensures.read
 
 pub returns-in-Err-clause-stage : goal.returns-in-Err-clause-stage
 returns-in-Err-clause-stage g c = load_stage which.Cube 3 c.in-Err.outcome (λ cube. refl) c.in-Err.ensures.kind

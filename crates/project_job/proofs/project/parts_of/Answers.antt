@@ -5,30 +5,30 @@ use Rattle.scan_source.proofs.Leaving.{leaves_as, leaves_done, leaves_still, lea
 use Rattle.project_job.proofs.Loading.{loaded_behind, look_behind, stage_texts}
 use Rattle.project_job.proofs.project.parts_of.Goals as goal
 
-pub returns-in-Err-clause-told : goal.returns-in-Err-clause-told
-returns-in-Err-clause-told g c = no_reels (g.S.Scans.state c.args.scan.now).world c.args.text.now c.args.project c.in-Err.outcome c.in-Err.ensures.table
+pub returns-in-Err-clause-read : goal.returns-in-Err-clause-read
+returns-in-Err-clause-read g c = no_reels (g.S.Scans.state c.args.scan.now).world c.args.text.now c.args.project c.in-Err.outcome c.in-Err.ensures.table
 
-pub returns-in-Err-list_in-clause-told : goal.returns-in-Err-list_in-clause-told
-returns-in-Err-list_in-clause-told g c =
-    no_list (g.S.Scans.state c.args.scan.now).world c.args.text.now c.args.project c.in-Ok.reels c.in-Ok.ensures.table c.in-Err-list_in.outcome c.in-Err-list_in.ensures.told
+pub returns-in-Err-list_in-clause-read : goal.returns-in-Err-list_in-clause-read
+returns-in-Err-list_in-clause-read g c =
+    no_list (g.S.Scans.state c.args.scan.now).world c.args.text.now c.args.project c.in-Ok.reels c.in-Ok.ensures.table c.in-Err-list_in.outcome c.in-Err-list_in.ensures.read
 
-pub returns-in-Err-timeline_of-clause-told : goal.returns-in-Err-timeline_of-clause-told
-returns-in-Err-timeline_of-clause-told g c =
-    no_timeline (g.S.Scans.state c.args.scan.now).world c.args.text.now c.args.project c.in-Ok.reels c.in-Ok.ensures.table c.in-Ok-list_in.read c.in-Ok-list_in.ensures.told c.in-Err-timeline_of.outcome c.in-Err-timeline_of.ensures.timeline
+pub returns-in-Err-timeline_of-clause-read : goal.returns-in-Err-timeline_of-clause-read
+returns-in-Err-timeline_of-clause-read g c =
+    no_timeline (g.S.Scans.state c.args.scan.now).world c.args.text.now c.args.project c.in-Ok.reels c.in-Ok.ensures.table c.in-Ok-list_in.read c.in-Ok-list_in.ensures.read c.in-Err-timeline_of.outcome c.in-Err-timeline_of.ensures.timeline
 
-pub returns-in-Err-look_in-clause-told : goal.returns-in-Err-look_in-clause-told
-returns-in-Err-look_in-clause-told g c =
-    no_look (g.S.Scans.state c.args.scan.now).world c.args.text.now c.args.project c.in-Ok.reels c.in-Ok.ensures.table c.in-Ok-list_in.read c.in-Ok-list_in.ensures.told c.in-Ok-timeline_of.timeline c.in-Ok-timeline_of.ensures.timeline
-    c.in-Err-look_in.outcome (rw c.in-Ok-list_in.ensures.scan.told at c.in-Err-look_in.ensures.told)
+pub returns-in-Err-look_in-clause-read : goal.returns-in-Err-look_in-clause-read
+returns-in-Err-look_in-clause-read g c =
+    no_look (g.S.Scans.state c.args.scan.now).world c.args.text.now c.args.project c.in-Ok.reels c.in-Ok.ensures.table c.in-Ok-list_in.read c.in-Ok-list_in.ensures.read c.in-Ok-timeline_of.timeline c.in-Ok-timeline_of.ensures.timeline
+    c.in-Err-look_in.outcome (rw c.in-Ok-list_in.ensures.scan.told at c.in-Err-look_in.ensures.read)
 
 pub returns-in-Err-look_in-clause-loads : goal.returns-in-Err-look_in-clause-loads
 returns-in-Err-look_in-clause-loads g c =
     loaded_both c.args.project.cube (g.S.Scans.state c.args.scan.now).loads _ _ c.in-Ok-list_in.ensures.loads c.in-Err-look_in.ensures.loads
 
-pub returns-clause-told : goal.returns-clause-told
-returns-clause-told g c =
-    all_parts (g.S.Scans.state c.args.scan.now).world c.args.text.now c.args.project c.in-Ok.reels c.in-Ok.ensures.table c.in-Ok-list_in.read c.in-Ok-list_in.ensures.told c.in-Ok-timeline_of.timeline c.in-Ok-timeline_of.ensures.timeline
-    c.in-Ok-look_in.read c.job_digest.result (rw (c.as_deref.ensures.value, c.deref.ensures.value) at c.job_digest.ensures) (rw c.in-Ok-list_in.ensures.scan.told at c.in-Ok-look_in.ensures.told)
+pub returns-clause-read : goal.returns-clause-read
+returns-clause-read g c =
+    all_parts (g.S.Scans.state c.args.scan.now).world c.args.text.now c.args.project c.in-Ok.reels c.in-Ok.ensures.table c.in-Ok-list_in.read c.in-Ok-list_in.ensures.read c.in-Ok-timeline_of.timeline c.in-Ok-timeline_of.ensures.timeline
+    c.in-Ok-look_in.read c.job_digest.result (rw (c.as_deref.ensures.value, c.deref.ensures.value) at c.job_digest.ensures) (rw c.in-Ok-list_in.ensures.scan.told at c.in-Ok-look_in.ensures.read)
 
 pub returns-clause-loads : goal.returns-clause-loads
 returns-clause-loads g c =

@@ -8,28 +8,48 @@ use Rattle.project_job.proofs.Counted.{counted_job}
 use Rattle.project_job.proofs.Projects.{no_project, no_parts, no_job, a_job, loaded_first, loaded_all, err_as, no_err, scan_of_job, job_of_scan}
 use Rattle.scan_source.proofs.Leaving.{leaves_as, leaves_done, leaves_then}
 use Rattle.project_job.proofs.Loading.{project_loaded, parts_loaded, job_loaded, unasked, job_asked, judged, stage_texts}
+use Rattle.project_job.proofs.Reaching.{read_none, read_part, read_lines, read_job}
 use Rattle.project_job.proofs.project.planned.Goals as goal
 
+-- What is said over files that are told, and by the texts over any.
 pub returns-in-Err-clause-told : goal.returns-in-Err-clause-told
-returns-in-Err-clause-told g c = no_project (g.S.Scans.state c.args.scan.now).world c.args.path.now c.in-Err.outcome c.in-Err.ensures.told
+returns-in-Err-clause-told g c = no_project (g.S.Scans.state c.args.scan.now).world c.args.path.now c.in-Err.outcome c.in-Err.ensures.read
+
+pub returns-in-Err-clause-read : goal.returns-in-Err-clause-read
+returns-in-Err-clause-read g c = read_none (g.S.Scans.state c.args.scan.now).world c.args.path.now c.in-Err.outcome c.in-Err.ensures.read
 
 pub returns-in-Err-parts_of-clause-told : goal.returns-in-Err-parts_of-clause-told
 returns-in-Err-parts_of-clause-told g c =
-    no_parts (g.S.Scans.state c.args.scan.now).world c.args.path.now c.in-Ok.read c.in-Err-parts_of.outcome c.in-Ok.ensures.told
-    (rw (c.in-Ok.ensures.scan.told, c.deref.ensures.value) at c.in-Err-parts_of.ensures.told)
+    no_parts (g.S.Scans.state c.args.scan.now).world c.args.path.now c.in-Ok.read c.in-Ok.ensures.read c.in-Err-parts_of.outcome
+    (rw (c.in-Ok.ensures.scan.told, c.deref.ensures.value) at c.in-Err-parts_of.ensures.read)
+
+pub returns-in-Err-parts_of-clause-read : goal.returns-in-Err-parts_of-clause-read
+returns-in-Err-parts_of-clause-read g c =
+    read_part (g.S.Scans.state c.args.scan.now).world c.args.path.now c.in-Ok.read c.in-Ok.ensures.read c.in-Err-parts_of.outcome
+    (rw (c.in-Ok.ensures.scan.told, c.deref.ensures.value) at c.in-Err-parts_of.ensures.read) c.in-Err-parts_of.ensures.texts
 
 pub returns-in-Ok-plan-clause-told : goal.returns-in-Ok-plan-clause-told
 returns-in-Ok-plan-clause-told g c =
-    a_job (g.S.Scans.state c.args.scan.now).world c.args.path.now c.in-Ok.read c.in-Ok-parts_of.parts c.in-Ok-plan.job c.in-Ok.ensures.told
-    (rw (c.in-Ok.ensures.scan.told, c.deref.ensures.value) at c.in-Ok-parts_of.ensures.told)
+    a_job (g.S.Scans.state c.args.scan.now).world c.args.path.now c.in-Ok.read c.in-Ok.ensures.read c.in-Ok-parts_of.parts
+    (rw (c.in-Ok.ensures.scan.told, c.deref.ensures.value) at c.in-Ok-parts_of.ensures.read) c.in-Ok-plan.job
     (rw (c.in-Ok-parts_of.ensures.scan.told, c.in-Ok.ensures.scan.told) at c.in-Ok-plan.ensures.told)
     c.in-Ok-plan.ensures.job.0
 
+pub returns-in-Ok-plan-clause-read : goal.returns-in-Ok-plan-clause-read
+returns-in-Ok-plan-clause-read g c =
+    read_job (g.S.Scans.state c.args.scan.now).world c.args.path.now c.in-Ok.read c.in-Ok.ensures.read c.in-Ok-parts_of.parts
+    (rw (c.in-Ok.ensures.scan.told, c.deref.ensures.value) at c.in-Ok-parts_of.ensures.read) c.in-Ok-plan.job c.in-Ok-plan.ensures.job.0 c.in-Ok-plan.ensures.lines
+
 pub returns-clause-told : goal.returns-clause-told
 returns-clause-told g c =
-    rw c.refused_job.ensures (no_job (g.S.Scans.state c.args.scan.now).world c.args.path.now c.in-Ok.read c.in-Ok-parts_of.parts c.in-Err-plan.fault c.in-Ok.ensures.told
-    (rw (c.in-Ok.ensures.scan.told, c.deref.ensures.value) at c.in-Ok-parts_of.ensures.told)
+    rw c.refused_job.ensures (no_job (g.S.Scans.state c.args.scan.now).world c.args.path.now c.in-Ok.read c.in-Ok.ensures.read c.in-Ok-parts_of.parts
+    (rw (c.in-Ok.ensures.scan.told, c.deref.ensures.value) at c.in-Ok-parts_of.ensures.read) c.in-Err-plan.fault
     (rw (c.in-Ok-parts_of.ensures.scan.told, c.in-Ok.ensures.scan.told) at c.in-Err-plan.ensures.told))
+
+pub returns-clause-read : goal.returns-clause-read
+returns-clause-read g c =
+    read_lines (g.S.Scans.state c.args.scan.now).world c.args.path.now c.in-Ok.read c.in-Ok.ensures.read c.in-Ok-parts_of.parts
+    (rw (c.in-Ok.ensures.scan.told, c.deref.ensures.value) at c.in-Ok-parts_of.ensures.read) c.in-Err-plan.fault c.refused_job.result c.refused_job.ensures c.in-Err-plan.ensures.lines
 
 pub returns-in-Err-parts_of-clause-loads : goal.returns-in-Err-parts_of-clause-loads
 returns-in-Err-parts_of-clause-loads g c = loaded_first (g.S.Scans.state c.args.scan.now).loads _ _ c.in-Ok.ensures.loads c.in-Err-parts_of.ensures.loads
@@ -52,15 +72,15 @@ returns-in-Ok-plan-clause-counted g c =
 
 pub returns-in-Err-clause-refused : goal.returns-in-Err-clause-refused
 returns-in-Err-clause-refused g c =
-    project_loaded (g.S.Scans.state c.args.scan.now).world c.args.path.now c.in-Err.outcome _ _ c.in-Err.ensures.stage c.in-Err.ensures.told c.in-Err.ensures.loads
+    project_loaded (g.S.Scans.state c.args.scan.now).world c.args.path.now c.in-Err.outcome _ _ c.in-Err.ensures.stage c.in-Err.ensures.read c.in-Err.ensures.loads
 
 pub returns-in-Err-parts_of-clause-refused : goal.returns-in-Err-parts_of-clause-refused
 returns-in-Err-parts_of-clause-refused g c =
-    parts_loaded (g.S.Scans.state c.args.scan.now).world c.args.path.now c.in-Ok.read c.in-Ok.ensures.told c.in-Err-parts_of.outcome (g.S.Scans.state c.args.scan.now).loads _ _ c.in-Ok.ensures.loads c.in-Err-parts_of.ensures.refused
+    parts_loaded (g.S.Scans.state c.args.scan.now).world c.args.path.now c.in-Ok.read c.in-Ok.ensures.read c.in-Err-parts_of.outcome (g.S.Scans.state c.args.scan.now).loads _ _ c.in-Ok.ensures.loads c.in-Err-parts_of.ensures.refused
 
 pub returns-clause-refused : goal.returns-clause-refused
 returns-clause-refused g c =
-    job_loaded (g.S.Scans.state c.args.scan.now).world c.args.path.now c.in-Ok.read c.in-Ok.ensures.told c.in-Err-plan.fault c.refused_job.result _ _ c.refused_job.ensures
+    job_loaded (g.S.Scans.state c.args.scan.now).world c.args.path.now c.in-Ok.read c.in-Ok.ensures.read c.in-Err-plan.fault c.refused_job.result _ _ c.refused_job.ensures
     (loaded_all c.in-Ok.read.project.cube (g.S.Scans.state c.args.scan.now).loads _ _ c.in-Ok.ensures.loads
     (c.in-Err-plan.ensures.loads ∙ c.in-Ok-parts_of.ensures.loaded ∙ ap (λ (project : Project). count_after (1 + cube_count project.cube) (g.S.Scans.state c.project_in.new.scan).loads) c.in-Ok-parts_of.ensures.project))
 
@@ -77,7 +97,7 @@ returns-clause-refused_heads g c =
     job_asked (g.S.Scans.state c.args.scan.now).world c.args.path.now c.in-Err-plan.fault c.refused_job.result _ _ c.refused_job.ensures
     (judged (g.S.Scans.state c.args.scan.now).world (g.S.Scans.state c.parts_of.new.scan).world c.args.path.now c.in-Ok.read c.in-Ok-parts_of.parts c.in-Err-plan.fault
     (g.S.Scans.state c.args.scan.now).heads (g.S.Scans.state c.parts_of.new.scan).heads _ (c.in-Ok-parts_of.ensures.scan.told ∙ c.in-Ok.ensures.scan.told) (c.in-Ok-parts_of.ensures.heads ∙ c.in-Ok.ensures.heads)
-    c.in-Ok.ensures.told (rw (c.in-Ok.ensures.scan.told, c.deref.ensures.value) at c.in-Ok-parts_of.ensures.told) c.in-Err-plan.ensures.asked)
+    c.in-Ok.ensures.read (rw (c.in-Ok.ensures.scan.told, c.deref.ensures.value) at c.in-Ok-parts_of.ensures.read) c.in-Err-plan.ensures.asked)
 
 -- A project that isn't had costs its own load.
 pub returns-in-Err-clause-loads : goal.returns-in-Err-clause-loads
