@@ -12,7 +12,7 @@ use Rattle.command_answers.specs.Reply.{IsKindOf, IsReplyOverFolders}
 use Rattle.command_answers.specs.States.{Folders, House}
 use Rattle.reel_qc.specs.declared.table.probe.ProbeKind.{ProbeKind}
 use Rattle.project_adopt.specs.Adopt.{GoesOn, IsAdoption, IsAdoptReply, IsPromised, IsRest, IsUnadopted}
-use Rattle.reconform.specs.Adopt.{HasAnswered}
+use Rattle.reconform.specs.Adopt.{AdoptionMayWrite, HasAnswered}
 use Rattle.reconform.specs.declared.adopting.Adopted.{Adopted}
 use Rattle.reconform.specs.declared.adopting.AdoptFault.{AdoptFault}
 use Rattle.reconform.specs.declared.adopting.AdoptFault.TheVariants as fault
@@ -28,7 +28,11 @@ use Rattle.project_run.specs.Status.{IsStatus}
 use Rattle.project_run.specs.Sums.{AreSums}
 use Rattle.project_run.specs.Verify.{IsChecked}
 use Rattle.conform_job.specs.Job.{JobData}
+use Rattle.cf_base.specs.declared.file.FileId.{FileId}
+use Rattle.reel_disk.specs.Call.{OnlyWrites}
 use Rattle.reel_disk.specs.Disk.{view_of}
+use Rattle.reel_disk.proofs.Writing.{writing_wider}
+use Rattle.reel_writer.specs.Reel.{frames_of, IsRunFile}
 use Rattle.resume_ledger.specs.Ledger.{IsInForce}
 use Rattle.resume_ledger.specs.declared.layout.Version.TheVariants.{Two}
 use Rattle.resume_ledger.specs.Look.{ViewState}
@@ -38,7 +42,7 @@ use Rattle.command_words.specs.declared.command.Command.TheVariants as commands
 use Rattle.outcome.specs.declared.Outcome.{Outcome}
 use Rattle.outcome.specs.declared.Outcome.TheVariants as outcomes
 use Rattle.command_words.proofs.Commands.{one_spelled}
-use Rattle.command_answers.proofs.Replies.{heads_instead, loads_instead, memory_right, told_any}
+use Rattle.command_answers.proofs.Replies.{came_without, heads_instead, loads_instead, memory_right}
 
 -- what was found of the words
 pub none_found : (words : List (List ℕ)) (found : Option Command) → found ≡ None
@@ -96,7 +100,7 @@ made_apart outcome made = (λ same. subst IsMade same made, λ same. subst IsMad
 -- the folder of an outcome whose line found no memory
 none_instead : (told : Option World) (path : List ℕ) (disk disk_after : FolderState) (loads loads_after : ℕ) (reached : Outcome)
     → IsUnplanned told path disk disk_after loads loads_after reached → IsUnplanned told path disk disk_after loads loads_after outcomes.NoMemory
-none_instead told path disk disk_after loads loads_after reached none = record { why = told_any told (λ world. tt); kind = tt; untouched = none.untouched; texts = none.texts; refused = λ refusal same. absurd (cc) }
+none_instead told path disk disk_after loads loads_after reached none = record { why = came_without told path; kind = tt; untouched = none.untouched; texts = none.texts; refused = λ refusal same. absurd (cc) }
 
 ran_instead : {extent : Extent} {range : FrameRange} {share : ℕ} (job : JobData) (told : Option World) (disk disk_after : FolderState) (loads loads_after : ℕ) (reached : Outcome) (output : List ℕ)
     → IsJobRun job extent range share told loads loads_after disk disk_after reached output → IsJobRun job extent range share told loads loads_after disk disk_after outcomes.NoMemory (line_of outcomes.NoMemory)
@@ -193,16 +197,27 @@ rest_instead job told done disk disk_after loads loads_after reached output rest
   form = λ same. absurd (cc);
 }
 
+-- what an adoption may write is a file of a run
+own_of_adoption : (job : JobData) (result : Result Adopted AdoptFault) (q : FileId) → AdoptionMayWrite job result q → IsRunFile job 0 (frames_of job) q
+own_of_adoption job (Ok done) q own = own
+own_of_adoption job (Err (fault.OldOtherJob kept wanted)) q own = absurd own
+own_of_adoption job (Err (fault.OldBadLedger len)) q own = absurd own
+own_of_adoption job (Err (fault.OtherJob kept wanted)) q own = absurd own
+own_of_adoption job (Err (fault.BadLedger len)) q own = absurd own
+own_of_adoption job (Err fault.DiskFault) q own = own
+own_of_adoption job (Err fault.NoMemory) q own = own
+
 adopted_instead : (job old_job : JobData) (told : Option World) (old old_after disk disk_after : FolderState) (loads loads_after : ℕ) (reached : Outcome) (output : List ℕ)
     → IsAdoption job old_job told loads loads_after old old_after disk disk_after reached output
     → IsAdoption job old_job told loads loads_after old old_after disk disk_after outcomes.NoMemory (line_of outcomes.NoMemory)
-adopted_instead job old_job told old old_after disk disk_after loads loads_after reached output went = by went.adopted went.answer went.sealed went.went
+adopted_instead job old_job told old old_after disk disk_after loads loads_after reached output went = by went.adopted went.answer went.sealed went.went went.own
   where
     by : (adopted : Result Adopted AdoptFault) → HasAnswered job old_job disk.tells old.history old_after.history disk.history went.between.history adopted
         → MatchResult adopted (λ done. disk.tells ≡ true → IsInForce Two (view_of went.between.history)) (λ why. Unit {0})
         → MatchResult adopted (λ done. IsRest job done told loads loads_after went.between disk_after reached output) (λ why. IsUnadopted why went.between disk_after loads loads_after reached)
+        → OnlyWrites (AdoptionMayWrite job adopted) disk.calls disk_after.calls
         → IsAdoption job old_job told loads loads_after old old_after disk disk_after outcomes.NoMemory (line_of outcomes.NoMemory)
-    by (Ok done) answer sealed rest = record {
+    by (Ok done) answer sealed rest own = record {
       adopted = Ok done;
       between = went.between;
       tells = went.tells;
@@ -214,9 +229,10 @@ adopted_instead job old_job told old old_after disk disk_after loads loads_after
       acked = λ same. absurd (cc);
       spares = went.spares;
       writes = went.writes;
+      own = own;
       sound_has = went.sound_has;
     }
-    by (Err why) answer sealed unadopted = record {
+    by (Err why) answer sealed unadopted own = record {
       adopted = Err fault.NoMemory;
       between = went.between;
       tells = went.tells;
@@ -228,6 +244,7 @@ adopted_instead job old_job told old old_after disk disk_after loads loads_after
       acked = λ same. absurd (cc);
       spares = went.spares;
       writes = went.writes;
+      own = writing_wider (own_of_adoption job (Err why)) own;
       sound_has = went.sound_has;
     }
 

@@ -167,13 +167,14 @@ planned_complete laws told world path outcomes.SourceFault is has why kind no_so
 planned_complete laws told world path outcomes.NoMemory is has why kind no_source = inr refl
 planned_complete laws told world path other is has why kind no_source = absurd kind
 
-job_complete : OneJob → (IsForm : JobParts → List ℕ → Type 0) (world : World) (path output : List ℕ) (before after : ScanState) (reached : Outcome) → HasJob world path → IsJobReply IsForm (file_at world) path reached output before after
-    → reached ≢ outcomes.SourceFault → IsThrough reached
-job_complete laws IsForm world path output before after outcomes.Done has reply no_source = inl refl
-job_complete laws IsForm world path output before after (outcomes.Refused refusal) has reply no_source = absurd (laws.apart (file_at world) path has.0.parts refusal has.1 reply)
-job_complete laws IsForm world path output before after outcomes.SourceFault has reply no_source = absurd (no_source refl)
-job_complete laws IsForm world path output before after outcomes.NoMemory has reply no_source = inr refl
-job_complete laws IsForm world path output before after other has reply no_source = absurd reply
+job_complete : OneJob → (IsForm : JobParts → List ℕ → Type 0) (world : World) (path output : List ℕ) (before after : ScanState) (reached : Outcome) → before.world ≡ Some world → HasJob world path
+    → IsJobReply IsForm path reached output before after → reached ≢ outcomes.SourceFault → IsThrough reached
+job_complete laws IsForm world path output before after outcomes.Done is has reply no_source = inl refl
+job_complete laws IsForm world path output before after (outcomes.Refused refusal) is has reply no_source =
+    absurd (laws.apart (file_at world) path has.0.parts refusal has.1 (at_world before.world world (λ files. ComesTo (file_at files) path (Err refusal)) is reply.told))
+job_complete laws IsForm world path output before after outcomes.SourceFault is has reply no_source = absurd (no_source refl)
+job_complete laws IsForm world path output before after outcomes.NoMemory is has reply no_source = inr refl
+job_complete laws IsForm world path output before after other is has reply no_source = absurd reply.read.2
 
 demo_complete : OneJob → (count : ℕ) (output : List ℕ) (reached : Outcome) → HasJob (demo_world count) project_path → IsDemoReply count reached output → IsThrough reached
 demo_complete laws count output outcomes.Done has reply = inl refl
@@ -210,17 +211,17 @@ module _ (laws : OneJob) (world : World) (path : List ℕ) (disk : FolderState) 
   run_complete : {extent : Extent} {share : ℕ} (disk_after : FolderState) (loads loads_after : ℕ) (reached : Outcome) (output : List ℕ) → IsRunReply path extent share told loads loads_after disk disk_after reached output
       → reached ≢ outcomes.SourceFault → reached ≢ outcomes.DiskFault → IsThrough reached
   run_complete disk_after loads loads_after reached output (inl has) no_source no_disk =
-      ran_complete world told is has.job disk disk_after has.planned loads_after reached output place.tells (fit_for has.job has.comes) has.ran no_source no_disk
-  run_complete disk_after loads loads_after reached output (inr none) no_source no_disk = planned_complete laws told world path reached is (place.job, place.comes) none.why none.kind no_source
+      ran_complete world told is has.job disk disk_after has.planned loads_after reached output place.tells (fit_for has.job has.comes.told) has.ran no_source no_disk
+  run_complete disk_after loads loads_after reached output (inr none) no_source no_disk = planned_complete laws told world path reached is (place.job, place.comes) none.why.told none.kind no_source
 
   status_complete : (disk_after : FolderState) (loads loads_after : ℕ) (reached : Outcome) (output : List ℕ) → IsStatusReply path told loads loads_after disk disk_after reached output
       → reached ≢ outcomes.SourceFault → reached ≢ outcomes.DiskFault → IsThrough reached
   status_complete disk_after loads loads_after reached output (inl has) no_source no_disk = elim has.looked.reached_is [
     | inl reached_is ↦ subst IsThrough (sym reached_is)
-        (peek_complete has.job.parts.digest (frames_of has.job) disk.history disk_after.history has.looked.answer (fit_for has.job has.comes) (has.looked.peeked place.tells) (λ failed. no_disk (reached_is ∙ failed)))
+        (peek_complete has.job.parts.digest (frames_of has.job) disk.history disk_after.history has.looked.answer (fit_for has.job has.comes.told) (has.looked.peeked place.tells) (λ failed. no_disk (reached_is ∙ failed)))
     | inr memory ↦ inr memory
   ]
-  status_complete disk_after loads loads_after reached output (inr none) no_source no_disk = planned_complete laws told world path reached is (place.job, place.comes) none.why none.kind no_source
+  status_complete disk_after loads loads_after reached output (inr none) no_source no_disk = planned_complete laws told world path reached is (place.job, place.comes) none.why.told none.kind no_source
 
   -- what was found of the ledger, or that it can't be had
   found_complete : (command : Command) (Found : ViewState → Type 0) (job : JobData) (disk_after : FolderState) (reached : Outcome) → IfSome told (λ files. ComesTo (file_at files) path (Ok job.parts))
@@ -244,9 +245,9 @@ module _ (laws : OneJob) (world : World) (path : List ℕ) (disk : FolderState) 
   verify_complete : (disk_after : FolderState) (loads loads_after : ℕ) (reached : Outcome) (output : List ℕ) → IsVerifyReply path told loads loads_after disk disk_after reached output
       → reached ≢ outcomes.SourceFault → reached ≢ outcomes.DiskFault → IsComplete (commands.Verify path) reached
   verify_complete disk_after loads loads_after reached output (inl has) no_source no_disk =
-      found_complete (commands.Verify path) _ has.job disk_after reached has.comes has.looked.seen (λ view checked. checked_complete has.job view reached output no_disk checked) no_disk
+      found_complete (commands.Verify path) _ has.job disk_after reached has.comes.told has.looked.seen (λ view checked. checked_complete has.job view reached output no_disk checked) no_disk
   verify_complete disk_after loads loads_after reached output (inr none) no_source no_disk =
-      through (commands.Verify path) reached (planned_complete laws told world path reached is (place.job, place.comes) none.why none.kind no_source)
+      through (commands.Verify path) reached (planned_complete laws told world path reached is (place.job, place.comes) none.why.told none.kind no_source)
 
   behind_complete : (reached : Outcome) → reached ≢ outcomes.DiskFault → IsBehindLook reached → IsThrough reached
   behind_complete outcomes.Done no_disk kind = inl refl
@@ -257,20 +258,20 @@ module _ (laws : OneJob) (world : World) (path : List ℕ) (disk : FolderState) 
   sums_complete : (disk_after : FolderState) (loads loads_after : ℕ) (reached : Outcome) (output : List ℕ) → IsSumsReply path told loads loads_after disk disk_after reached output
       → reached ≢ outcomes.SourceFault → reached ≢ outcomes.DiskFault → IsThrough reached
   sums_complete disk_after loads loads_after reached output (inl has) no_source no_disk =
-      found_complete (commands.Sums path) _ has.job disk_after reached has.comes has.looked.seen (λ view sums. sums.kind) no_disk
-  sums_complete disk_after loads loads_after reached output (inr none) no_source no_disk = planned_complete laws told world path reached is (place.job, place.comes) none.why none.kind no_source
+      found_complete (commands.Sums path) _ has.job disk_after reached has.comes.told has.looked.seen (λ view sums. sums.kind) no_disk
+  sums_complete disk_after loads loads_after reached output (inr none) no_source no_disk = planned_complete laws told world path reached is (place.job, place.comes) none.why.told none.kind no_source
 
   qc_complete : {kinds : List ProbeKind} (disk_after : FolderState) (loads loads_after : ℕ) (reached : Outcome) (output : List ℕ) → IsQcReply kinds path told loads loads_after disk disk_after reached output
       → reached ≢ outcomes.SourceFault → reached ≢ outcomes.DiskFault → IsThrough reached
   qc_complete disk_after loads loads_after reached output (inl has) no_source no_disk =
-      found_complete (commands.Qc path) _ has.job disk_after reached has.comes has.looked.seen (λ view counted. behind_complete reached no_disk counted.kind) no_disk
-  qc_complete disk_after loads loads_after reached output (inr none) no_source no_disk = planned_complete laws told world path reached is (place.job, place.comes) none.why none.kind no_source
+      found_complete (commands.Qc path) _ has.job disk_after reached has.comes.told has.looked.seen (λ view counted. behind_complete reached no_disk counted.kind) no_disk
+  qc_complete disk_after loads loads_after reached output (inr none) no_source no_disk = planned_complete laws told world path reached is (place.job, place.comes) none.why.told none.kind no_source
 
   sheet_complete : {tone : List ℕ} (disk_after : FolderState) (loads loads_after : ℕ) (reached : Outcome) (output : List ℕ) → IsSheetReply tone path told loads loads_after disk disk_after reached output
       → reached ≢ outcomes.SourceFault → reached ≢ outcomes.DiskFault → IsThrough reached
   sheet_complete disk_after loads loads_after reached output (inl has) no_source no_disk =
-      found_complete (commands.Sheet path) _ has.job disk_after reached has.comes has.looked.seen (λ view sheeted. behind_complete reached no_disk sheeted.kind) no_disk
-  sheet_complete disk_after loads loads_after reached output (inr none) no_source no_disk = planned_complete laws told world path reached is (place.job, place.comes) none.why none.kind no_source
+      found_complete (commands.Sheet path) _ has.job disk_after reached has.comes.told has.looked.seen (λ view sheeted. behind_complete reached no_disk sheeted.kind) no_disk
+  sheet_complete disk_after loads loads_after reached output (inr none) no_source no_disk = planned_complete laws told world path reached is (place.job, place.comes) none.why.told none.kind no_source
 
 -- ---- an adoption
 
@@ -323,17 +324,17 @@ module _ (laws : OneJob) (world : World) (path old_path : List ℕ) (disk old : 
       → GoesOn job old_path told loads loads_after old old_after disk disk_after reached output → reached ≢ outcomes.SourceFault → reached ≢ outcomes.DiskFault → IsThrough reached
   onward_complete job old_after disk_after loads loads_after reached output comes (inl has) no_source no_disk =
       went_complete job has.old_job old_after disk_after has.planned loads_after reached output
-      (fit_for laws world old_path old old_place.place told is has.old_job has.came.comes) (fit_for laws world path disk place told is job comes) has.went no_source no_disk
+      (fit_for laws world old_path old old_place.place told is has.old_job has.came.comes.told) (fit_for laws world path disk place told is job comes) has.went no_source no_disk
   onward_complete job old_after disk_after loads loads_after reached output comes (inr none) no_source no_disk =
       of_old_complete none.found reached none.reached_is
-      (λ none_source. planned_complete laws told world old_path none.found is (old_place.place.job, old_place.place.comes) none.unplanned.why none.unplanned.kind none_source) no_source
+      (λ none_source. planned_complete laws told world old_path none.found is (old_place.place.job, old_place.place.comes) none.unplanned.why.told none.unplanned.kind none_source) no_source
 
   adopt_complete : (disk_after old_after : FolderState) (loads loads_after : ℕ) (reached : Outcome) (output : List ℕ) → IsAdoptReply path old_path told loads loads_after old old_after disk disk_after reached output
       → reached ≢ outcomes.SourceFault → reached ≢ outcomes.DiskFault → IsThrough reached
   adopt_complete disk_after old_after loads loads_after reached output (inl has) no_source no_disk =
-      onward_complete has.job old_after disk_after has.planned loads_after reached output has.came.comes has.went no_source no_disk
+      onward_complete has.job old_after disk_after has.planned loads_after reached output has.came.comes.told has.went no_source no_disk
   adopt_complete disk_after old_after loads loads_after reached output (inr none) no_source no_disk =
-      planned_complete laws told world path reached is (place.job, place.comes) none.unplanned.why none.unplanned.kind no_source
+      planned_complete laws told world path reached is (place.job, place.comes) none.unplanned.why.told none.unplanned.kind no_source
 
 -- ---- one thread
 
@@ -348,8 +349,7 @@ reply_complete laws (commands.List path rate) world scan scan_after folders fold
     let file = at_world scan.world world (λ files. right.0 ≡ file_at files path) is right.1 in
     list_complete rate right.0 reached (subst (λ f. IsListCase rate f outcomes.Done) (sym file) accepted) right.2.case no_source
 reply_complete laws (commands.Plan path) world scan scan_after folders folders_after reached output is accepted whole no_source no_disk =
-    job_complete laws IsPlanForm world path output scan scan_after reached accepted
-    (at_world scan.world world (λ files. IsJobReply IsPlanForm (file_at files) path reached output scan scan_after) is whole.reply.right) no_source
+    job_complete laws IsPlanForm world path output scan scan_after reached is accepted whole.reply.right no_source
 reply_complete laws (commands.Run path extent workers share) world scan scan_after folders folders_after reached output is accepted whole no_source no_disk =
     run_complete laws world path folders.reel accepted scan.world is folders_after.reel scan.loads scan_after.loads reached output whole.folder no_source no_disk
 reply_complete laws (commands.Status path) world scan scan_after folders folders_after reached output is accepted whole no_source no_disk =
@@ -365,8 +365,7 @@ reply_complete laws (commands.Sheet path) world scan scan_after folders folders_
 reply_complete laws (commands.Adopt path old_path) world scan scan_after folders folders_after reached output is accepted whole no_source no_disk =
     adopt_complete laws world path old_path folders.reel folders.old accepted.0 accepted.1 scan.world is folders_after.reel folders_after.old scan.loads scan_after.loads reached output whole.folder no_source no_disk
 reply_complete laws (commands.Pull path margin) world scan scan_after folders folders_after reached output is accepted whole no_source no_disk =
-    job_complete laws (IsPullForm margin) world path output scan scan_after reached accepted
-    (at_world scan.world world (λ files. IsJobReply (IsPullForm margin) (file_at files) path reached output scan scan_after) is whole.reply.right) no_source
+    job_complete laws (IsPullForm margin) world path output scan scan_after reached is accepted whole.reply.right no_source
 reply_complete laws (commands.Demo count) world scan scan_after folders folders_after reached output is accepted whole no_source no_disk =
     demo_complete laws count output reached accepted whole.reply.right
 

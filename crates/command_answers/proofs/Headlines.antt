@@ -197,7 +197,7 @@ module _ (laws : OneJob) (job : JobData) (world : World) (path : List ℕ) (come
       → KeepsItsPromise job (range_of extent (frames_of job)) world disk.history disk_after.history Ended
   reply_promise extent told disk disk_after loads loads_after reached output Ended is tells done (inl has) =
       run_promise job has.job extent told world disk.history disk_after.history Ended is
-      (laws.one (file_at world) path has.job.parts job.parts (at_world told world (λ w. ComesTo (file_at w) path (Ok has.job.parts)) is has.comes) comes)
+      (laws.one (file_at world) path has.job.parts job.parts (at_world told world (λ w. ComesTo (file_at w) path (Ok has.job.parts)) is has.comes.told) comes)
       (has.ran.keeps.run tells) has.ran.keeps.sound_has (λ ended. has.ran.keeps.acked (how_done _ _ _ (done ended) has.ran.reply.reached_is) tells)
   reply_promise extent told disk disk_after loads loads_after reached output Ended is tells done (inr none) =
       subst (λ (after : FolderState). KeepsItsPromise job (range_of extent (frames_of job)) world disk.history after.history Ended) (sym none.untouched)
@@ -238,7 +238,7 @@ module _ (laws : OneJob) (job : JobData) (world : World) (path old_path : List �
       → ran.parts ≡ job.parts → disk.tells ≡ true → (Ended → reached ≡ outcomes.Done) → GoesOn ran old_path told loads loads_after old old_after disk disk_after reached output
       → KeepsItsPromise job (range_of Whole (frames_of job)) world disk.history disk_after.history Ended
   onward_promise ran old old_after disk disk_after loads loads_after reached output Ended sound same tells done (inl has) =
-      let came = at_world told world (λ w. ComesTo (file_at w) old_path (Ok has.old_job.parts)) is has.came.comes in
+      let came = at_world told world (λ w. ComesTo (file_at w) old_path (Ok has.old_job.parts)) is has.came.comes.told in
       let promised = has.sound tells (subst (λ t. IfSome t (λ w. IsOldSound has.old_job w (view_of old.history))) (sym is) (sound has.old_job came)) in
       run_promise job ran Whole told world disk.history disk_after.history Ended is same promised.run has.went.sound_has (λ ended. has.went.acked (done ended) tells)
   onward_promise ran old old_after disk disk_after loads loads_after reached output Ended sound same tells done (inr none) =
@@ -251,7 +251,7 @@ module _ (laws : OneJob) (job : JobData) (world : World) (path old_path : List �
       → KeepsItsPromise job (range_of Whole (frames_of job)) world disk.history disk_after.history Ended
   adopt_promise old old_after disk disk_after loads loads_after reached output Ended sound tells done (inl has) =
       onward_promise has.job old old_after disk disk_after has.planned loads_after reached output Ended sound
-      (laws.one (file_at world) path has.job.parts job.parts (at_world told world (λ w. ComesTo (file_at w) path (Ok has.job.parts)) is has.came.comes) comes) tells done has.went
+      (laws.one (file_at world) path has.job.parts job.parts (at_world told world (λ w. ComesTo (file_at w) path (Ok has.job.parts)) is has.came.comes.told) comes) tells done has.went
   adopt_promise old old_after disk disk_after loads loads_after reached output Ended sound tells done (inr none) =
       subst (λ (after : FolderState). KeepsItsPromise job (range_of Whole (frames_of job)) world disk.history after.history Ended) (sym none.unplanned.untouched)
       (still_promise job (range_of Whole (frames_of job)) world disk.history Ended (λ ended. job_not_done reached none.unplanned.kind (done ended)))

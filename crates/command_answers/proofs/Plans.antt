@@ -1,14 +1,15 @@
 -- From a job that was planned to the reply of its command.
-use Rattle.std.proofs.Common.{List, [], length, ℕ, Option, IfSome}
-use Rattle.std.specs.Prelude.{Some, None, Ok, Err}
+use Rattle.std.proofs.Common.{List, [], length, ℕ, IfSome}
+use Rattle.std.specs.Prelude.{Ok, Err}
 use Rattle.scan_source.specs.State.{ScanState}
 use Rattle.conform_job.specs.Answers.{Grows, HeadsGrow}
 use Rattle.conform_job.specs.Asks.{asks_of}
 use Rattle.conform_job.specs.Infos.{HasEachOnce}
 use Rattle.conform_job.specs.Job.{JobData}
 use Rattle.conform_job.specs.declared.parts.JobParts.{JobParts}
-use Rattle.scan_source.specs.World.{World, file_at}
+use Rattle.scan_source.specs.World.{file_at}
 use Rattle.project_job.specs.Jobs.{HasPlanned, IsOfJob}
+use Rattle.project_job.specs.Texts.{ByFiles, IsByTexts}
 use Rattle.command_answers.specs.ByJob.{IsJobReply}
 use Rattle.command_answers.specs.Reply.{IsKindOf}
 use Rattle.outcome.specs.declared.Outcome.{Outcome}
@@ -16,48 +17,33 @@ use Rattle.outcome.specs.declared.Outcome.TheVariants as outcomes
 use Rattle.outcome.specs.declared.Outcome.TheVariants.{Done, Usage, Refused, SourceFault, SinkFault, NoMemory}
 use Rattle.command_words.specs.declared.command.Command.{Command}
 
-module _ (IsForm : JobParts → List ℕ → Type 0) where
-  put_at : (files : World) (path output : List ℕ) (before after : ScanState) (job : JobData) → HasPlanned (file_at files) path (Ok job) → IsForm job.parts output
+module _ (IsForm : JobParts → List ℕ → Type 0) (path output : List ℕ) (before after : ScanState) where
+  pub job_done : (job : JobData) → IfSome before.world (λ world. HasPlanned (file_at world) path (Ok job)) → ByFiles before.world (λ files. IsByTexts files path (Ok job)) → IsForm job.parts output
       → Grows job.parts before.world (asks_of job.parts.timeline) [] job.infos → HasEachOnce job.infos → HeadsGrow before.heads after.heads 0 (length job.infos)
-      → IsJobReply IsForm (file_at files) path Done output before after
-  put_at files path output before after job comes form needed once heads = record {
-    parts = job.parts;
-    comes = comes;
+      → IsJobReply IsForm path Done output before after
+  job_done job told read form needed once heads = record {
+    job = job;
+    comes = record { told = told; read = read };
     form = form;
-    inspected = record { infos = job.infos; needed = needed; once = once; heads = heads };
+    inspected = record { needed = needed; once = once; heads = heads };
   }
 
-  pub job_done : (told : Option World) (path output : List ℕ) (before after : ScanState) (job : JobData) → IfSome told (λ world. HasPlanned (file_at world) path (Ok job)) → IsForm job.parts output
-      → Grows job.parts before.world (asks_of job.parts.timeline) [] job.infos → HasEachOnce job.infos → HeadsGrow before.heads after.heads 0 (length job.infos)
-      → IfSome told (λ world. IsJobReply IsForm (file_at world) path Done output before after)
-  job_done None path output before after job comes form needed once heads = tt
-  job_done (Some world) path output before after job comes form needed once heads = put_at world path output before after job comes form needed once heads
-
-  refused_at : (files : World) (path output : List ℕ) (before after : ScanState) (outcome : Outcome) → HasPlanned (file_at files) path (Err outcome)
-      → IsOfJob outcome → IsJobReply IsForm (file_at files) path outcome output before after
-  refused_at files path output before after (Refused refusal) comes kind = comes
-  refused_at files path output before after SourceFault comes kind = tt
-  refused_at files path output before after NoMemory comes kind = tt
-  refused_at files path output before after Done comes kind = absurd kind
-  refused_at files path output before after Usage comes kind = absurd kind
-  refused_at files path output before after (outcomes.OtherJob kept wanted) comes kind = absurd kind
-  refused_at files path output before after (outcomes.BadLedger len) comes kind = absurd kind
-  refused_at files path output before after (outcomes.OldRefused refusal) comes kind = absurd kind
-  refused_at files path output before after (outcomes.OldOtherJob kept wanted) comes kind = absurd kind
-  refused_at files path output before after (outcomes.OldBadLedger len) comes kind = absurd kind
-  refused_at files path output before after (outcomes.Damaged frame kept found) comes kind = absurd kind
-  refused_at files path output before after (outcomes.Changed reel key was now) comes kind = absurd kind
-  refused_at files path output before after outcomes.DiskFault comes kind = absurd kind
-  refused_at files path output before after (SinkFault instead) comes kind = absurd kind
-
-  pub job_refused : (told : Option World) (path output : List ℕ) (before after : ScanState) (outcome : Outcome) → IfSome told (λ world. HasPlanned (file_at world) path (Err outcome))
-      → IsOfJob outcome → IfSome told (λ world. IsJobReply IsForm (file_at world) path outcome output before after)
-  job_refused None path output before after outcome comes kind = tt
-  job_refused (Some world) path output before after outcome comes kind = refused_at world path output before after outcome comes kind
-
-pub job_without : (told : Option World) → IfSome told (λ world. Unit {0})
-job_without None = tt
-job_without (Some world) = tt
+  pub job_refused : (outcome : Outcome) → IfSome before.world (λ world. HasPlanned (file_at world) path (Err outcome)) → ByFiles before.world (λ files. IsByTexts files path (Err outcome))
+      → IsOfJob outcome → IsJobReply IsForm path outcome output before after
+  job_refused (Refused refusal) told read kind = record { told = told; read = read }
+  job_refused SourceFault told read kind = record { told = told; read = read }
+  job_refused NoMemory told read kind = record { told = told; read = read }
+  job_refused Done told read kind = absurd kind
+  job_refused Usage told read kind = absurd kind
+  job_refused (outcomes.OtherJob kept wanted) told read kind = absurd kind
+  job_refused (outcomes.BadLedger len) told read kind = absurd kind
+  job_refused (outcomes.OldRefused refusal) told read kind = absurd kind
+  job_refused (outcomes.OldOtherJob kept wanted) told read kind = absurd kind
+  job_refused (outcomes.OldBadLedger len) told read kind = absurd kind
+  job_refused (outcomes.Damaged frame kept found) told read kind = absurd kind
+  job_refused (outcomes.Changed reel key was now) told read kind = absurd kind
+  job_refused outcomes.DiskFault told read kind = absurd kind
+  job_refused (SinkFault instead) told read kind = absurd kind
 
 -- the outcomes that a job comes to are its command's own
 pub replied_job : (command : Command) (outcome : Outcome) → IsOfJob outcome → IsKindOf command outcome

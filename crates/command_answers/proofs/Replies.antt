@@ -1,18 +1,15 @@
 -- From a load to the reply of its command.
-use Rattle.std.proofs.Common.{◌≡◌, ◌≢◌, ℕ, ◌+◌, ◌-◌, ◌≤◌, min, Global, List, ◌++◌, length, take, replicate, Option, None, Some, IfSome, refl, sym, subst, ap, ◌∙◌, arith, inl, inr}
-use Rattle.std.proofs.lemmas.Bool.{cases_lt}
-use Rattle.std.proofs.Math.Seq.{take-append_seam}
-use Rattle.std.proofs.lemmas.List.{take_all, length-append, length-replicate}
+use Rattle.std.proofs.Common.{◌≡◌, ◌≢◌, ℕ, ◌≤◌, Global, List, length, take, Option, None, Some, IfSome, refl, subst, ap, ◌∙◌}
 use Rattle.std.specs.Prelude.{MatchResult, Result, Ok, Err, Vec}
 use Rattle.cf_base.specs.Count.{HasRisen}
 use Rattle.cf_base.specs.declared.fail.Fail.{Fail}
 use Rattle.cf_base.specs.declared.fail.Fail.TheVariants.{Fault}
 use Rattle.cf_base.specs.declared.timing.Rate.{Rate}
 use Rattle.scan_source.specs.State.{ScanState}
-use Rattle.scan_source.specs.World.{World, file_at}
+use Rattle.scan_source.specs.World.{World}
 use Rattle.command_answers.specs.Commands.Frame.{IsFrameCase, IsFrameForm}
 use Rattle.command_answers.specs.Commands.List.{IsListCase, IsListForm}
-use Rattle.project_job.specs.Load.{IsFront, IsMissing, IsOfLoad}
+use Rattle.project_job.specs.Load.{ByFile, IsFront, IsMissing, IsOfLoad}
 use Rattle.project_job.specs.declared.loads.Front.{Front}
 use Rattle.outcome.specs.declared.Refused.TheVariants.{NoFile, Project, Reels, List as EditList, Timeline, Cube, Job, Frame}
 use Rattle.outcome.specs.declared.Which.{Which}
@@ -24,7 +21,9 @@ use Rattle.project_run.specs.Run.{IsOfRun}
 use Rattle.project_adopt.specs.Adopt.{IsOfAdopt}
 use Rattle.project_run.specs.Look.{IsOfLook}
 use Rattle.project_run.specs.Verify.{IsOfVerify}
-use Rattle.command_answers.specs.ByFile.{ByFile, IsRightBy}
+use Rattle.command_answers.specs.ByFile.{IsRightBy}
+use Rattle.project_job.proofs.Reading.{any_file, any_files}
+use Rattle.project_job.specs.Texts.{HasComeTo}
 use Rattle.command_answers.specs.ByJob.{AreJobHeads}
 use Rattle.command_answers.specs.Commands.{meaning_of}
 use Rattle.command_answers.specs.Reply.{CallsDisk, IsKindOf, IsReplyOverScan}
@@ -35,67 +34,48 @@ use Rattle.outcome.specs.declared.Outcome.{Outcome}
 use Rattle.outcome.specs.declared.Outcome.TheVariants as outcomes
 use Rattle.outcome.specs.declared.Outcome.TheVariants.{Done, Usage, Refused, SourceFault, SinkFault, NoMemory}
 
--- some bytes with these first ones and this length
-file_of : (len most : ℕ) (into : List ℕ) → length into ≡ min len most → (bytes : List ℕ) × (len ≡ length bytes) × (into ≡ take most bytes)
-file_of len most into fills = elim (cases_lt most len) [
-  | inl more ↦
-      let bytes = into ++ replicate (len - most) 0 in
-      let short : length into ≡ most = omega (arith, fills) in
-      let long : length bytes ≡ length into + (len - most) = length-append into (replicate (len - most) 0) ∙ ap (λ n. length into + n) (length-replicate {A = ℕ} (len - most) 0) in
-      (bytes, omega (arith, long, short, more), sym (ap (λ n. take n bytes) (sym short) ∙ take-append_seam into (replicate (len - most) 0)))
-  | inr whole ↦ (into, omega (arith, fills), sym (take_all most into (omega (arith, fills))))
-]
-
 -- what holds of each file that a load may have read holds of the one at the path, or of one that was read
-pub by_front : (world : Option World) (path : List ℕ) (P : Option (List ℕ) → Type 0) (most : ℕ) (front : Front)
-    → IfSome world (λ files. IsFront (file_at files path) most front)
-    → length front.bytes.items ≡ min front.len most
+pub by_front : (told : Option World) (path : List ℕ) (P : Option (List ℕ) → Type 0) (most : ℕ) (front : Front) → ByFile told path (λ file. IsFront file most front)
     → ((bytes : List ℕ) → front.len ≡ length bytes → front.bytes.items ≡ take most bytes → P (Some bytes))
-    → ByFile world path P
-by_front None path P most front told fills each =
-    let file = file_of front.len most front.bytes.items fills in
-    (Some file.0, tt, each file.0 file.1 file.2)
-by_front (Some files) path P most front told fills each = (
-  file_at files path,
-  refl,
-  elim (file_at files path) as (λ file. IsFront file most front → P file) [
+    → ByFile told path P
+by_front told path P most front read each = (
+  read.0,
+  read.1,
+  elim read.0 as (λ file. IsFront file most front → P file) [
     | None ↦ λ h. absurd h
     | Some bytes ↦ λ h. each bytes h.0 h.1
-  ] told,
+  ] read.2,
 )
 
--- what holds of any file
-pub by_any : (world : Option World) (path : List ℕ) (P : Option (List ℕ) → Type 0) → ((file : Option (List ℕ)) → P file) → ByFile world path P
-by_any None path P each = (None, tt, each None)
-by_any (Some files) path P each = (file_at files path, refl, each (file_at files path))
-
 -- what holds where there is no file, after a fault of the scan, and where memory ran out
-by_missing : (world : Option World) (path : List ℕ) (absent : Which) (outcome : Outcome) (P : Option (List ℕ) → Outcome → Type 0)
-    → IfSome world (λ files. IsMissing absent (file_at files path) outcome) → IsOfLoad absent outcome
+missing : (file : Option (List ℕ)) (absent : Which) (outcome : Outcome) (P : Option (List ℕ) → Outcome → Type 0) → IsMissing absent file outcome
+    → P None (Refused (NoFile absent)) → P file SourceFault → P file NoMemory → P file outcome
+missing file absent (Refused (NoFile which)) P is gone fault memory = rw (is.0, is.1) gone
+missing file absent SourceFault P is gone fault memory = fault
+missing file absent NoMemory P is gone fault memory = memory
+missing file absent Done P is gone fault memory = absurd is
+missing file absent Usage P is gone fault memory = absurd is
+missing file absent (outcomes.OtherJob kept wanted) P is gone fault memory = absurd is
+missing file absent (outcomes.BadLedger len) P is gone fault memory = absurd is
+missing file absent (outcomes.OldRefused refusal) P is gone fault memory = absurd is
+missing file absent (outcomes.OldOtherJob kept wanted) P is gone fault memory = absurd is
+missing file absent (outcomes.OldBadLedger len) P is gone fault memory = absurd is
+missing file absent (outcomes.Damaged frame kept found) P is gone fault memory = absurd is
+missing file absent (outcomes.Changed reel key was now) P is gone fault memory = absurd is
+missing file absent outcomes.DiskFault P is gone fault memory = absurd is
+missing file absent (SinkFault instead) P is gone fault memory = absurd is
+missing file absent (Refused (Project fault_)) P is gone fault memory = absurd is
+missing file absent (Refused (Reels fault_)) P is gone fault memory = absurd is
+missing file absent (Refused (EditList refusal)) P is gone fault memory = absurd is
+missing file absent (Refused (Timeline fault_)) P is gone fault memory = absurd is
+missing file absent (Refused (Cube fault_)) P is gone fault memory = absurd is
+missing file absent (Refused (Job fault_)) P is gone fault memory = absurd is
+missing file absent (Refused (Frame fault_)) P is gone fault memory = absurd is
+
+by_missing : (told : Option World) (path : List ℕ) (absent : Which) (outcome : Outcome) (P : Option (List ℕ) → Outcome → Type 0) → ByFile told path (λ file. IsMissing absent file outcome)
     → P None (Refused (NoFile absent)) → ((file : Option (List ℕ)) → P file SourceFault) → ((file : Option (List ℕ)) → P file NoMemory)
-    → ByFile world path (λ file. P file outcome)
-by_missing None path absent (Refused (NoFile which)) P told kind gone fault memory = (None, tt, subst (λ w. P None (Refused (NoFile w))) (sym kind) gone)
-by_missing (Some files) path absent (Refused (NoFile which)) P told kind gone fault memory = (None, sym told.1, subst (λ w. P None (Refused (NoFile w))) (sym kind) gone)
-by_missing world path absent SourceFault P told kind gone fault memory = by_any world path (λ file. P file SourceFault) fault
-by_missing world path absent NoMemory P told kind gone fault memory = by_any world path (λ file. P file NoMemory) memory
-by_missing world path absent Done P told kind gone fault memory = absurd kind
-by_missing world path absent Usage P told kind gone fault memory = absurd kind
-by_missing world path absent (outcomes.OtherJob kept wanted) P told kind gone fault memory = absurd kind
-by_missing world path absent (outcomes.BadLedger len) P told kind gone fault memory = absurd kind
-by_missing world path absent (outcomes.OldRefused refusal) P told kind gone fault memory = absurd kind
-by_missing world path absent (outcomes.OldOtherJob kept wanted) P told kind gone fault memory = absurd kind
-by_missing world path absent (outcomes.OldBadLedger len) P told kind gone fault memory = absurd kind
-by_missing world path absent (outcomes.Damaged frame kept found) P told kind gone fault memory = absurd kind
-by_missing world path absent (outcomes.Changed reel key was now) P told kind gone fault memory = absurd kind
-by_missing world path absent outcomes.DiskFault P told kind gone fault memory = absurd kind
-by_missing world path absent (SinkFault instead) P told kind gone fault memory = absurd kind
-by_missing world path absent (Refused (Project fault_)) P told kind gone fault memory = absurd kind
-by_missing world path absent (Refused (Reels fault_)) P told kind gone fault memory = absurd kind
-by_missing world path absent (Refused (EditList refusal)) P told kind gone fault memory = absurd kind
-by_missing world path absent (Refused (Timeline fault_)) P told kind gone fault memory = absurd kind
-by_missing world path absent (Refused (Cube fault_)) P told kind gone fault memory = absurd kind
-by_missing world path absent (Refused (Job fault_)) P told kind gone fault memory = absurd kind
-by_missing world path absent (Refused (Frame fault_)) P told kind gone fault memory = absurd kind
+    → ByFile told path (λ file. P file outcome)
+by_missing told path absent outcome P read gone fault memory = (read.0, read.1, missing read.0 absent outcome P read.2 gone (fault read.0) (memory read.0))
 
 pub reply_of : (command : Command) (before after : ScanState) (reached : Outcome) (output : List ℕ) → IsKindOf command reached
     → (meaning_of command).IsRight reached output before after
@@ -122,16 +102,16 @@ pub fault_given : {A F : Type 0} (r : Result A (Fail F)) (given : Fail F) (fault
 fault_given r given fault P is fault_is holds = subst (λ q. IfFault q P) (is ∙ ap Err fault_is) holds
 
 -- what is right of a frame and of a list without a file
-pub frame_missing : (world : Option World) (path : List ℕ) (outcome : Outcome) (output : List ℕ) → IfSome world (λ files. IsMissing which.Frame (file_at files path) outcome) → IsOfLoad which.Frame outcome
+pub frame_missing : (world : Option World) (path : List ℕ) (outcome : Outcome) (output : List ℕ) → ByFile world path (λ file. IsMissing which.Frame file outcome)
     → ByFile world path (λ file. IsRightBy (IsFrameCase file) (IsFrameForm file) outcome output)
-frame_missing world path outcome output told kind =
-    by_missing world path which.Frame outcome (λ file reached. IsRightBy (IsFrameCase file) (IsFrameForm file) reached output) told kind
+frame_missing world path outcome output read =
+    by_missing world path which.Frame outcome (λ file reached. IsRightBy (IsFrameCase file) (IsFrameForm file) reached output) read
     (record { case = refl; form = λ same. absurd (cc) }) (λ file. record { case = tt; form = λ same. absurd (cc) }) (λ file. record { case = tt; form = λ same. absurd (cc) })
 
-pub list_missing : (rate : Rate) (world : Option World) (path : List ℕ) (outcome : Outcome) (output : List ℕ) → IfSome world (λ files. IsMissing which.List (file_at files path) outcome) → IsOfLoad which.List outcome
+pub list_missing : (rate : Rate) (world : Option World) (path : List ℕ) (outcome : Outcome) (output : List ℕ) → ByFile world path (λ file. IsMissing which.List file outcome)
     → ByFile world path (λ file. IsRightBy (IsListCase rate file) (IsListForm rate file) outcome output)
-list_missing rate world path outcome output told kind =
-    by_missing world path which.List outcome (λ file reached. IsRightBy (IsListCase rate file) (IsListForm rate file) reached output) told kind
+list_missing rate world path outcome output read =
+    by_missing world path which.List outcome (λ file reached. IsRightBy (IsListCase rate file) (IsListForm rate file) reached output) read
     (record { case = refl; form = λ same. absurd (cc) }) (λ file. record { case = tt; form = λ same. absurd (cc) }) (λ file. record { case = tt; form = λ same. absurd (cc) })
 
 -- what holds of all files holds of those that are told
@@ -141,15 +121,18 @@ told_any (Some files) each = each files
 
 -- want of memory may come in any case
 pub frame_memory : (world : Option World) (path output : List ℕ) → ByFile world path (λ file. IsRightBy (IsFrameCase file) (IsFrameForm file) NoMemory output)
-frame_memory world path output = by_any world path _ (λ file. record { case = tt; form = λ same. absurd (cc) })
+frame_memory world path output = any_file world path _ (λ file. record { case = tt; form = λ same. absurd (cc) })
 
 pub list_memory : (rate : Rate) (world : Option World) (path output : List ℕ) → ByFile world path (λ file. IsRightBy (IsListCase rate file) (IsListForm rate file) NoMemory output)
-list_memory rate world path output = by_any world path _ (λ file. record { case = tt; form = λ same. absurd (cc) })
+list_memory rate world path output = any_file world path _ (λ file. record { case = tt; form = λ same. absurd (cc) })
+
+pub came_without : (told : Option World) (path : List ℕ) → HasComeTo told path (Err NoMemory)
+came_without told path = record { told = told_any told (λ world. tt); read = any_files told _ (λ files. tt) }
 
 pub memory_right : (command : Command) (output : List ℕ) (before after : ScanState) → (meaning_of command).IsRight NoMemory output before after
 memory_right (commands.Frame path) output before after = frame_memory before.world path output
 memory_right (commands.List path rate) output before after = list_memory rate before.world path output
-memory_right (commands.Plan path) output before after = told_any before.world (λ world. tt)
+memory_right (commands.Plan path) output before after = came_without before.world path
 memory_right (commands.Run path extent workers share) output before after = tt
 memory_right (commands.Status path) output before after = tt
 memory_right (commands.Verify path) output before after = tt
@@ -157,7 +140,7 @@ memory_right (commands.Sums path) output before after = tt
 memory_right (commands.Qc path) output before after = tt
 memory_right (commands.Sheet path) output before after = tt
 memory_right (commands.Adopt path old_path) output before after = tt
-memory_right (commands.Pull path margin) output before after = told_any before.world (λ world. tt)
+memory_right (commands.Pull path margin) output before after = came_without before.world path
 memory_right (commands.Demo count) output before after = tt
 
 -- an error is its outcome

@@ -3,19 +3,13 @@
 --   by the job that a project comes to, with what was loaded and looked at for it; a folder that is fit for that job, and one
 --   that is sound; the record of a command that puts a text of its job, and of one that makes calls on the folder of the reel
 --   alone
---     ByFile world path IsRight      something is right by the file at the path
 --     IsRightBy      the outcome and the output are those of the file
 --     HasLoadedOne, LooksAtNone      the one file was loaded, and no head was looked at
-use Rattle.std.specs.Prelude.{◌≡◌, ℕ, List, Option, IfSome}
+use Rattle.std.specs.Prelude.{◌≡◌, List, ℕ}
 use Rattle.scan_source.specs.State.{ScanState}
 use Rattle.scan_source.specs.Plan.{one_more}
-use Rattle.scan_source.specs.World.{World, file_at}
 use Rattle.outcome.specs.declared.Outcome.{Outcome}
 use Rattle.outcome.specs.declared.Outcome.TheVariants.{Done}
-
--- A file, or that there is none: the one at the path where the scan tells its files, else some one that it read.
-abbrev pub ByFile : Option World → List ℕ → (Option (List ℕ) → Type 0) → Type 0
-ByFile world path IsRight = (file : Option (List ℕ)) × IfSome world (λ files. file ≡ file_at files path) × IsRight file
 
 -- The outcome and the output are those of the file.
 pub record IsRightBy (IsCase : Outcome → Type 0) (IsForm : List ℕ → Type 0) (reached : Outcome) (output : List ℕ) : Type 0 where

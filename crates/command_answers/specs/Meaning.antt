@@ -37,8 +37,8 @@ Makes true = Unit {0}
 Makes false = ⊥
 
 pub record Meaning : Type 1 where
-  -- The outcome and the output are right: by the file at the path, by all files that the scan tells, which may be others at each
-  -- load where it tells none, or by the command alone. Where they are right by the folders, `UsesDisk` says so.
+  -- The outcome and the output are right: by the file at the path, by all files that the scan tells and the texts that were read,
+  -- or by the command alone. Where they are right by the folders, `UsesDisk` says so.
   pub IsRight : (reached : Outcome) (output : List ℕ) (before after : ScanState) → Type 0
   -- what it loads: one file, or a project, its list and its cube, or nothing. Of a command that makes calls on a folder
   -- `UsesDisk` says it.

@@ -112,13 +112,11 @@ pub fn answer_found<S: Scans, D: Disk, K: Sink, C: Counter + Hasher>(
         (K.state out.old) (K.state out.new) result }
     ensures later { (K.state out.old).faults ≤ (K.state out.new).faults }
     ensures same { (S.state scan.new).loans ≡ (S.state scan.old).loans }
-    ensures untouched { IsLeftAlone disk.old disk.new result }
-    ensures old_untouched { IsLeftAlone old.old old.new result }
-    ensures no_call { (words : List (List ℕ)) → IsFoundIn words found → IsUncalled CallsDisk words → disk.new ≡ disk.old }
-    ensures no_old_call { (words : List (List ℕ)) → IsFoundIn words found → IsUncalled CallsOld words → old.new ≡ old.old }
+    ensures untouched { IsLeftAlone disk.old disk.new result × IsLeftAlone old.old old.new result }
+    ensures uncalled { (words : List (List ℕ)) → IsFoundIn words found
+        → (IsUncalled CallsDisk words → disk.new ≡ disk.old) × (IsUncalled CallsOld words → old.new ≡ old.old) }
     ensures unread { (words : List (List ℕ)) → IsFoundIn words found → IsNoCommand words → scan.new ≡ scan.old }
-    ensures disk_same { (D.state disk.new).loans ≡ (D.state disk.old).loans }
-    ensures old_same { (D.state old.new).loans ≡ (D.state old.old).loans }
+    ensures lent { ((D.state disk.new).loans ≡ (D.state disk.old).loans) × ((D.state old.new).loans ≡ (D.state old.old).loans) }
 {
     let Some(command) = found else {
         return put_line(alloc, &Outcome::Usage, out);
@@ -142,7 +140,8 @@ fn carried_out<S: Scans, D: Disk, C: Counter + Hasher>(
     requires ready { C.ready }
     requires can_hash { C.can_hash }
     requires counts { HasCounts command.now }
-    ensures reply { Replies result (IsReplyOverFolders (house_of (map (λ p. p.kind) house.now.probes.now) house.now.tone.now.table) command.now
+    ensures reply { Replies result (IsReplyOverFolders
+        (house_of (map (λ p. p.kind) house.now.probes.now) house.now.tone.now.table) command.now
         (S.state scan.old) (S.state scan.new)
         (folders_of D.tells (D.state disk.old) (D.state old.old)) (folders_of D.tells (D.state disk.new) (D.state old.new))) }
     ensures same { (S.state scan.new).loans ≡ (S.state scan.old).loans }

@@ -19,7 +19,7 @@ use Rattle.project_run.specs.Calls.{IsLeftAlone}
 use Rattle.project_run.specs.Run.{IsOfRun}
 use Rattle.command_answers.specs.Answer.{IsFoundIn, IsPut, IsLinePut}
 use Rattle.command_answers.proofs.Answering.{done_unrefused, put_refused}
-use Rattle.command_answers.proofs.Replies.{told_any}
+use Rattle.command_answers.proofs.Replies.{came_without}
 use Rattle.conform_tool.specs.Conform.{AnsweredByCrew, IsAlone, IsCausedByCrew}
 
 module _ {S : Type 0} (state : S → ScanState) (path : List ℕ) (extent : Extent) (workers share : ℕ) (scans scans_after : List S) (disk disk_after : FolderState) where
@@ -45,7 +45,7 @@ module _ {S : Type 0} (state : S → ScanState) (path : List ℕ) (extent : Exte
     };
   })
   crew_memory outcome output made (inr uncrewed) = inr (record {
-    why = told_any (told_by state scans) (λ files. tt);
+    why = came_without (told_by state scans) path;
     kind = tt;
     untouched = uncrewed.untouched;
     size = uncrewed.size;

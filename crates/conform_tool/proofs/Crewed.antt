@@ -41,7 +41,7 @@ module _ (laws : OneJob) (job : JobData) (world : World) (path : List ℕ) (exte
       → KeepsItsPromise job (range_of extent (frames_of job)) world disk.history disk_after.history Ended
   crew_promise state workers share scans scans_after disk disk_after reached output Ended is tells done (inl has) =
       run_promise job has.job extent (told_by state scans) world disk.history disk_after.history Ended is
-      (laws.one (file_at world) path has.job.parts job.parts (at_world (told_by state scans) world (λ w. ComesTo (file_at w) path (Ok has.job.parts)) is has.comes) comes)
+      (laws.one (file_at world) path has.job.parts job.parts (at_world (told_by state scans) world (λ w. ComesTo (file_at w) path (Ok has.job.parts)) is has.comes.told) comes)
       (has.ran.keeps.run tells) has.ran.keeps.sound_has (λ ended. has.ran.keeps.acked (how_done _ _ _ (done ended) has.ran.reply.reached_is) tells)
   crew_promise state workers share scans scans_after disk disk_after reached output Ended is tells done (inr none) =
       subst (λ (after : FolderState). KeepsItsPromise job (range_of extent (frames_of job)) world disk.history after.history Ended) (sym none.untouched)
@@ -76,11 +76,11 @@ module _ (laws : OneJob) {S : Type 0} (state : S → ScanState) (path : List ℕ
         let reels = has.job.parts.reels in
         by_end reels has.ran.how reached reached_is
         (steps_complete world (told_by state scans) is has.ran.log (min workers (length has.planned)) share _ _ has.job disk.history disk_after.history has.ran.how has.ran.report disk.tells has.ran.steps place.tells
-        (fit_for laws world path disk place (told_by state scans) is has.job has.comes) has.ran.ran
+        (fit_for laws world path disk place (told_by state scans) is has.job has.comes.told) has.ran.ran
         (λ source. no_source (reached_is ∙ ap (outcome_of_end reels) source)) (λ failed. no_disk (reached_is ∙ ap (outcome_of_end reels) failed)))
     | inr memory ↦ inr memory
   ]
-  crew_complete reached output (inr none) no_source no_disk = planned_complete laws (told_by state scans) world path reached is (place.job, place.comes) none.why none.kind no_source
+  crew_complete reached output (inr none) no_source no_disk = planned_complete laws (told_by state scans) world path reached is (place.job, place.comes) none.why.told none.kind no_source
 
   pub crew_answered_complete : (sink sink_after : SinkState) (result : Outcome) → AnsweredByCrew state path extent workers share scans scans_after disk disk_after sink sink_after result
       → (HasFailed state scans scans_after → ⊥) → HasNotRisen disk.faults disk_after.faults → HasNotRisen sink.faults sink_after.faults → IsComplete (commands.Run path extent workers share) result

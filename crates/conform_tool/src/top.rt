@@ -248,12 +248,10 @@ fn by_one<S: Scans, D: Disk, K: Sink, C: Counter + Hasher>(
     ensures same { (first last : S) → IsFirst scans.items first → IsFirst result.scans.items last
         → (S.state last).loans ≡ (S.state first).loans }
     ensures later { (K.state out.old).faults ≤ (K.state out.new).faults }
-    ensures untouched { IsLeftAlone disk result.disk result.outcome }
-    ensures old_untouched { IsLeftAlone old.old old.new result.outcome }
-    ensures no_call { (words : List (List ℕ)) → IsFoundIn words found → IsUncalled CallsDisk words → result.disk ≡ disk }
-    ensures no_old_call { (words : List (List ℕ)) → IsFoundIn words found → IsUncalled CallsOld words → old.new ≡ old.old }
-    ensures disk_same { (D.state result.disk).loans ≡ (D.state disk).loans }
-    ensures old_same { (D.state old.new).loans ≡ (D.state old.old).loans }
+    ensures untouched { IsLeftAlone disk result.disk result.outcome × IsLeftAlone old.old old.new result.outcome }
+    ensures uncalled { (words : List (List ℕ)) → IsFoundIn words found
+        → (IsUncalled CallsDisk words → result.disk ≡ disk) × (IsUncalled CallsOld words → old.new ≡ old.old) }
+    ensures lent { ((D.state result.disk).loans ≡ (D.state disk).loans) × ((D.state old.new).loans ≡ (D.state old.old).loans) }
 {
     let outcome = answer_found(alloc, house, found, &mut scans[0], &mut disk, old, out);
     Ended {

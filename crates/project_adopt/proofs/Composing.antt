@@ -9,20 +9,22 @@ use Rattle.conform_job.specs.Names.{Tells}
 use Rattle.reel_disk.specs.Disk.{Files, History, moment_of, view_of}
 use Rattle.reel_disk.specs.State.{DiskState, OnlyReads, FolderState, folder_state}
 use Rattle.reel_disk.specs.Runs.{Spares}
+use Rattle.reel_disk.specs.Call.{OnlyWrites}
 use Rattle.reel_disk.proofs.Sparing.{spares_along, spares_wider}
+use Rattle.reel_disk.proofs.Writing.{writing_then, writing_wider}
 use Rattle.resume_ledger.specs.declared.layout.Version.TheVariants.{Two}
 use Rattle.resume_ledger.specs.Ledger.{IsInForce}
 use Rattle.resume_ledger.specs.Sound.{WritesOnly}
 use Rattle.resume_ledger.proofs.Reading.{writes_along}
-use Rattle.reel_writer.specs.Reel.{frames_of, HasFrameFiles, IsReelRun, IsSoundReel}
+use Rattle.reel_writer.specs.Reel.{frames_of, HasFrameFiles, IsReelRun, IsRunFile, IsSoundReel}
 use Rattle.reel_writer.specs.Changes.{HasKept, IsOwnFile, MayWrite}
 use Rattle.reel_writer.proofs.ReelLaws.{reel_run_along}
 use Rattle.reel_writer.proofs.Writing.{writes_wider}
-use Rattle.reconform.specs.Adopt.{IsOfOld, WasAdopted, IsWhyUnadopted}
+use Rattle.reconform.specs.Adopt.{AdoptionMayWrite, IsOfOld, WasAdopted, IsWhyUnadopted}
 use Rattle.reconform.specs.declared.adopting.Adopted.{Adopted}
 use Rattle.reconform.specs.declared.adopting.AdoptFault.{AdoptFault}
 use Rattle.reconform.specs.declared.adopting.AdoptFault.TheVariants as faults
-use Rattle.run_alone.specs.Run.{AreAllAcked, IsOwnFileOf, MayWriteOf}
+use Rattle.run_alone.specs.Run.{AreAllAcked, IsOwnFileOf, MayWriteOf, RunMayWrite}
 use Rattle.frame_fetch.specs.declared.run_end.RunEnd.{RunEnd}
 use Rattle.frame_fetch.specs.declared.run_end.RunEnd.TheVariants as ends
 use Rattle.run_alone.proofs.Closing.{whole_reel}
@@ -117,6 +119,16 @@ module _ (job : JobData) (old mid new : History) (two : IsInForce Two (view_of m
     both_write first second wrote rest =
         writes_along (MayWrite job (view_of old)) old mid new first.extends second.extends wrote (writes_wider mid new (MayWriteOf job 0 (frames_of job) (view_of mid)) (MayWrite job (view_of old)) write_first rest)
 
+-- what a run may write by its end is a file of the run
+own_of_run : (job : JobData) (q : FileId) (end : RunEnd) → RunMayWrite job 0 (frames_of job) end q → IsRunFile job 0 (frames_of job) q
+own_of_run job q ends.Done own = own
+own_of_run job q (ends.OtherJob kept wanted) own = absurd own
+own_of_run job q (ends.BadLedger len) own = absurd own
+own_of_run job q (ends.Changed key was now) own = own
+own_of_run job q ends.SourceFault own = own
+own_of_run job q ends.DiskFault own = own
+own_of_run job q ends.NoMemory own = own
+
 -- a frame that the adoption's opening kept is acknowledged behind it
 kept_on : (job old_job : JobData) (tells : Bool) (old_files before after : Files) (done : Adopted) → WasAdopted job old_job tells old_files before after done → tells ≡ true → IsInForce Two after
     → (k : ℕ) → HasKept job k before → HasKept job k after
@@ -135,7 +147,7 @@ module _ (job old_job : JobData) (lent told : Option World) (tells_lent : Tells 
     (spares : tells ≡ true → Spares before.history between.history (IsOwnFile job (view_of before.history)))
     (writes : tells ≡ true → WritesOnly before.history between.history (MayWrite job (view_of before.history))) where
   -- both folders were opened
-  module _ (done : Adopted) (adopted : WasAdopted job old_job tells (view_of old.history) (view_of before.history) (view_of between.history) done) (two : tells ≡ true → IsInForce Two (view_of between.history))
+  module _ (done : Adopted) (own : OnlyWrites (AdoptionMayWrite job (Ok done)) before.calls between.calls) (adopted : WasAdopted job old_job tells (view_of old.history) (view_of before.history) (view_of between.history) done) (two : tells ≡ true → IsInForce Two (view_of between.history))
       (loads loads_after : ℕ) (reached : Outcome) (output : List ℕ) (rest : IsRest job done told loads loads_after (folder_state tells between) (folder_state tells after) reached output) where
     both_acked : reached ≡ outcome.Done → tells ≡ true → AreAllAcked job 0 (frames_of job) (moment_of after.history)
     both_acked is t = rest.run.keeps.acked (done_ends job.parts.reels rest.run.how reached rest.run.reply.reached_is is) t
@@ -159,6 +171,7 @@ module _ (job old_job : JobData) (lent told : Option World) (tells_lent : Tells 
       acked = both_acked;
       spares = λ t. both_spare job before.history between.history after.history (two t) (kept_still t) (run t) (rest.run.keeps.run t) (spares t) (rest.run.keeps.spares t);
       writes = λ t. both_write job before.history between.history after.history (two t) (kept_still t) (run t) (rest.run.keeps.run t) (writes t) (rest.run.keeps.writes t);
+      own = writing_then own (writing_wider (λ q. own_of_run job q rest.run.how) rest.run.keeps.own);
       sound_has = sound_has;
     }
 
@@ -169,7 +182,7 @@ module _ (job old_job : JobData) (lent told : Option World) (tells_lent : Tells 
     }
 
   -- the adoption didn't come to its end
-  module _ (why : AdoptFault) (refused : IsWhyUnadopted job old_job tells old.history old_after.history before.history between.history why) (untouched : IsOfOld why → folder_state tells between ≡ folder_state tells before)
+  module _ (why : AdoptFault) (own : OnlyWrites (AdoptionMayWrite job (Err why)) before.calls between.calls) (refused : IsWhyUnadopted job old_job tells old.history old_after.history before.history between.history why) (untouched : IsOfOld why → folder_state tells between ≡ folder_state tells before)
       (loads : ℕ) (reached : Outcome) (output : List ℕ) (is : reached ≡ outcome_of_fault why) where
     pub went_no_further : IsAdoption job old_job told loads loads (folder_state tells old) (folder_state tells old_after) (folder_state tells before) (folder_state tells between) reached output
     went_no_further = record {
@@ -184,6 +197,7 @@ module _ (job old_job : JobData) (lent told : Option World) (tells_lent : Tells 
       acked = λ done. absurd (never_done why (sym is ∙ done));
       spares = spares;
       writes = writes;
+      own = own;
       sound_has = sound_has;
     }
 

@@ -8,6 +8,7 @@ use Rattle.reel_disk.specs.Disk.{view_of}
 use Rattle.outcome.specs.declared.Outcome.{Outcome}
 use Rattle.outcome.specs.declared.Outcome.TheVariants as outcome
 use Rattle.project_job.specs.Jobs.{HasPlanned, IsOfJob, cube_count}
+use Rattle.project_job.specs.Texts.{ByFiles, IsByTexts}
 use Rattle.reel_disk.specs.State.{FolderState}
 use Rattle.project_run.proofs.Runs.{of_job}
 use Rattle.project_adopt.specs.Adopt.{GoesOn, IsAdoptReply, IsAdoption, IsOfAdopt, IsOldSound, IsPromised, of_old_project}
@@ -27,28 +28,28 @@ all_three (Err b) P P' P'' Q Q' Q'' first second third = (first, second, third)
 
 -- The world is that before the old project was planned.
 pub adopted_in : (here told : Option World) (job old_job : JobData) (old_path : List ℕ) (old old_after disk disk_after : FolderState) (loads planned loads_after : ℕ) (reached : Outcome) (output : List ℕ) → here ≡ told
-    → IfSome told (λ world. HasPlanned (file_at world) old_path (Ok old_job)) → planned ≡ count_after (2 + cube_count old_job.parts.project.cube) loads
+    → IfSome told (λ world. HasPlanned (file_at world) old_path (Ok old_job)) → ByFiles told (λ files. IsByTexts files old_path (Ok old_job)) → planned ≡ count_after (2 + cube_count old_job.parts.project.cube) loads
     → IsAdoption job old_job here planned loads_after old old_after disk disk_after reached output
     → (disk.tells ≡ true → IsPromised job None disk disk_after reached)
     → (disk.tells ≡ true → IfSome here (λ world. IsOldSound old_job world (view_of old.history)) → IsPromised job here disk disk_after reached)
     → GoesOn job old_path told loads loads_after old old_after disk disk_after reached output
-adopted_in here told job old_job old_path old old_after disk disk_after loads planned loads_after reached output same comes texts went promise sound = inl (record {
+adopted_in here told job old_job old_path old old_after disk disk_after loads planned loads_after reached output same comes read texts went promise sound = inl (record {
   old_job = old_job;
   planned = planned;
-  came = record { comes = comes; texts = texts };
+  came = record { comes = record { told = comes; read = read }; texts = texts };
   went = subst (λ (t : Option World). IsAdoption job old_job t planned loads_after old old_after disk disk_after reached output) same went;
   promise = promise;
   sound = subst (λ (t : Option World). disk.tells ≡ true → IfSome t (λ world. IsOldSound old_job world (view_of old.history)) → IsPromised job t disk disk_after reached) same sound;
 })
 
 pub job_in : (here told : Option World) (job : JobData) (path old_path : List ℕ) (old old_after disk disk_after : FolderState) (loads planned loads_after : ℕ) (reached : Outcome) (output : List ℕ) → here ≡ told
-    → IfSome told (λ world. HasPlanned (file_at world) path (Ok job)) → planned ≡ count_after (2 + cube_count job.parts.project.cube) loads
+    → IfSome told (λ world. HasPlanned (file_at world) path (Ok job)) → ByFiles told (λ files. IsByTexts files path (Ok job)) → planned ≡ count_after (2 + cube_count job.parts.project.cube) loads
     → GoesOn job old_path here planned loads_after old old_after disk disk_after reached output
     → IsAdoptReply path old_path told loads loads_after old old_after disk disk_after reached output
-job_in here told job path old_path old old_after disk disk_after loads planned loads_after reached output same comes texts went = inl (record {
+job_in here told job path old_path old old_after disk disk_after loads planned loads_after reached output same comes read texts went = inl (record {
   job = job;
   planned = planned;
-  came = record { comes = comes; texts = texts };
+  came = record { comes = record { told = comes; read = read }; texts = texts };
   went = subst (λ (t : Option World). GoesOn job old_path t planned loads_after old old_after disk disk_after reached output) same went;
 })
 

@@ -14,6 +14,7 @@ use Rattle.std.specs.Prelude.{◌≡◌, ◌⊎◌, ℕ, ◌+◌, Bool, true, Li
 use Rattle.scan_source.specs.World.{World, file_at}
 use Rattle.conform_job.specs.Answers.{count_after}
 use Rattle.conform_job.specs.Job.{JobData}
+use Rattle.reel_disk.specs.Call.{OnlyWrites}
 use Rattle.reel_disk.specs.Disk.{Files, moment_of, view_of}
 use Rattle.reel_disk.specs.Runs.{Spares}
 use Rattle.reel_disk.specs.State.{DiskState, FolderState, OnDisk}
@@ -21,7 +22,7 @@ use Rattle.resume_ledger.specs.Ledger.{IsInForce}
 use Rattle.resume_ledger.specs.Sound.{IsSound, WritesOnly}
 use Rattle.resume_ledger.specs.declared.layout.Version.TheVariants.{Two}
 use Rattle.reel_writer.specs.Reel.{frames_of, reel_of, HasFrameFiles, IsReelRun, IsSoundReel}
-use Rattle.reconform.specs.Adopt.{HasAnswered, IsOfOld}
+use Rattle.reconform.specs.Adopt.{AdoptionMayWrite, HasAnswered, IsOfOld}
 use Rattle.reconform.specs.declared.adopting.Adopted.{Adopted}
 use Rattle.reconform.specs.declared.adopting.AdoptFault.{AdoptFault}
 use Rattle.reconform.specs.declared.adopting.AdoptFault.TheVariants as fault
@@ -31,7 +32,8 @@ use Rattle.run_alone.specs.declared.report.Report.{Report}
 use Rattle.printed_text.specs.Text.{spaced_line}
 use Rattle.outcome.specs.declared.Outcome.{Outcome}
 use Rattle.outcome.specs.declared.Outcome.TheVariants as outcome
-use Rattle.project_job.specs.Jobs.{ComesTo, cube_count}
+use Rattle.project_job.specs.Jobs.{cube_count}
+use Rattle.project_job.specs.Texts.{HasComeTo}
 use Rattle.project_run.specs.Calls.{WasOnlyRead}
 use Rattle.frame_range.specs.Parts.{range_of}
 use Rattle.frame_range.specs.declared.range.Extent.TheVariants.{Whole}
@@ -117,12 +119,14 @@ pub record IsAdoption (job old_job : JobData) (told : Option World) (loads loads
   -- what may have changed in the new one, and what was written, as in a run
   pub spares : disk.tells ≡ true → Spares disk.history disk_after.history (IsOwnFile job (view_of disk.history))
   pub writes : disk.tells ≡ true → WritesOnly disk.history disk_after.history (MayWrite job (view_of disk.history))
+  -- by its calls, also where the disk tells nothing: no file but a run's, and none where a folder was refused
+  pub own : OnlyWrites (AdoptionMayWrite job adopted) disk.calls disk_after.calls
   -- sound files lose none
   pub sound_has : (world : World) (files : Files) → IsSoundReel job world files → HasFrameFiles job files
 
 -- The project at the path came to this job.
 pub record CameTo (told : Option World) (path : List ℕ) (job : JobData) (loads loads_after : ℕ) : Type 0 where
-  pub comes : IfSome told (λ world. ComesTo (file_at world) path (Ok job.parts))
+  pub comes : HasComeTo told path (Ok job)
   pub texts : loads_after ≡ count_after (2 + cube_count job.parts.project.cube) loads
 
 -- The old project came to this job, frames were taken over, and the rest was run.

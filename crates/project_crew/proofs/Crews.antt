@@ -1,28 +1,24 @@
 -- From a crew to the reply of its command.
-use Rattle.std.proofs.Common.{◌≡◌, ℕ, zero, suc, ◌+◌, ◌<◌, ◌≤◌, min, List, [], ◌∷◌, All, AllPairs, ◌≢◌, set, length, get_or, Option, IfSome, Result, Ok, Err, MatchOption, true, refl, sym, ◌∙◌, ap, subst, arith, inl, inr}
+use Rattle.std.proofs.Common.{◌≡◌, ℕ, zero, suc, ◌+◌, ◌<◌, ◌≤◌, min, List, [], ◌∷◌, All, AllPairs, ◌≢◌, set, length, get_or, Option, IfSome, Result, Ok, Err, MatchOption, refl, sym, ◌∙◌, ap, subst, arith, inl, inr}
 use Rattle.cf_base.specs.Count.{HasRisen}
 use Rattle.scan_source.specs.State.{ScanState}
 use Rattle.scan_source.specs.World.{World, file_at}
 use Rattle.conform_job.specs.Answers.{count_after}
 use Rattle.conform_job.specs.Job.{JobData}
 use Rattle.frame_share.specs.declared.step.ShareStep.{ShareStep}
-use Rattle.reel_disk.specs.Call.{OnlyWrites}
-use Rattle.reel_disk.specs.Disk.{Files, moment_of, view_of}
-use Rattle.reel_disk.specs.Runs.{Spares}
-use Rattle.resume_ledger.specs.Sound.{WritesOnly}
 use Rattle.frame_range.specs.Parts.{range_of}
 use Rattle.frame_range.specs.declared.range.Extent.{Extent}
 use Rattle.frame_range.specs.declared.range.FrameRange.{FrameRange}
-use Rattle.reel_writer.specs.Reel.{frames_of, HasFrameFiles, IsReelRun, IsSoundReel}
+use Rattle.reel_writer.specs.Reel.{frames_of}
 use Rattle.render_board.specs.declared.step.Step.{Step}
-use Rattle.run_crew.specs.Crews.{AreWorked, TookNoSteps, TookSteps}
-use Rattle.frame_fetch.specs.Ends.{IsChange}
-use Rattle.run_alone.specs.Run.{AreAllAcked, HasWhole, IsOwnFileOf, MayWriteOf, RunMayWrite}
+use Rattle.run_crew.specs.Crews.{AreWorked, IsReported, TookNoSteps, TookSteps}
+use Rattle.run_alone.specs.Safe.{IsSafeRun}
 use Rattle.run_alone.specs.declared.report.Report.{Report}
 use Rattle.frame_fetch.specs.declared.run_end.RunEnd.{RunEnd}
 use Rattle.frame_fetch.specs.declared.run_end.RunEnd.TheVariants as ends
 use Rattle.project_job.specs.Asked.{HasLoadedFor}
 use Rattle.project_job.specs.Jobs.{HasPlanned, IsOfJob, AreLoaded, cube_count}
+use Rattle.project_job.specs.Texts.{ByFiles, HasComeTo, IsByTexts}
 use Rattle.outcome.specs.declared.Outcome.{Outcome}
 use Rattle.outcome.specs.declared.Outcome.TheVariants as outcomes
 use Rattle.project_crew.specs.Crew.{HasFailed, HasFirstLoaded, IsJobRunByCrew, IsCrewReply, told_by}
@@ -44,32 +40,25 @@ module _ {S : Type 0} (state : S → ScanState) where
       (at.0, at.1, λ scan. (worked.each at.0 scan at.1).failed at.2)
 
   pub crew_job_run : (log : List ShareStep) (job : JobData) (extent : Extent) (range : FrameRange) (told : Option World) (workers share given count : ℕ) (old new : List S) (disk disk_after : FolderState) (how : RunEnd) (report : Report) (steps : Option (List Step)) → count ≡ length old → given ≡ share
-      → report.frames ≡ frames_of job
+      → IsReported job how report
       → MatchOption steps (TookNoSteps job disk.tells disk.history disk_after.history how report log) (λ all. TookSteps job range.low range.high told (min workers count) given disk.tells disk.history disk_after.history all how report log)
-      → (disk.tells ≡ true → IsReelRun job told disk.history disk_after.history)
-      → (how ≡ ends.Done → disk.tells ≡ true → AreAllAcked job range.low range.high (moment_of disk_after.history))
-      → (how ≡ ends.Done → disk.tells ≡ true → HasWhole job range.low range.high told disk.history disk_after.history)
-      → ((world : World) (files : Files) → IsSoundReel job world files → HasFrameFiles job files)
-      → (disk.tells ≡ true → Spares disk.history disk_after.history (IsOwnFileOf job range.low range.high (view_of disk.history)))
-      → (disk.tells ≡ true → WritesOnly disk.history disk_after.history (MayWriteOf job range.low range.high (view_of disk.history)))
-      → OnlyWrites (RunMayWrite job range.low range.high how) disk.calls disk_after.calls
+      → IsSafeRun job range told how disk disk_after
       → AreWorked state (min workers count) report.loads (how ≡ ends.SourceFault) old new
-      → (IsChange how → 1 ≤ report.loads)
       → (reached : Outcome) (output : List ℕ) → ReportsEnd job how (report_text extent range report) reached output
       → IsJobRunByCrew state job extent range told workers share old new disk disk_after reached output
-  crew_job_run log job extent range told workers share given count old new disk disk_after how report steps all shared frames ran run acked whole sound_has spares writes own scans changed reached output reply = record {
+  crew_job_run log job extent range told workers share given count old new disk disk_after how report steps all shared reported ran keeps scans reached output reply = record {
     how = how;
     report = report;
     reply = reply;
-    frames = frames;
+    frames = reported.frames;
     steps = steps;
     log = log;
     ran =
         subst (λ n. MatchOption steps (TookNoSteps job disk.tells disk.history disk_after.history how report log) (λ all. TookSteps job range.low range.high told (min workers n) share disk.tells disk.history disk_after.history all how report log)) all
         (subst (λ n. MatchOption steps (TookNoSteps job disk.tells disk.history disk_after.history how report log) (λ all. TookSteps job range.low range.high told (min workers count) n disk.tells disk.history disk_after.history all how report log)) shared ran);
-    keeps = record { run = run; acked = acked; whole = whole; sound_has = sound_has; spares = spares; writes = writes; own = own };
+    keeps = keeps;
     scans = subst (λ n. AreWorked state (min workers n) report.loads (how ≡ ends.SourceFault) old new) all scans;
-    changed = changed;
+    changed = reported.changed;
   }
 
   -- what the first scan tells, all tell
@@ -117,13 +106,13 @@ module _ {S : Type 0} (state : S → ScanState) where
     failed_first (scan ∷ scans) first some is rose = (0, omega arith, λ d. subst (λ n. HasRisen n (state used).faults) (ap (λ s. (state s).faults) (sym is)) rose)
 
     pub uncrewed : {extent : Extent} (path : List ℕ) (workers share : ℕ) (scans : List S) (first : S) (disk : FolderState) (reached : Outcome) (output : List ℕ) → 0 < length scans → get_or scans 0 first ≡ first
-        → IfSome (state first).world (λ files. HasPlanned (file_at files) path (Err reached)) → IsOfJob reached → AreLoaded 1 3 (state first).loads (state used).loads
+        → IfSome (state first).world (λ files. HasPlanned (file_at files) path (Err reached)) → ByFiles (state first).world (λ files. IsByTexts files path (Err reached)) → IsOfJob reached → AreLoaded 1 3 (state first).loads (state used).loads
         → HasLoadedFor (state first).world path (state first).loads (state used).loads reached → (reached ≢ outcomes.SourceFault → (state used).faults ≡ (state first).faults)
         → (state first).faults ≤ (state used).faults → (state used).world ≡ (state first).world → (state used).loans ≡ (state first).loans
         → IsCrewReply state path extent workers share scans (set scans 0 used) disk disk reached output
-    uncrewed path workers share [] first disk reached output some is why kind texts refused steady later told lent = absurd (omega (arith, some))
-    uncrewed path workers share (scan ∷ scans) first disk reached output some is why kind texts refused steady later told lent = inr (record {
-      why = subst (λ s. IfSome (state s).world (λ files. HasPlanned (file_at files) path (Err reached))) (sym is) why;
+    uncrewed path workers share [] first disk reached output some is why read kind texts refused steady later told lent = absurd (omega (arith, some))
+    uncrewed path workers share (scan ∷ scans) first disk reached output some is why read kind texts refused steady later told lent = inr (record {
+      why = subst (λ s. HasComeTo (state s).world path (Err reached)) (sym is) (record { told = why; read = read });
       kind = kind;
       untouched = refl;
       size = refl;
@@ -137,13 +126,13 @@ module _ {S : Type 0} (state : S → ScanState) where
     })
 
     pub crewed : (job : JobData) (extent : Extent) (range : FrameRange) (path : List ℕ) (workers share : ℕ) (scans new : List S) (first : S) (disk disk_after : FolderState) (reached : Outcome) (output : List ℕ) → range ≡ range_of extent (frames_of job) → 0 < length scans → get_or scans 0 first ≡ first
-        → IfSome (state first).world (λ files. HasPlanned (file_at files) path (Ok job)) → (state used).world ≡ (state first).world
+        → IfSome (state first).world (λ files. HasPlanned (file_at files) path (Ok job)) → ByFiles (state first).world (λ files. IsByTexts files path (Ok job)) → (state used).world ≡ (state first).world
         → HasFirstLoaded state (2 + cube_count job.parts.project.cube) scans (set scans 0 used)
         → IsJobRunByCrew state job extent range (told_by state (set scans 0 used)) workers share (set scans 0 used) new disk disk_after reached output
         → IsCrewReply state path extent workers share scans new disk disk_after reached output
-    crewed job extent range path workers share scans new first disk disk_after reached output whole some is comes told texts ran = inl (record {
+    crewed job extent range path workers share scans new first disk disk_after reached output whole some is comes read told texts ran = inl (record {
       job = job;
-      comes = subst (λ o. IfSome o (λ files. HasPlanned (file_at files) path (Ok job))) (told_first scans some is) comes;
+      comes = subst (λ o. HasComeTo o path (Ok job)) (told_first scans some is) (record { told = comes; read = read });
       planned = set scans 0 used;
       texts = texts;
       ran = subst (λ (r : FrameRange). IsJobRunByCrew state job extent r (told_by state scans) workers share (set scans 0 used) new disk disk_after reached output) whole

@@ -5,10 +5,10 @@
 --     told_by      what the scans tell, which is the same of all
 --     RanItsJobByCrew      the project came to a job, and a crew ran it in the folder
 --     IsUnplannedByCrew      it came to none, and the folder is as it was
-use Rattle.std.specs.Prelude.{◌≡◌, ◌≢◌, ◌⊎◌, ℕ, ◌+◌, ◌<◌, ◌≤◌, min, List, [], ◌∷◌, drop, length, slice_index_or, Option, None, IfSome, MatchOption, Ok, Err}
+use Rattle.std.specs.Prelude.{◌≡◌, ◌≢◌, ◌⊎◌, ℕ, ◌+◌, ◌<◌, ◌≤◌, min, List, [], ◌∷◌, drop, length, slice_index_or, Option, None, MatchOption, Ok, Err}
 use Rattle.cf_base.specs.Count.{HasRisen}
 use Rattle.scan_source.specs.State.{ScanState}
-use Rattle.scan_source.specs.World.{World, file_at}
+use Rattle.scan_source.specs.World.{World}
 use Rattle.frame_share.specs.declared.step.ShareStep.{ShareStep}
 use Rattle.reel_writer.specs.Reel.{frames_of}
 use Rattle.conform_job.specs.Answers.{count_after}
@@ -20,14 +20,16 @@ use Rattle.run_alone.specs.declared.report.Report.{Report}
 use Rattle.frame_fetch.specs.declared.run_end.RunEnd.{RunEnd}
 use Rattle.frame_fetch.specs.declared.run_end.RunEnd.TheVariants as ends
 use Rattle.project_job.specs.Asked.{HasLoadedFor}
-use Rattle.project_job.specs.Jobs.{ComesTo, HasPlanned, IsOfJob, AreLoaded, cube_count}
+use Rattle.project_job.specs.Jobs.{IsOfJob, AreLoaded, cube_count}
+use Rattle.project_job.specs.Texts.{HasComeTo}
 use Rattle.outcome.specs.declared.Outcome.{Outcome}
 use Rattle.outcome.specs.declared.Outcome.TheVariants as outcome
 use Rattle.reel_disk.specs.State.{FolderState}
 use Rattle.frame_range.specs.Parts.{range_of}
 use Rattle.frame_range.specs.declared.range.Extent.{Extent}
 use Rattle.frame_range.specs.declared.range.FrameRange.{FrameRange}
-use Rattle.project_run.specs.Run.{IsSafeRun, ReportsEnd, report_text}
+use Rattle.run_alone.specs.Safe.{IsSafeRun}
+use Rattle.project_run.specs.Run.{ReportsEnd, report_text}
 
 -- what the first of some scans tells
 abbrev pub told_by : {S : Type 0} → (S → ScanState) → List S → Option World
@@ -72,7 +74,7 @@ module _ {S : Type 0} (state : S → ScanState) where
   pub record RanItsJobByCrew (path : List ℕ) (extent : Extent) (workers share : ℕ) (old new : List S)
       (disk disk_after : FolderState) (reached : Outcome) (output : List ℕ) : Type 0 where
     pub job : JobData
-    pub comes : IfSome (told_by state old) (λ files. ComesTo (file_at files) path (Ok job.parts))
+    pub comes : HasComeTo (told_by state old) path (Ok job)
     -- the scans when it was planned, with the first of them
     pub planned : List S
     pub texts : HasFirstLoaded (2 + cube_count job.parts.project.cube) old planned
@@ -81,7 +83,7 @@ module _ {S : Type 0} (state : S → ScanState) where
 
   -- The project came to no job, the folder is as it was, and so are all scans but the first, which is handed back as it was lent.
   pub record IsUnplannedByCrew (path : List ℕ) (old new : List S) (disk disk_after : FolderState) (reached : Outcome) : Type 0 where
-    pub why : IfSome (told_by state old) (λ files. HasPlanned (file_at files) path (Err reached))
+    pub why : HasComeTo (told_by state old) path (Err reached)
     pub kind : IsOfJob reached
     pub untouched : disk_after ≡ disk
     pub size : length new ≡ length old

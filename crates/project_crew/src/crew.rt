@@ -1,6 +1,6 @@
 //! A run by a crew.
 ghost use Rattle.std.specs.Prelude.{◌≡◌, ◌≤◌, true, All, AllPairs, Err, IfErr, MatchResult, vec_len};
-ghost use Rattle.cf_base.specs.Count.{HasRisen};
+ghost use Rattle.cf_base.specs.Count.{HasCause};
 ghost use Rattle.conform_job.specs.Answers.{AreInfosOf};
 ghost use Rattle.project_crew.specs.Crew.{HasFailed, IsJobRunByCrew, IsCrewReply, told_by};
 ghost use Rattle.frame_range.specs.Parts.{IsExtent};
@@ -56,18 +56,15 @@ pub fn run_crewed<S: Scans + Send, D: Disk + Send, R: Threads + Wait + Sync>(
     requires scans { (1 ≤ vec_len scans) × (vec_len scans ≤ 16) }
     requires one_world { AllPairs (λ a b. (S.state a).world ≡ (S.state b).world) scans.items }
     requires extent { IsExtent extent }
-    requires workers { (1 ≤ size.workers) × (size.workers ≤ 16) }
-    requires share { IsShareCount size.share }
-    requires no_fault { (D.state disk).faults ≡ 0 }
-    requires first_moment { D.tells ≡ true → (D.state disk).history.now ≡ 0 }
+    requires size { (1 ≤ size.workers) × (size.workers ≤ 16) × IsShareCount size.share }
+    requires unused { ((D.state disk).faults ≡ 0) × (D.tells ≡ true → (D.state disk).history.now ≡ 0) }
     ensures reply { Replies result.result (OnDisk D.tells (D.state disk) (D.state result.disk)
         (IsCrewReply S.state path.now extent size.workers size.share scans.items result.scans.items)) }
     ensures kind { MatchResult result.result (λ text. Unit {0}) IsOfRun }
     ensures handed_back { vec_len result.scans ≡ vec_len scans }
 
     ensures failed { result.result ≡ Err Outcome.SourceFault → HasFailed S.state scans.items result.scans.items }
-    ensures disk_fault { result.result ≡ Err Outcome.DiskFault → HasRisen (D.state disk).faults (D.state result.disk).faults }
-    ensures disk_later { (D.state disk).faults ≤ (D.state result.disk).faults }
+    ensures disk { HasCause (D.state disk).faults (D.state result.disk).faults (result.result ≡ Err Outcome.DiskFault) }
     ensures disk_same { (D.state result.disk).loans ≡ (D.state disk).loans }
     ensures untouched { IfErr result.result (IsLeftAlone disk result.disk) }
 {
@@ -107,8 +104,7 @@ fn run_job<S: Scans + Send, D: Disk + Send, R: Threads + Wait + Sync>(
     requires one_world { All (λ scan. (S.state scan).world ≡ told_by S.state scans.items) scans.items }
     requires workers { (1 ≤ workers) × (workers ≤ 16) }
     requires infos { AreInfosOf task.now.job.now.parts (told_by S.state scans.items) task.now.job.now.infos }
-    requires no_fault { (D.state disk).faults ≡ 0 }
-    requires first_moment { D.tells ≡ true → (D.state disk).history.now ≡ 0 }
+    requires unused { ((D.state disk).faults ≡ 0) × (D.tells ≡ true → (D.state disk).history.now ≡ 0) }
     ensures ran { Replies result.result (OnDisk D.tells (D.state disk) (D.state result.disk)
         (IsJobRunByCrew S.state task.now.job.now extent task.now.range (told_by S.state scans.items)
         workers task.now.share scans.items result.scans.items)) }
@@ -116,8 +112,7 @@ fn run_job<S: Scans + Send, D: Disk + Send, R: Threads + Wait + Sync>(
     ensures handed_back { vec_len result.scans ≡ vec_len scans }
 
     ensures failed { result.result ≡ Err Outcome.SourceFault → HasFailed S.state scans.items result.scans.items }
-    ensures disk_fault { result.result ≡ Err Outcome.DiskFault → HasRisen (D.state disk).faults (D.state result.disk).faults }
-    ensures disk_later { (D.state disk).faults ≤ (D.state result.disk).faults }
+    ensures disk { HasCause (D.state disk).faults (D.state result.disk).faults (result.result ≡ Err Outcome.DiskFault) }
     ensures disk_same { (D.state result.disk).loans ≡ (D.state disk).loans }
 {
     task.job.recall();

@@ -14,6 +14,7 @@ use Rattle.frame_fetch.specs.declared.run_end.RunEnd.{RunEnd}
 use Rattle.frame_fetch.specs.declared.run_end.RunEnd.TheVariants as ends
 use Rattle.project_job.specs.Asked.{HasLoadedFor}
 use Rattle.project_job.specs.Jobs.{AreLoaded, HasPlanned, IsOfJob, cube_count}
+use Rattle.project_job.specs.Texts.{ByFiles, IsByTexts}
 use Rattle.reel_writer.specs.Reel.{frames_of}
 use Rattle.frame_range.specs.Parts.{range_of}
 use Rattle.frame_range.specs.declared.range.Extent.{Extent}
@@ -102,11 +103,11 @@ pub job_verifies : (outcome : Outcome) → IsOfJob outcome → IsOfVerify outcom
 job_verifies outcome kind = look_verifies outcome (job_looks outcome kind)
 
 pub run_in : {share : ℕ} (job : JobData) (extent : Extent) (range : FrameRange) (here told : Option World) (path : List ℕ) (disk disk_after : FolderState) (loads between loads_after : ℕ) (reached : Outcome) (output : List ℕ) → range ≡ range_of extent (frames_of job) → here ≡ told
-    → IfSome told (λ world. HasPlanned (file_at world) path (Ok job)) → between ≡ count_after (2 + cube_count job.parts.project.cube) loads
+    → IfSome told (λ world. HasPlanned (file_at world) path (Ok job)) → ByFiles told (λ files. IsByTexts files path (Ok job)) → between ≡ count_after (2 + cube_count job.parts.project.cube) loads
     → IsJobRun job extent range share here between loads_after disk disk_after reached output → IsRunReply path extent share told loads loads_after disk disk_after reached output
-run_in {share = share} job extent range here told path disk disk_after loads between loads_after reached output all same comes texts ran = inl (record {
+run_in {share = share} job extent range here told path disk disk_after loads between loads_after reached output all same comes read texts ran = inl (record {
   job = job;
-  comes = comes;
+  comes = record { told = comes; read = read };
   planned = between;
   texts = texts;
   ran = subst (λ (r : FrameRange). IsJobRun job extent r share told between loads_after disk disk_after reached output) all
@@ -114,16 +115,16 @@ run_in {share = share} job extent range here told path disk disk_after loads bet
 })
 
 pub looked_in : (Looked : JobData → Type 0) (job : JobData) (told : Option World) (path : List ℕ) (disk disk_after : FolderState) (loads loads_after : ℕ) (reached : Outcome)
-    → IfSome told (λ world. HasPlanned (file_at world) path (Ok job)) → loads_after ≡ count_after (2 + cube_count job.parts.project.cube) loads
+    → IfSome told (λ world. HasPlanned (file_at world) path (Ok job)) → ByFiles told (λ files. IsByTexts files path (Ok job)) → loads_after ≡ count_after (2 + cube_count job.parts.project.cube) loads
     → Looked job → IsLookReply told path disk disk_after loads loads_after reached Looked
-looked_in Looked job told path disk disk_after loads loads_after reached comes texts looked = inl (record {
+looked_in Looked job told path disk disk_after loads loads_after reached comes read texts looked = inl (record {
   job = job;
-  comes = comes;
+  comes = record { told = comes; read = read };
   texts = texts;
   looked = looked;
 })
 
 -- no job was planned, and the folder is as it was
 pub unplanned : (told : Option World) (path : List ℕ) (disk : FolderState) (loads loads_after : ℕ) (reached : Outcome) → IfSome told (λ world. HasPlanned (file_at world) path (Err reached))
-    → IsOfJob reached → AreLoaded 1 3 loads loads_after → HasLoadedFor told path loads loads_after reached → IsUnplanned told path disk disk loads loads_after reached
-unplanned told path disk loads loads_after reached why kind texts refused = record { why = why; kind = kind; untouched = refl; texts = texts; refused = refused }
+    → ByFiles told (λ files. IsByTexts files path (Err reached)) → IsOfJob reached → AreLoaded 1 3 loads loads_after → HasLoadedFor told path loads loads_after reached → IsUnplanned told path disk disk loads loads_after reached
+unplanned told path disk loads loads_after reached why read kind texts refused = record { why = record { told = why; read = read }; kind = kind; untouched = refl; texts = texts; refused = refused }

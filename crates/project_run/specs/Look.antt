@@ -5,15 +5,16 @@
 --     IsLookReply      the project came to a job, and the folder was looked at, or it came to none
 --     HasFound      the ledger was looked at, and of what it has this was found
 --     HasSeen      the same, and the folder was never changed
-use Rattle.std.specs.Prelude.{◌≡◌, ◌⊎◌, ℕ, ◌+◌, true, List, Option, IfSome, Result, Ok, MatchResult}
-use Rattle.scan_source.specs.World.{World, file_at}
+use Rattle.std.specs.Prelude.{◌≡◌, ◌⊎◌, ℕ, ◌+◌, true, List, Option, Result, Ok, MatchResult}
+use Rattle.scan_source.specs.World.{World}
 use Rattle.reel_writer.specs.Reel.{frames_of}
 use Rattle.conform_job.specs.Answers.{count_after}
 use Rattle.conform_job.specs.Job.{JobData}
 use Rattle.resume_ledger.specs.Look.{ViewState, HasLooked, IsLookFor}
 use Rattle.resume_ledger.specs.declared.attach.OpenFault.{OpenFault}
 use Rattle.resume_ledger.specs.declared.attach.OpenFault.TheVariants as faults
-use Rattle.project_job.specs.Jobs.{ComesTo, cube_count}
+use Rattle.project_job.specs.Jobs.{cube_count}
+use Rattle.project_job.specs.Texts.{HasComeTo}
 use Rattle.outcome.specs.declared.Outcome.{Outcome}
 use Rattle.outcome.specs.declared.Outcome.TheVariants as outcome
 use Rattle.reel_disk.specs.State.{FolderState}
@@ -49,7 +50,7 @@ pub record HasSeen (job : JobData) (disk disk_after : FolderState) (reached : Ou
 -- The project came to this job, and its folder was looked at so.
 pub record HasLookedAt (told : Option World) (path : List ℕ) (loads loads_after : ℕ) (Looked : JobData → Type 0) : Type 0 where
   pub job : JobData
-  pub comes : IfSome told (λ world. ComesTo (file_at world) path (Ok job.parts))
+  pub comes : HasComeTo told path (Ok job)
   pub texts : loads_after ≡ count_after (2 + cube_count job.parts.project.cube) loads
   pub looked : Looked job
 

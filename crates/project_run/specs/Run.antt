@@ -3,34 +3,31 @@
 -- * `run`, `part`: the project came to a job, which was run in the folder, all of it or a part, at each moment by the crash
 --   promise, which a crew's run has in the same words; or it came to none, and the folder is as it was, with the files loaded up
 --   to the refused one
---     IsSafeRun      what every run of a job keeps, on one thread or by a crew
 --     RanItsJob      the project came to a job, and the job was run in the folder
 --     IsUnplanned      it came to none, and the folder is as it was
-use Rattle.std.specs.Prelude.{◌≡◌, ◌⊎◌, ℕ, ◌+◌, ◌-◌, ◌≤◌, true, List, [], ◌∷◌, ◌++◌, codes, decimal, slice_get, unwrap_or, Option, Some, IfSome, Ok, Err}
+use Rattle.std.specs.Prelude.{◌≡◌, ◌⊎◌, ℕ, ◌+◌, ◌-◌, ◌≤◌, List, [], ◌∷◌, ◌++◌, codes, decimal, slice_get, unwrap_or, Option, Some, Ok, Err}
 use Rattle.std.specs.Option.{option_map}
 use Rattle.cf_base.specs.Count.{HasRisen}
 use Rattle.cf_base.specs.declared.reel.ReelEntry.{ReelEntry}
-use Rattle.scan_source.specs.World.{World, file_at}
+use Rattle.scan_source.specs.World.{World}
 use Rattle.frame_share.specs.declared.step.ShareStep.{ShareStep}
-use Rattle.reel_disk.specs.Call.{OnlyWrites}
-use Rattle.reel_disk.specs.Disk.{Files, moment_of, view_of}
-use Rattle.reel_disk.specs.Runs.{Spares}
-use Rattle.resume_ledger.specs.Sound.{WritesOnly}
 use Rattle.frame_range.specs.Parts.{range_of}
 use Rattle.frame_range.specs.declared.range.Extent.{Extent}
 use Rattle.frame_range.specs.declared.range.Extent.TheVariants.{Whole, Part}
 use Rattle.frame_range.specs.declared.range.FrameRange.{FrameRange}
-use Rattle.reel_writer.specs.Reel.{frames_of, HasFrameFiles, IsReelRun, IsSoundReel}
+use Rattle.reel_writer.specs.Reel.{frames_of}
 use Rattle.conform_job.specs.Answers.{count_after}
 use Rattle.conform_job.specs.Job.{JobData}
 use Rattle.conform_job.specs.Keys.{info_at}
 use Rattle.frame_fetch.specs.Ends.{IsChange}
-use Rattle.run_alone.specs.Run.{WasRun, AreAllAcked, HasWhole, IsOwnFileOf, MayWriteOf, RunMayWrite}
+use Rattle.run_alone.specs.Run.{WasRun}
+use Rattle.run_alone.specs.Safe.{IsSafeRun}
 use Rattle.run_alone.specs.declared.report.Report.{Report}
 use Rattle.frame_fetch.specs.declared.run_end.RunEnd.{RunEnd}
 use Rattle.frame_fetch.specs.declared.run_end.RunEnd.TheVariants as ends
 use Rattle.project_job.specs.Asked.{HasLoadedFor}
-use Rattle.project_job.specs.Jobs.{ComesTo, HasPlanned, IsOfJob, AreLoaded, cube_count}
+use Rattle.project_job.specs.Jobs.{IsOfJob, AreLoaded, cube_count}
+use Rattle.project_job.specs.Texts.{HasComeTo}
 use Rattle.printed_text.specs.Text.{spaced_line}
 use Rattle.reel_disk.specs.State.{FolderState}
 use Rattle.outcome.specs.declared.Outcome.{Outcome}
@@ -84,22 +81,6 @@ abbrev pub IsKnown : JobData → RunEnd → Type 0
 IsKnown job (ends.Changed key was now) = info_at job.infos key ≡ Some was
 IsKnown job other = Unit {0}
 
--- What a run that ended so keeps: at every moment of it each frame that a crash leaves acknowledged is the definition's, and no
--- acknowledgement is lost; at Done the folder has all frames of the range.
-pub record IsSafeRun (job : JobData) (range : FrameRange) (told : Option World) (how : RunEnd)
-    (disk disk_after : FolderState) : Type 0 where
-  pub run : disk.tells ≡ true → IsReelRun job told disk.history disk_after.history
-  pub acked : how ≡ ends.Done → disk.tells ≡ true → AreAllAcked job range.low range.high (moment_of disk_after.history)
-  pub whole : how ≡ ends.Done → disk.tells ≡ true → HasWhole job range.low range.high told disk.history disk_after.history
-  -- sound files lose none
-  pub sound_has : (world : World) (files : Files) → IsSoundReel job world files → HasFrameFiles job files
-  -- what it may have changed: the ledger's files, and those of frames of the range that the folder didn't acknowledge
-  pub spares : disk.tells ≡ true → Spares disk.history disk_after.history (IsOwnFileOf job range.low range.high (view_of disk.history))
-  -- what it wrote: of the ledger's files those of version 2 alone
-  pub writes : disk.tells ≡ true → WritesOnly disk.history disk_after.history (MayWriteOf job range.low range.high (view_of disk.history))
-  -- by its calls, also where the disk tells nothing: no file but these, and none where the folder was refused
-  pub own : OnlyWrites (RunMayWrite job range.low range.high how) disk.calls disk_after.calls
-
 -- The job was run in the folder, over a range of its frames.
 pub record IsJobRun (job : JobData) (extent : Extent) (range : FrameRange) (share : ℕ) (told : Option World)
     (loads loads_after : ℕ) (disk disk_after : FolderState) (reached : Outcome) (output : List ℕ) : Type 0 where
@@ -120,7 +101,7 @@ pub record IsJobRun (job : JobData) (extent : Extent) (range : FrameRange) (shar
 pub record RanItsJob (told : Option World) (path : List ℕ) (extent : Extent) (share : ℕ) (disk disk_after : FolderState)
     (loads loads_after : ℕ) (reached : Outcome) (output : List ℕ) : Type 0 where
   pub job : JobData
-  pub comes : IfSome told (λ world. ComesTo (file_at world) path (Ok job.parts))
+  pub comes : HasComeTo told path (Ok job)
   -- the loads when it was planned
   pub planned : ℕ
   pub texts : planned ≡ count_after (2 + cube_count job.parts.project.cube) loads
@@ -129,7 +110,7 @@ pub record RanItsJob (told : Option World) (path : List ℕ) (extent : Extent) (
 -- The project came to no job, and the folder is as it was.
 pub record IsUnplanned (told : Option World) (path : List ℕ) (disk disk_after : FolderState) (loads loads_after : ℕ)
     (reached : Outcome) : Type 0 where
-  pub why : IfSome told (λ world. HasPlanned (file_at world) path (Err reached))
+  pub why : HasComeTo told path (Err reached)
   pub kind : IsOfJob reached
   pub untouched : disk_after ≡ disk
   pub texts : AreLoaded 1 3 loads loads_after

@@ -9,7 +9,8 @@ use Rattle.outcome.specs.declared.Outcome.{Outcome}
 use Rattle.outcome.specs.declared.Outcome.TheVariants.{Done, Refused as IsRefused, SourceFault, NoMemory}
 use Rattle.outcome.specs.declared.Refused.TheVariants as refused
 use Rattle.outcome.specs.declared.Which.TheVariants as which
-use Rattle.command_answers.specs.ByFile.{ByFile, HasLoadedOne, IsRightBy, LooksAtNone}
+use Rattle.project_job.specs.Load.{ByFile}
+use Rattle.command_answers.specs.ByFile.{HasLoadedOne, IsRightBy, LooksAtNone}
 use Rattle.command_answers.specs.Meaning.{HasReelFailed, IsThrough, LeavesReel, Meaning, no_calls}
 
 -- the table that is put for the list at the path

@@ -11,7 +11,7 @@ pub returns-in-Ok-converted-clause-reply : goal.returns-in-Ok-converted-clause-r
 returns-in-Ok-converted-clause-reply g c =
     let load = c.in-Ok.ensures in
     reply_of _ _ _ _ _ tt
-    (by_front _ _ _ 84914180 c.in-Ok.front load.told load.fills (λ bytes len_is into_is.
+    (by_front _ _ _ 84914180 c.in-Ok.front load.read (λ bytes len_is into_is.
     frame_done bytes c.deref.result.now _ c.in-Ok.front.len c.in-Ok-converted.ensures.form len_is (c.deref.ensures.value ∙ into_is)))
     (λ not_done. absurd (not_done refl)) (λ same. absurd (cc)) (λ _. load.scan.counts.steady (λ same. cc)) load.scan.counts.cause.later load.loads load.heads load.scan.told
 
@@ -20,7 +20,7 @@ returns-in-Err-Fault-clause-reply g c =
     let load = c.in-Ok.ensures in
     let fault = fault_given _ _ c.in-Err-Fault.fault (λ f. info_of (first_bytes 2048 c.deref.result.now) c.in-Ok.front.len ≡ Err f) c.in-Err-Fault.is c.in-Err-Fault.field-0-is c.converted.ensures.fault in
     reply_of _ _ _ _ _ tt
-    (by_front _ _ _ 84914180 c.in-Ok.front load.told load.fills (λ bytes len_is into_is.
+    (by_front _ _ _ 84914180 c.in-Ok.front load.read (λ bytes len_is into_is.
     frame_fault bytes c.deref.result.now _ c.in-Ok.front.len _ fault len_is (c.deref.ensures.value ∙ into_is)))
     (λ _. refl) (λ same. absurd (cc)) (λ _. load.scan.counts.steady (λ same. cc)) load.scan.counts.cause.later load.loads load.heads load.scan.told
 
@@ -32,5 +32,5 @@ returns-clause-reply g c =
 pub returns-in-Err-clause-reply : goal.returns-in-Err-clause-reply
 returns-in-Err-clause-reply g c =
     let load = c.in-Err.ensures in
-    reply_of _ _ _ _ _ (replied_load (commands.Frame c.args.path.now) _ _ load.kind) (frame_missing _ c.args.path.now _ _ load.told load.kind)
+    reply_of _ _ _ _ _ (replied_load (commands.Frame c.args.path.now) _ _ load.kind) (frame_missing _ c.args.path.now _ _ load.read)
     (λ _. refl) (λ same. load.scan.counts.cause.failed (error_of _ _ same)) (λ other. load.scan.counts.steady (λ same. other (outcome_of _ _ same))) load.scan.counts.cause.later load.loads load.heads load.scan.told

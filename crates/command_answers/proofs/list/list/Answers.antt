@@ -10,7 +10,7 @@ pub returns-in-Ok-table_of-clause-reply : goal.returns-in-Ok-table_of-clause-rep
 returns-in-Ok-table_of-clause-reply g c =
     let load = c.in-Ok.ensures in
     reply_of _ _ _ _ _ tt
-    (by_front _ _ _ 4194305 c.in-Ok.front load.told load.fills (λ bytes len_is into_is.
+    (by_front _ _ _ 4194305 c.in-Ok.front load.read (λ bytes len_is into_is.
     list_done c.args.rate bytes c.deref.result.now _ c.in-Ok-table_of.ensures.form (c.deref.ensures.value ∙ into_is)))
     (λ not_done. absurd (not_done refl)) (λ same. absurd (cc)) (λ _. load.scan.counts.steady (λ same. cc)) load.scan.counts.cause.later load.loads load.heads load.scan.told
 
@@ -19,7 +19,7 @@ returns-in-Err-Fault-clause-reply g c =
     let load = c.in-Ok.ensures in
     let fault = fault_given _ _ c.in-Err-Fault.refusal (λ f. list_of c.args.rate c.deref.result.now ≡ Err f) c.in-Err-Fault.is c.in-Err-Fault.field-0-is c.table_of.ensures.fault in
     reply_of _ _ _ _ _ tt
-    (by_front _ _ _ 4194305 c.in-Ok.front load.told load.fills (λ bytes len_is into_is.
+    (by_front _ _ _ 4194305 c.in-Ok.front load.read (λ bytes len_is into_is.
     list_refused c.args.rate bytes c.deref.result.now _ _ fault (c.deref.ensures.value ∙ into_is)))
     (λ _. refl) (λ same. absurd (cc)) (λ _. load.scan.counts.steady (λ same. cc)) load.scan.counts.cause.later load.loads load.heads load.scan.told
 
@@ -31,5 +31,5 @@ returns-clause-reply g c =
 pub returns-in-Err-clause-reply : goal.returns-in-Err-clause-reply
 returns-in-Err-clause-reply g c =
     let load = c.in-Err.ensures in
-    reply_of _ _ _ _ _ (replied_load (commands.List c.args.path.now c.args.rate) _ _ load.kind) (list_missing c.args.rate _ c.args.path.now _ _ load.told load.kind)
+    reply_of _ _ _ _ _ (replied_load (commands.List c.args.path.now c.args.rate) _ _ load.kind) (list_missing c.args.rate _ c.args.path.now _ _ load.read)
     (λ _. refl) (λ same. load.scan.counts.cause.failed (error_of _ _ same)) (λ other. load.scan.counts.steady (λ same. other (outcome_of _ _ same))) load.scan.counts.cause.later load.loads load.heads load.scan.told

@@ -50,10 +50,22 @@ returns-in_default-clause-unfailed g c =
     (answered_unread _ (g.S.Scans.state c.args.scan.now) (folders_of g.D.Disk.tells (g.D.Disk.state c.args.disk.now) (g.D.Disk.state c.args.old.now)) _ _ _ c.put_line.ensures.put)
 
 pub returns-clause-no_call : goal.returns-clause-no_call
-returns-clause-no_call g c = c.answer_found.ensures.no_call _ c.in-Ok.ensures.command
+returns-clause-no_call g c = (c.answer_found.ensures.uncalled _ c.in-Ok.ensures.command).0
 
 pub returns-clause-no_old_call : goal.returns-clause-no_old_call
-returns-clause-no_old_call g c = c.answer_found.ensures.no_old_call _ c.in-Ok.ensures.command
+returns-clause-no_old_call g c = (c.answer_found.ensures.uncalled _ c.in-Ok.ensures.command).1
 
 pub returns-clause-unread : goal.returns-clause-unread
 returns-clause-unread g c = c.answer_found.ensures.unread _ c.in-Ok.ensures.command
+
+pub returns-clause-untouched : goal.returns-clause-untouched
+returns-clause-untouched g c = c.answer_found.ensures.untouched.0
+
+pub returns-clause-old_untouched : goal.returns-clause-old_untouched
+returns-clause-old_untouched g c = c.answer_found.ensures.untouched.1
+
+pub returns-clause-disk_same : goal.returns-clause-disk_same
+returns-clause-disk_same g c = c.answer_found.ensures.lent.0
+
+pub returns-clause-old_same : goal.returns-clause-old_same
+returns-clause-old_same g c = c.answer_found.ensures.lent.1

@@ -15,28 +15,25 @@ returns-in-Err-clause-answered g c words says =
     answered_line _ c.in-Some.command _ _ _ _ _ _ _ _ (one_found _ _ _ c.in-Some.is says) c.in-Err.ensures.reply c.put_line-in-Err.ensures.put
 
 pub returns-in-Ok-clause-untouched : goal.returns-in-Ok-clause-untouched
-returns-in-Ok-clause-untouched g c refused = absurd (done_unrefused _ _ _ _ c.put.ensures.put refused)
-
-pub returns-in-Ok-clause-old_untouched : goal.returns-in-Ok-clause-old_untouched
-returns-in-Ok-clause-old_untouched g c refused = absurd (done_unrefused _ _ _ _ c.put.ensures.put refused)
+returns-in-Ok-clause-untouched g c = (λ refused. absurd (done_unrefused _ _ _ _ c.put.ensures.put refused), λ refused. absurd (done_unrefused _ _ _ _ c.put.ensures.put refused))
 
 pub returns-in-Err-clause-untouched : goal.returns-in-Err-clause-untouched
-returns-in-Err-clause-untouched g c refused = c.in-Err.ensures.untouched (put_refused _ _ _ _ c.put_line-in-Err.ensures.put refused)
+returns-in-Err-clause-untouched g c = (
+  λ refused. c.in-Err.ensures.untouched (put_refused _ _ _ _ c.put_line-in-Err.ensures.put refused),
+  λ refused. c.in-Err.ensures.old_untouched (put_refused _ _ _ _ c.put_line-in-Err.ensures.put refused),
+)
 
-pub returns-in-Err-clause-old_untouched : goal.returns-in-Err-clause-old_untouched
-returns-in-Err-clause-old_untouched g c refused = c.in-Err.ensures.old_untouched (put_refused _ _ _ _ c.put_line-in-Err.ensures.put refused)
+pub returns-in-Ok-clause-uncalled : goal.returns-in-Ok-clause-uncalled
+returns-in-Ok-clause-uncalled g c words says = (
+  λ none. c.in-Ok.ensures.no_call (none c.in-Some.command (one_found _ _ _ c.in-Some.is says)),
+  λ none. c.in-Ok.ensures.no_old_call (none c.in-Some.command (one_found _ _ _ c.in-Some.is says)),
+)
 
-pub returns-in-Ok-clause-no_call : goal.returns-in-Ok-clause-no_call
-returns-in-Ok-clause-no_call g c words says none = c.in-Ok.ensures.no_call (none c.in-Some.command (one_found _ _ _ c.in-Some.is says))
-
-pub returns-in-Ok-clause-no_old_call : goal.returns-in-Ok-clause-no_old_call
-returns-in-Ok-clause-no_old_call g c words says none = c.in-Ok.ensures.no_old_call (none c.in-Some.command (one_found _ _ _ c.in-Some.is says))
-
-pub returns-in-Err-clause-no_call : goal.returns-in-Err-clause-no_call
-returns-in-Err-clause-no_call g c words says none = c.in-Err.ensures.no_call (none c.in-Some.command (one_found _ _ _ c.in-Some.is says))
-
-pub returns-in-Err-clause-no_old_call : goal.returns-in-Err-clause-no_old_call
-returns-in-Err-clause-no_old_call g c words says none = c.in-Err.ensures.no_old_call (none c.in-Some.command (one_found _ _ _ c.in-Some.is says))
+pub returns-in-Err-clause-uncalled : goal.returns-in-Err-clause-uncalled
+returns-in-Err-clause-uncalled g c words says = (
+  λ none. c.in-Err.ensures.no_call (none c.in-Some.command (one_found _ _ _ c.in-Some.is says)),
+  λ none. c.in-Err.ensures.no_old_call (none c.in-Some.command (one_found _ _ _ c.in-Some.is says)),
+)
 
 pub returns-in-Ok-clause-unread : goal.returns-in-Ok-clause-unread
 returns-in-Ok-clause-unread g c words says none = absurd (none c.in-Some.command (one_found _ _ _ c.in-Some.is says))

@@ -5,7 +5,7 @@ use Rattle.conform_tool.proofs.top.by_crew.Goals as goal
 pub returns-clause-crew : goal.returns-clause-crew
 returns-clause-crew g c =
     let crew = c.run_crewed-result.ensures in
-    crew_answered g.S.Scans.state _ _ _ _ _ _ _ _ c.run_crewed-result.result.result _ _ _ c.put_result-outcome.ensures.put crew.reply crew.kind crew.failed crew.disk_fault crew.disk_later
+    crew_answered g.S.Scans.state _ _ _ _ _ _ _ _ c.run_crewed-result.result.result _ _ _ c.put_result-outcome.ensures.put crew.reply crew.kind crew.failed crew.disk.failed crew.disk.later
 
 pub returns-clause-untouched : goal.returns-clause-untouched
 returns-clause-untouched g c = put_left c.run_crewed-result.result.result

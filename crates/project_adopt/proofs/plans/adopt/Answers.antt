@@ -12,12 +12,12 @@ pub returns-clause-folders : goal.returns-clause-folders
 returns-clause-folders g c =
     let planned = c.in-Ok.ensures in
     let by = job_in (g.S.Scans.state c.planned.new.scan).world (g.S.Scans.state c.args.scan.now).world c.in-Ok.job c.args.path.now c.args.old_path.now _ _ _ _ (g.S.Scans.state c.args.scan.now).loads (g.S.Scans.state c.planned.new.scan).loads _ in
-    match_each _ _ _ _ _ c.adopt_onto-reply.ensures.folders (λ text went. by _ _ planned.scan.told planned.told planned.loaded went) (λ outcome went. by _ _ planned.scan.told planned.told planned.loaded went)
+    match_each _ _ _ _ _ c.adopt_onto-reply.ensures.folders (λ text went. by _ _ planned.scan.told planned.told planned.read planned.loaded went) (λ outcome went. by _ _ planned.scan.told planned.told planned.read planned.loaded went)
 
 pub returns-in-Err-clause-folders : goal.returns-in-Err-clause-folders
 returns-in-Err-clause-folders g c =
     let planned = c.in-Err.ensures in
-    inr (record { unplanned = unplanned _ _ _ _ _ _ planned.told planned.kind planned.loads planned.refused; untouched = refl })
+    inr (record { unplanned = unplanned _ _ _ _ _ _ planned.told planned.read planned.kind planned.loads planned.refused; untouched = refl })
 
 pub returns-in-Err-clause-kind : goal.returns-in-Err-clause-kind
 returns-in-Err-clause-kind g c = job_adopts _ c.in-Err.ensures.kind

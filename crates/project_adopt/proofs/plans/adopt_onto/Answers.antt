@@ -20,7 +20,7 @@ returns-clause-folders g c =
     let adopted = c.adopt_jobs-reply.ensures in
     let by = adopted_in (g.S.Scans.state c.planned.new.scan).world (g.S.Scans.state c.args.scan.now).world c.args.job.now c.in-Ok.job c.args.old_path.now _ _ _ _ (g.S.Scans.state c.args.scan.now).loads (g.S.Scans.state c.planned.new.scan).loads _ in
     match_each _ _ _ _ _ (all_three _ _ _ _ _ _ _ adopted.went adopted.promise adopted.sound)
-    (λ text three. by _ _ planned.scan.told planned.told planned.loaded three.0 three.1 three.2) (λ outcome three. by _ _ planned.scan.told planned.told planned.loaded three.0 three.1 three.2)
+    (λ text three. by _ _ planned.scan.told planned.told planned.read planned.loaded three.0 three.1 three.2) (λ outcome three. by _ _ planned.scan.told planned.told planned.read planned.loaded three.0 three.1 three.2)
 
 pub returns-in-Err-clause-folders : goal.returns-in-Err-clause-folders
 returns-in-Err-clause-folders g c =
@@ -28,7 +28,7 @@ returns-in-Err-clause-folders g c =
     inr (record {
       found = c.in-Err.outcome;
       reached_is = c.of_old_project.ensures;
-      unplanned = unplanned _ _ _ _ _ _ planned.told planned.kind planned.loads planned.refused;
+      unplanned = unplanned _ _ _ _ _ _ planned.told planned.read planned.kind planned.loads planned.refused;
       untouched = refl;
     })
 

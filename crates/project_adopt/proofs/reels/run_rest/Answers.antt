@@ -4,7 +4,8 @@ use Rattle.outcome.specs.declared.Outcome.{Outcome}
 use Rattle.reel_disk.specs.State.{folder_state}
 use Rattle.frame_range.specs.Parts.{range_of}
 use Rattle.frame_range.specs.declared.range.Extent.TheVariants.{Whole}
-use Rattle.project_run.specs.Run.{IsSafeRun, run_text}
+use Rattle.project_run.specs.Run.{run_text}
+use Rattle.run_alone.specs.Safe.{IsSafeRun}
 use Rattle.run_alone.specs.Run.{WasRun}
 use Rattle.project_run.proofs.Runs.{is_known, match_each}
 use Rattle.project_adopt.specs.Adopt.{IsRest, share_count}
@@ -31,8 +32,7 @@ returns-clause-ran g c =
         frames = run.frames;
         log = c.run_alone-end.result.2;
         ran = subst (λ (n : ℕ). WasRun c.args.job.now 0 n (g.S.Scans.state c.args.scan.now).world share_count g.D.Disk.tells (g.D.Disk.state c.args.disk.now).history (g.D.Disk.state c.run_alone-end.new.disk).history end report c.run_alone-end.result.2) c.count.ensures.count run.ran;
-        keeps = subst (λ (n : ℕ). IsSafeRun c.args.job.now (range_of Whole n) (g.S.Scans.state c.args.scan.now).world end (at c.args.disk.now) (at c.run_alone-end.new.disk)) c.count.ensures.count
-            (record { run = run.run; acked = run.acked; whole = run.whole; sound_has = run.sound_has; spares = run.spares; writes = run.writes; own = run.own });
+        keeps = subst (λ (n : ℕ). IsSafeRun c.args.job.now (range_of Whole n) (g.S.Scans.state c.args.scan.now).world end (at c.args.disk.now) (at c.run_alone-end.new.disk)) c.count.ensures.count run.keeps;
         loaded = run.scan.asked;
         changed = run.changed;
       };

@@ -15,7 +15,7 @@ returns-in-Err-clause-reply g c =
     let first : get_or c.args.scans.items 0 c.index_mut.result.now ≡ c.index_mut.result.now = search rules in
     let job = c.in-Err.ensures in
     uncrewed g.S.Scans.state c.planned.new.scan c.args.path.now c.args.size.workers c.args.size.share c.args.scans.items c.index_mut.result.now _ _ _ some first
-    job.told job.kind job.loads job.refused (λ other. job.scan.counts.steady (λ is. other cc)) job.scan.counts.cause.later job.scan.told job.scan.lent
+    job.told job.read job.kind job.loads job.refused (λ other. job.scan.counts.steady (λ is. other cc)) job.scan.counts.cause.later job.scan.told job.scan.lent
 
 pub returns-in-Err-clause-failed : goal.returns-in-Err-clause-failed
 returns-in-Err-clause-failed g c is =
@@ -41,7 +41,7 @@ returns-clause-reply g c =
     let scans = set c.args.scans.items 0 c.planned.new.scan in
     let ran = subst (λ (n : ℕ). Replies c.run_job-ended.result.result (OnDisk g.D.Disk.tells (g.D.Disk.state c.args.disk) (g.D.Disk.state c.run_job-ended.result.disk)
     (IsJobRunByCrew g.S.Scans.state c.in-Ok.job c.args.extent c.range_of.result (told_by g.S.Scans.state scans) c.args.size.workers n scans c.run_job-ended.result.scans.items))) c.from.ensures c.run_job-ended.ensures.ran in
-    match_each _ _ _ _ _ ran (λ text ran. reply _ _ all some first job.told job.scan.told texts ran) (λ outcome ran. reply _ _ all some first job.told job.scan.told texts ran)
+    match_each _ _ _ _ _ ran (λ text ran. reply _ _ all some first job.told job.read job.scan.told texts ran) (λ outcome ran. reply _ _ all some first job.told job.read job.scan.told texts ran)
 
 pub returns-clause-failed : goal.returns-clause-failed
 returns-clause-failed g c is =

@@ -12,13 +12,13 @@ pub run_crew-end-requires-clause-infos : goal.run_crew-end-requires-clause-infos
 run_crew-end-requires-clause-infos g c κs within = c.requires.infos
 
 pub run_crew-end-requires-clause-disk : goal.run_crew-end-requires-clause-disk
-run_crew-end-requires-clause-disk g c κs within = record { start = refl; lent = refl; made = refl; moment = c.requires.first_moment; faults = c.requires.no_fault }
+run_crew-end-requires-clause-disk g c κs within = record { start = refl; lent = refl; made = refl; moment = c.requires.unused.1; faults = c.requires.unused.0 }
 
 pub returns-clause-ran : goal.returns-clause-ran
 returns-clause-ran g c =
     let crew = c.run_crew-end.ensures in
     let all : vec_len c.args.scans ≡ length c.args.scans.items = search rules in
-    let run = crew_job_run g.S.Scans.state _ _ c.args.extent c.args.task.now.range _ _ _ _ _ _ _ _ _ _ _ _ all refl crew.frames crew.ran crew.run crew.acked crew.whole crew.sound_has crew.spares crew.writes crew.own crew.scans crew.changed in
+    let run = crew_job_run g.S.Scans.state _ _ c.args.extent c.args.task.now.range _ _ _ _ _ _ _ _ _ _ _ _ all refl crew.reported crew.ran crew.keeps crew.scans in
     match_each _ _ _ _ _ c.reply_of-result.ensures.reply (λ text reply. run _ _ reply) (λ outcome reply. run _ _ reply)
 
 pub returns-clause-failed : goal.returns-clause-failed

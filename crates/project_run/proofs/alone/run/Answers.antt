@@ -11,7 +11,7 @@ returns-clause-folder g c =
     let job = c.in-Ok.ensures in
     let all = c.range_of-range.ensures.range ∙ ap (range_of c.args.extent) c.count.ensures.count in
     let reply = run_in c.in-Ok.job c.args.extent c.range_of-range.result (g.S.Scans.state c.planned.new.scan).world (g.S.Scans.state c.args.scan.now).world c.args.path.now _ _ (g.S.Scans.state c.args.scan.now).loads (g.S.Scans.state c.planned.new.scan).loads _ in
-    match_each _ _ _ _ _ c.run_job-reply.ensures.ran (λ text ran. reply _ _ all job.scan.told job.told job.loaded ran) (λ outcome ran. reply _ _ all job.scan.told job.told job.loaded ran)
+    match_each _ _ _ _ _ c.run_job-reply.ensures.ran (λ text ran. reply _ _ all job.scan.told job.told job.read job.loaded ran) (λ outcome ran. reply _ _ all job.scan.told job.told job.read job.loaded ran)
 
 pub returns-clause-scan : goal.returns-clause-scan
 returns-clause-scan g c =
@@ -27,7 +27,7 @@ returns-clause-disk g c =
 -- no job was planned
 pub returns-in-Err : goal.returns-in-Err
 returns-in-Err g c = let job = c.in-Err.ensures in record {
-  folder = inr (unplanned _ _ _ _ _ _ job.told job.kind job.loads job.refused);
+  folder = inr (unplanned _ _ _ _ _ _ job.told job.read job.kind job.loads job.refused);
   kind = of_job _ job.kind;
   scan = scan_unplanned c.args.path.now _ _ _ job.scan job.refused_heads;
   disk = disk_unplanned g.D.Disk.state c.in-Err.outcome c.args.disk.now job.kind;

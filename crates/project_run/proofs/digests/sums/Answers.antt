@@ -7,7 +7,7 @@ use Rattle.project_run.proofs.digests.sums.Goals as goal
 pub returns-clause-folder : goal.returns-clause-folder
 returns-clause-folder g c =
     let job = c.in-Ok.ensures in
-    match_each _ _ _ _ _ c.sums_of-reply.ensures.summed (λ text summed. looked_in _ c.in-Ok.job _ _ _ _ _ _ _ job.told job.loaded summed) (λ outcome summed. looked_in _ c.in-Ok.job _ _ _ _ _ _ _ job.told job.loaded summed)
+    match_each _ _ _ _ _ c.sums_of-reply.ensures.summed (λ text summed. looked_in _ c.in-Ok.job _ _ _ _ _ _ _ job.told job.read job.loaded summed) (λ outcome summed. looked_in _ c.in-Ok.job _ _ _ _ _ _ _ job.told job.read job.loaded summed)
 
 pub returns-clause-scan : goal.returns-clause-scan
 returns-clause-scan g c =
@@ -22,7 +22,7 @@ returns-clause-disk g c =
 -- no job was planned
 pub returns-in-Err : goal.returns-in-Err
 returns-in-Err g c = let job = c.in-Err.ensures in record {
-  folder = inr (unplanned _ _ _ _ _ _ job.told job.kind job.loads job.refused);
+  folder = inr (unplanned _ _ _ _ _ _ job.told job.read job.kind job.loads job.refused);
   kind = job_looks _ job.kind;
   scan = scan_unplanned c.args.path.now _ _ _ job.scan job.refused_heads;
   disk = disk_unplanned g.D.Disk.state c.in-Err.outcome c.args.disk.now job.kind;
