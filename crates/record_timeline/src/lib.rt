@@ -185,6 +185,5 @@ pub fn timeline_laws()
     ensures begins { BeginsCovered }
     ensures ends { EndsCovered }
     ensures least { ReelIsLeast }
-    ensures shows { ShowsCover }
-    ensures gap { ShowsGap }
+    ensures shows { ShowsCover × ShowsGap }
 {}

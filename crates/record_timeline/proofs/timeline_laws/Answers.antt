@@ -16,6 +16,5 @@ returns c = record {
   begins = begins_covered;
   ends = ends_covered;
   least = reel_is_least;
-  shows = shows_cover;
-  gap = shows_gap;
+  shows = (shows_cover, shows_gap);
 }
