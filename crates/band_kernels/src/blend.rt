@@ -2,9 +2,9 @@
 ghost use Rattle.std.specs.Prelude.{◌≡◌, ◌<◌, ◌≤◌, length, slice_index, EachIndex};
 ghost use Rattle.band_kernels.specs.Words.{mixed_word};
 
-use cf_base::Rgb;
+use cf_base::{LONGEST, Rgb};
 use dpx_pack::{rgb_of, word_of};
-use trans_mix::{LONGEST, LONGEST_WEIGHTED, Weights, mix};
+use trans_mix::{LONGEST_WEIGHTED, Weights, mix};
 
 /// Makes each word that of frame `k`, from 0, of a dissolve of `d` frames, from the old side's word and the new side's.
 pub fn blend_band(old: &[u32], new: &[u32], k: u32, d: u32, out: &mut [u32])

@@ -1,10 +1,12 @@
 //! Wipes, line by line: the columns that show the incoming side lie side by side.
 ghost use Rattle.std.specs.Prelude.{◌≡◌, ℕ, ◌+◌, ◌*◌, ◌/◌, ◌%◌, ◌<◌, ◌≤◌, length, slice_index, IsTrue};
 ghost use Rattle.cf_base.specs.Events.{is_known_wipe};
+ghost use Rattle.cf_base.specs.declared.limits.TheConstants.{LARGEST, LONGEST};
 ghost use Rattle.trans_mix.specs.Columns.{AreColumns};
 ghost use Rattle.trans_mix.specs.Wipe.{is_incoming};
 ghost use Rattle.band_kernels.specs.Words.{HasChosen};
 
+use cf_base::{LARGEST, LONGEST};
 use trans_mix::{Columns, incoming_columns};
 
 /// Frame `k`, from 0, of a wipe of `d` frames, over a picture of so many pixels.
@@ -22,10 +24,10 @@ pub struct WipeFrame {
     pub d: u32,
     ghost known: { IsTrue (is_known_wipe code) },
     ghost some: { 0 < width },
-    ghost wide: { width ≤ 4096 },
-    ghost high: { height ≤ 4096 },
+    ghost wide: { width ≤ LARGEST },
+    ghost high: { height ≤ LARGEST },
     ghost frame: { k < d },
-    ghost day: { d ≤ 2592000 },
+    ghost day: { d ≤ LONGEST },
 }
 
 /// Makes each word that of its pixel in a wipe's frame, from the old side's word and the new side's: the lines of the picture

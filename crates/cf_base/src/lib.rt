@@ -11,6 +11,7 @@ mod inline;
 mod interrupted;
 mod items;
 mod key;
+mod limits;
 mod lines;
 mod pixel;
 mod reading;
@@ -29,6 +30,10 @@ pub use fixed::{Fixed, FixedFault, read_fixed};
 pub use interrupted::again;
 pub use items::Items;
 pub use key::Key;
+pub use limits::{
+    CUBE_BYTES, FRAMES, HEADER, LARGEST, LIST_BYTES, LONGEST, PIECE, PROBES, PROJECT_BYTES, SHARED,
+    WORKERS,
+};
 pub use lines::{LineSpan, Span, line_at, lines_in_turn};
 pub use pixel::Rgb;
 pub use reading::fill;

@@ -5,7 +5,7 @@ use Rattle.cf_base.specs.Count.{HasRisen}
 use Rattle.cf_base.specs.declared.fail.Fail.{Fail}
 use Rattle.cf_base.specs.declared.fail.Fail.TheVariants.{Fault}
 use Rattle.cf_base.specs.declared.timing.Rate.{Rate}
-use Rattle.scan_source.specs.State.{ScanState}
+use Rattle.scan_source.specs.State.{LeavesScan, ScanState}
 use Rattle.scan_source.specs.World.{World}
 use Rattle.command_answers.specs.Commands.Frame.{IsFrameCase, IsFrameForm}
 use Rattle.command_answers.specs.Commands.List.{IsListCase, IsListForm}
@@ -16,7 +16,7 @@ use Rattle.outcome.specs.declared.Which.{Which}
 use Rattle.outcome.specs.declared.Which.TheVariants as which
 use Rattle.command_answers.specs.inside.Faults.{IfFault}
 use Rattle.printed_lines.specs.Lines.{line_of}
-use Rattle.project_run.specs.Calls.{LeavesScanFor, Replies}
+use Rattle.project_run.specs.Calls.{Replies}
 use Rattle.project_run.specs.Run.{IsOfRun}
 use Rattle.project_adopt.specs.Adopt.{IsOfAdopt}
 use Rattle.project_run.specs.Look.{IsOfLook}
@@ -24,7 +24,6 @@ use Rattle.project_run.specs.Verify.{IsOfVerify}
 use Rattle.command_answers.specs.ByFile.{IsRightBy}
 use Rattle.project_job.proofs.Reading.{any_file, any_files}
 use Rattle.project_job.specs.Texts.{HasComeTo}
-use Rattle.command_answers.specs.ByJob.{AreJobHeads}
 use Rattle.command_answers.specs.Commands.{meaning_of}
 use Rattle.command_answers.specs.Reply.{CallsDisk, IsKindOf, IsReplyOverScan}
 use Rattle.frame_range.specs.declared.range.Extent.{Extent}
@@ -232,28 +231,28 @@ loads_instead (commands.Demo count) before after reached loads = loads
 pub heads_instead : (command : Command) (before after : ScanState) (reached : Outcome) → (meaning_of command).LooksAtHeads before after reached → (meaning_of command).LooksAtHeads before after NoMemory
 heads_instead (commands.Frame path) before after reached heads = heads
 heads_instead (commands.List path rate) before after reached heads = heads
-heads_instead (commands.Plan path) before after reached heads = λ refusal same. absurd (cc)
-heads_instead (commands.Run path extent workers share) before after reached heads = λ refusal same. absurd (cc)
-heads_instead (commands.Status path) before after reached heads = λ refusal same. absurd (cc)
-heads_instead (commands.Verify path) before after reached heads = λ refusal same. absurd (cc)
-heads_instead (commands.Sums path) before after reached heads = λ refusal same. absurd (cc)
-heads_instead (commands.Qc path) before after reached heads = λ refusal same. absurd (cc)
-heads_instead (commands.Sheet path) before after reached heads = λ refusal same. absurd (cc)
-heads_instead (commands.Adopt path old_path) before after reached heads = λ refusal same. absurd (cc)
-heads_instead (commands.Pull path margin) before after reached heads = λ refusal same. absurd (cc)
+heads_instead (commands.Plan path) before after reached heads = record { refused = λ refusal same. absurd (cc); planned = λ no. absurd no }
+heads_instead (commands.Run path extent workers share) before after reached heads = record { refused = λ refusal same. absurd (cc); planned = λ no. absurd no }
+heads_instead (commands.Status path) before after reached heads = record { refused = λ refusal same. absurd (cc); planned = λ no. absurd no }
+heads_instead (commands.Verify path) before after reached heads = record { refused = λ refusal same. absurd (cc); planned = λ no. absurd no }
+heads_instead (commands.Sums path) before after reached heads = record { refused = λ refusal same. absurd (cc); planned = λ no. absurd no }
+heads_instead (commands.Qc path) before after reached heads = record { refused = λ refusal same. absurd (cc); planned = λ no. absurd no }
+heads_instead (commands.Sheet path) before after reached heads = record { refused = λ refusal same. absurd (cc); planned = λ no. absurd no }
+heads_instead (commands.Adopt path old_path) before after reached heads = record { refused = λ refusal same. absurd (cc); old_refused = λ refusal same. absurd (cc); planned = λ no. absurd no }
+heads_instead (commands.Pull path margin) before after reached heads = record { refused = λ refusal same. absurd (cc); planned = λ no. absurd no }
 heads_instead (commands.Demo count) before after reached heads = heads
 
 -- What was left of the scan is what a command of a project means: of one that is right by a folder, and what it loaded is said there.
-module _ (kind : Command) (path : List ℕ) {Kind : Outcome → Type 0} (scan scan_after : ScanState)
+module _ (kind : Command) {Kind : Outcome → Type 0} (scan scan_after : ScanState)
     (kinds : (reached : Outcome) → Kind reached → IsKindOf kind reached)
     (right : (reached : Outcome) (output : List ℕ) → (meaning_of kind).IsRight reached output scan scan_after)
-    (loaded : (reached : Outcome) → (meaning_of kind).HasLoaded scan scan_after reached)
-    (looks : (reached : Outcome) → AreJobHeads path scan scan_after reached → (meaning_of kind).LooksAtHeads scan scan_after reached) where
-  pub replied_over : (result : Result (Vec ℕ Global) Outcome) → MatchResult result (λ text. Unit {0}) Kind → LeavesScanFor path result scan scan_after
+    (loaded : (reached : Outcome) → (meaning_of kind).HasLoaded scan scan_after reached) where
+  pub replied_over : (result : Result (Vec ℕ Global) Outcome) → MatchResult result (λ text. Unit {0}) Kind → LeavesScan (result ≡ Err SourceFault) scan scan_after
+      → MatchResult result (λ text. (meaning_of kind).LooksAtHeads scan scan_after Done) ((meaning_of kind).LooksAtHeads scan scan_after)
       → Replies result (IsReplyOverScan kind scan scan_after)
-  replied_over (Ok text) is left =
-      reply_of _ _ _ _ _ tt (right Done text.items) (λ not_done. absurd (not_done refl)) (λ is_fault. absurd (cc)) (λ other. left.lent.counts.steady (λ is_fault. cc)) left.lent.counts.cause.later (loaded Done)
-      (looks Done (λ refusal is_refused. absurd (cc))) left.lent.told
-  replied_over (Err reached) is left =
-      reply_of _ _ _ _ _ (kinds reached is) (right reached (line_of reached)) (λ not_done. refl) (λ is_fault. left.lent.counts.cause.failed (error_of _ _ is_fault))
-      (λ other. left.lent.counts.steady (λ is_fault. other (outcome_of _ _ is_fault))) left.lent.counts.cause.later (loaded reached) (looks reached left.refused_heads) left.lent.told
+  replied_over (Ok text) is lent heads =
+      reply_of _ _ _ _ _ tt (right Done text.items) (λ not_done. absurd (not_done refl)) (λ is_fault. absurd (cc)) (λ other. lent.counts.steady (λ is_fault. cc)) lent.counts.cause.later (loaded Done)
+      heads lent.told
+  replied_over (Err reached) is lent heads =
+      reply_of _ _ _ _ _ (kinds reached is) (right reached (line_of reached)) (λ not_done. refl) (λ is_fault. lent.counts.cause.failed (error_of _ _ is_fault))
+      (λ other. lent.counts.steady (λ is_fault. other (outcome_of _ _ is_fault))) lent.counts.cause.later (loaded reached) heads lent.told

@@ -14,6 +14,7 @@ use Rattle.outcome.specs.declared.Outcome.{Outcome}
 use Rattle.outcome.specs.declared.Outcome.TheVariants as outcomes
 use Rattle.project_run.specs.Calls.{LeavesDiskFor, LeavesScanFor, OverScan, Replies}
 use Rattle.command_answers.specs.ByFolder.{reel_meaning}
+use Rattle.command_answers.specs.ByJob.{AreJobHeads}
 use Rattle.command_answers.specs.Commands.{meaning_of}
 use Rattle.command_answers.specs.Meaning.{Calls, Meaning}
 use Rattle.command_answers.specs.Reply.{IsKindOf, IsReplyOverScan, IsReplyOverFolders}
@@ -104,8 +105,13 @@ module _ {D : Type 0} (house : House) (kind : Command) (path : List ℕ) (calls 
 
   over_scan : (result : Result (Vec ℕ Global) Outcome) → MatchResult result (λ text. Unit {0}) Kind → LeavesScanFor path result before after
       → Replies result (IsReplyOverScan kind before after)
-  over_scan = replied_over kind path before after kinds (λ reached output. as_meant (λ m. m.IsRight reached output before after) tt) (λ reached. as_meant (λ m. m.HasLoaded before after reached) tt)
-      (λ reached asked. as_meant (λ m. m.LooksAtHeads before after reached) asked)
+  over_scan result kind_is left = replied_over kind before after kinds (λ reached output. as_meant (λ m. m.IsRight reached output before after) tt) (λ reached. as_meant (λ m. m.HasLoaded before after reached) tt)
+      result kind_is left.lent (looked result left.heads)
+    where
+      looked : (result : Result (Vec ℕ Global) Outcome) → MatchResult result (λ output. AreJobHeads path before after outcomes.Done) (AreJobHeads path before after)
+          → MatchResult result (λ output. (meaning_of kind).LooksAtHeads before after outcomes.Done) ((meaning_of kind).LooksAtHeads before after)
+      looked (Ok text) heads = as_meant (λ m. m.LooksAtHeads before after outcomes.Done) heads
+      looked (Err reached) heads = as_meant (λ m. m.LooksAtHeads before after reached) heads
 
   on_reel : (result : Result (Vec ℕ Global) Outcome) → Replies result (OnDisk tells (state disk) (state disk_after) (OverScan before after (Uses house)))
       → LeavesDiskFor state result disk disk_after → Replies result (IsReplyOverScan kind before after) → Replies result (IsReplyOverFolders house kind before after folders folders_after)

@@ -3,26 +3,17 @@
 --     IsJobLoaded, AreJobHeads      what was loaded and looked at for it
 --     HasJob world path      the project comes to a job
 --     printed_meaning      what a command means that puts a text of the job
-use Rattle.std.specs.Prelude.{ℕ, List, [], length, Ok, Err}
+use Rattle.std.specs.Prelude.{ℕ, List, Ok, Err}
 use Rattle.scan_source.specs.State.{ScanState}
 use Rattle.scan_source.specs.World.{World, file_at}
-use Rattle.conform_job.specs.Answers.{Grows, HeadsGrow}
-use Rattle.conform_job.specs.Asks.{asks_of}
-use Rattle.conform_job.specs.Infos.{HasEachOnce}
 use Rattle.conform_job.specs.Job.{JobData}
 use Rattle.conform_job.specs.declared.parts.JobParts.{JobParts}
-use Rattle.project_job.specs.Asked.{HasInspectedFor, HasLoadedFor}
+use Rattle.project_job.specs.Asked.{AreHeadsFor, HasLoadedFor, IsInspected}
 use Rattle.project_job.specs.Jobs.{AreLoaded, ComesTo}
 use Rattle.project_job.specs.Texts.{HasComeTo}
 use Rattle.outcome.specs.declared.Outcome.{Outcome}
 use Rattle.outcome.specs.declared.Outcome.TheVariants.{Done}
 use Rattle.command_answers.specs.Meaning.{HasReelFailed, IsThrough, LeavesReel, Meaning, no_calls}
-
--- Each source frame that the job needs was inspected once: the infos have one entry for each needed key.
-pub record IsInspected (job : JobData) (before after : ScanState) : Type 0 where
-  pub needed : Grows job.parts before.world (asks_of job.parts.timeline) [] job.infos
-  pub once : HasEachOnce job.infos
-  pub heads : HeadsGrow before.heads after.heads 0 (length job.infos)
 
 -- What is put of the job that the project came to: over files that are told that of these, over any that of the texts that were
 -- read. Each needed source frame was inspected once.
@@ -30,7 +21,7 @@ pub record IsPutOfJob (IsForm : JobParts → List ℕ → Type 0) (path output :
   pub job : JobData
   pub comes : HasComeTo before.world path (Ok job)
   pub form : IsForm job.parts output
-  pub inspected : IsInspected job before after
+  pub inspected : IsInspected before.world job before.heads after.heads
 
 abbrev pub IsJobReply : (JobParts → List ℕ → Type 0) → List ℕ → Outcome → List ℕ → ScanState → ScanState → Type 0
 IsJobReply IsForm path Done output before after = IsPutOfJob IsForm path output before after
@@ -41,9 +32,9 @@ pub record IsJobLoaded (path : List ℕ) (before after : ScanState) (reached : O
   pub texts : AreLoaded 1 3 before.loads after.loads
   pub refused : HasLoadedFor before.world path before.loads after.loads reached
 
--- of a refused project no head is asked for before the frames of its job are judged
+-- of a refused project no head is asked for before the frames of its job are judged, and behind a plan one of each needed frame
 abbrev pub AreJobHeads : List ℕ → ScanState → ScanState → Outcome → Type 0
-AreJobHeads path before after reached = HasInspectedFor before.world path before.heads after.heads reached
+AreJobHeads path before after reached = AreHeadsFor before.world path before.heads after.heads reached
 
 -- the project comes to a job
 abbrev pub HasJob : World → List ℕ → Type 0

@@ -7,6 +7,7 @@ pub mod Commands
 pub mod Complete
 pub mod Folders
 pub mod Headline
+pub mod Leaving
 pub mod Meaning
 pub mod Reply
 pub mod States

@@ -13,7 +13,7 @@ ghost use Rattle.scan_source.specs.Answers.{first_bytes};
 ghost use Rattle.dpx_header.specs.Reading.{info_of};
 ghost use Rattle.command_answers.specs.inside.Faults.{IfFault};
 
-use cf_base::{Fail, PathText, TitleText};
+use cf_base::{Fail, HEADER, PathText, TitleText};
 use dpx_header::{DpxFault, FrameInfo, OutHead, read_header, write_header};
 use dpx_pack::{pack, unpack};
 use outcome::{Outcome, Refused, Which};
@@ -44,9 +44,9 @@ pub fn frame<S: Scans>(alloc: Global, path: &PathText, scan: &mut S) -> Result<V
 /// The file to put for one of `len` bytes, of which the first are at hand, or the first fault of its header.
 fn converted(alloc: Global, bytes: &[u8], len: u64) -> Result<Vec<u8>, Fail<DpxFault>>
     requires { length bytes.now ≡ min len MOST }
-    ensures form { IfOk result (λ file. IsOkAnd (info_of (first_bytes 2048 bytes.now) len)
+    ensures form { IfOk result (λ file. IsOkAnd (info_of (first_bytes HEADER bytes.now) len)
         (λ info. IsFrame info × (file.items ≡ frame_form info bytes.now))) }
-    ensures fault { IfFault result (λ fault. info_of (first_bytes 2048 bytes.now) len ≡ Err fault) }
+    ensures fault { IfFault result (λ fault. info_of (first_bytes HEADER bytes.now) len ≡ Err fault) }
 {
     let info = match read_header(&head_of(bytes), len) {
         Ok(info) => info,
@@ -68,7 +68,7 @@ fn new_file(alloc: Global, info: &FrameInfo, bytes: &[u8]) -> Result<Vec<u8>, Al
     let count = info.width as usize * info.height as usize;
     let mut words = vec![in alloc; 0; count]?;
     unpack(info, bytes, &mut words);
-    let mut file = vec![in alloc; 0; 2048 + 4 * count]?;
+    let mut file = vec![in alloc; 0; HEADER + 4 * count]?;
     fill_file(info, &words, &mut file);
     Ok(file)
 }
@@ -76,20 +76,20 @@ fn new_file(alloc: Global, info: &FrameInfo, bytes: &[u8]) -> Result<Vec<u8>, Al
 /// The header, then the words.
 fn fill_file(info: &FrameInfo, words: &[u32], file: &mut [u8])
     requires frame { IsFrame info.now }
-    requires size { length file.old ≡ 2048 + 4 * length words.now }
+    requires size { length file.old ≡ HEADER + 4 * length words.now }
     ensures { file.new ≡ header_of (frame_head info.now) ++ flat_map (big_bytes 4) words.now }
 {
-    let (header, pixels) = file.split_at_mut(2048);
+    let (header, pixels) = file.split_at_mut(HEADER);
     header.copy_from_slice(&new_header(info));
     pack(words, pixels);
 }
 
 /// The header of a frame that stands alone.
-fn new_header(info: &FrameInfo) -> [u8; 2048]
+fn new_header(info: &FrameInfo) -> [u8; HEADER]
     requires { IsFrame info.now }
     ensures { result ≡ header_of (frame_head info.now) }
 {
-    let mut header = [0; 2048];
+    let mut header = [0; HEADER];
     let head = OutHead {
         width: info.width,
         height: info.height,

@@ -2,6 +2,7 @@
 ghost use Rattle.std.specs.Prelude.{◌≡◌, ◌≤◌, ℕ, List, length, Some, IfSome, IfErr, map};
 ghost use Rattle.scan_source.specs.World.{World};
 ghost use Rattle.command_answers.specs.Answer.{Answered, IsFoundIn, IsLinePut, IsPut, IsUncalled, IsResultPut};
+ghost use Rattle.command_answers.specs.Leaving.{LeavesFolders, LeavesUncalled};
 ghost use Rattle.command_answers.specs.Complete.{HasNotRisen, IsAccepted, IsComplete, IsUnfailed};
 ghost use Rattle.command_answers.specs.Adoption.{KeepsItAdopting};
 ghost use Rattle.command_answers.specs.Headline.{HasEnded, KeepsHeadline};
@@ -16,7 +17,7 @@ use crate::house::House;
 use crate::list::list;
 use crate::plan::plan;
 use crate::pull::pull;
-use cf_base::{Put, Sink};
+use cf_base::{PROBES, Put, Sink};
 use command_words::{Command, command_of};
 use demo::demo;
 use frame_hash::Hasher;
@@ -45,7 +46,7 @@ pub fn answer<S: Scans, D: Disk, K: Sink>(
     probes: &[Probe],
     tone: &Tone,
 ) -> Outcome
-    requires few { length probes.now ≤ 16 }
+    requires few { length probes.now ≤ PROBES }
     ensures answered { Answered (house_of (map (λ p. p.kind) probes.now) tone.now.table) (texts_of words.now)
         (S.state scan.old) (S.state scan.new)
         (folders_of D.tells (D.state disk.old) (D.state old.old)) (folders_of D.tells (D.state disk.new) (D.state old.new))
@@ -112,11 +113,9 @@ pub fn answer_found<S: Scans, D: Disk, K: Sink, C: Counter + Hasher>(
         (K.state out.old) (K.state out.new) result }
     ensures later { (K.state out.old).faults ≤ (K.state out.new).faults }
     ensures same { (S.state scan.new).loans ≡ (S.state scan.old).loans }
-    ensures untouched { IsLeftAlone disk.old disk.new result × IsLeftAlone old.old old.new result }
-    ensures uncalled { (words : List (List ℕ)) → IsFoundIn words found
-        → (IsUncalled CallsDisk words → disk.new ≡ disk.old) × (IsUncalled CallsOld words → old.new ≡ old.old) }
+    ensures folders { LeavesFolders D.state result disk.old disk.new old.old old.new }
+    ensures uncalled { (words : List (List ℕ)) → IsFoundIn words found → LeavesUncalled words disk.old disk.new old.old old.new }
     ensures unread { (words : List (List ℕ)) → IsFoundIn words found → IsNoCommand words → scan.new ≡ scan.old }
-    ensures lent { ((D.state disk.new).loans ≡ (D.state disk.old).loans) × ((D.state old.new).loans ≡ (D.state old.old).loans) }
 {
     let Some(command) = found else {
         return put_line(alloc, &Outcome::Usage, out);

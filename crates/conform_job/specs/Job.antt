@@ -11,6 +11,7 @@
 use Rattle.std.specs.Prelude.{◌≡◌, ℕ, ◌+◌, ◌<◌, ◌≤◌, true, List, [], length, Option, Some, None, IsSome, option_and_then}
 use Rattle.std.specs.Option.{option_map}
 use Rattle.std.specs.List.{list_any}
+use Rattle.cf_base.specs.declared.limits.TheConstants.{LARGEST}
 use Rattle.scan_source.specs.World.{World}
 use Rattle.cf_base.specs.declared.file.FileId.{FileId}
 use Rattle.cf_base.specs.declared.file.FileId.TheVariants.{Frame as FrameFile}
@@ -40,9 +41,9 @@ pub record ArePlanned (p : JobParts) : Type 0 where
   pub reels : p.reels ≡ p.project.reels
   pub rate : p.timeline.rate ≡ p.project.rate
   pub some_width : 1 ≤ p.project.width
-  pub most_width : p.project.width ≤ 4096
+  pub most_width : p.project.width ≤ LARGEST
   pub some_height : 1 ≤ p.project.height
-  pub most_height : p.project.height ≤ 4096
+  pub most_height : p.project.height ≤ LARGEST
   pub some_bands : 1 ≤ p.project.bands
   pub most_bands : p.project.bands ≤ 64
   pub cuts : length p.project.cuts ≤ 998

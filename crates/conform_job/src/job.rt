@@ -21,7 +21,7 @@ use crate::infos::Infos;
 use crate::lines::places_of;
 use crate::need::need_of_shot;
 use crate::{JobFault, JobParts, Need};
-use cf_base::{FileId, Key, PathText, Rate, Span};
+use cf_base::{FRAMES, FileId, Key, PathText, Rate, Span};
 use project_file::Project;
 use record_timeline::{Shot, Timeline};
 use scan_source::Scans;
@@ -101,7 +101,7 @@ impl Job {
     pub fn recall(&self)
         ensures job { IsJob self.now.parts self.now.infos }
         ensures some { 1 ≤ frame_count self.now.parts.timeline.events }
-        ensures most { frame_count self.now.parts.timeline.events ≤ 262144 }
+        ensures most { frame_count self.now.parts.timeline.events ≤ FRAMES }
         ensures title { length self.now.parts.project.title ≤ 199 }
         ensures keys { HasTableKeys self.now.parts }
         ensures needs { HasNeeds self.now }

@@ -1,4 +1,5 @@
 //! The name of a job, of the world that its source files stand in, and of how many source frames are shared.
+use cf_base::SHARED;
 use std::marker::Brand;
 
 /// Names the job of a run, the files of its scans where they are told, and how many decoded source frames record frames share.
@@ -20,6 +21,7 @@ pub trait Work {
 }
 
 impl Work for Brand {
+    ghost use Rattle.cf_base.specs.declared.limits.TheConstants.{SHARED};
     ghost use Rattle.conform_job.specs.Names.{no_job};
     ghost use Rattle.std.specs.Prelude.{None};
 
@@ -27,5 +29,5 @@ impl Work for Brand {
 
     ghost files = { None };
 
-    ghost share = { 16 };
+    ghost share = { SHARED };
 }

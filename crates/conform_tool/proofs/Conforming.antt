@@ -31,6 +31,7 @@ module _ {S : Type 0} (state : S → ScanState) (path : List ℕ) (extent : Exte
     comes = crewed.comes;
     planned = crewed.planned;
     texts = crewed.texts;
+    inspected = crewed.inspected;
     ran = let ran = crewed.ran in record {
       how = ran.how;
       report = ran.report;
@@ -51,6 +52,7 @@ module _ {S : Type 0} (state : S → ScanState) (path : List ℕ) (extent : Exte
     size = uncrewed.size;
     texts = uncrewed.texts;
     refused = λ scan refusal same. absurd (cc);
+    refused_heads = λ scan refusal same. absurd (cc);
     steady = λ other. uncrewed.steady (λ is. subst IsMade is made);
     later = uncrewed.later;
     told = uncrewed.told;

@@ -6,6 +6,7 @@ ghost use Rattle.frame_range.specs.declared.range.Extent.{Extent};
 ghost use Rattle.command_words.specs.Lines.{HasCount, texts_of};
 ghost use Rattle.command_words.specs.declared.command.Command.TheVariants as commands;
 ghost use Rattle.command_answers.specs.Answer.{Answered, IsFoundIn, IsUncalled};
+ghost use Rattle.command_answers.specs.Leaving.{LeavesFolders, LeavesUncalled};
 ghost use Rattle.conform_tool.specs.Conform.{AnsweredByCrew, IsAlone, IsFirst};
 ghost use Rattle.conform_tool.specs.inside.Conform.{IsCrewOf};
 ghost use Rattle.command_answers.specs.Complete.{HasNotRisen, IsAccepted, IsComplete, IsUnfailed};
@@ -18,7 +19,7 @@ ghost use Rattle.reel_disk.specs.State.{folder_state};
 ghost use Rattle.project_run.specs.Calls.{IsLeftAlone};
 ghost use Rattle.scan_source.specs.World.{World};
 
-use cf_base::{PathText, Sink};
+use cf_base::{PathText, Sink, WORKERS};
 use command_answers::{House, answer_found, parts_law, put_line, put_result};
 use command_words::{Command, command_of};
 use frame_hash::Hasher;
@@ -59,8 +60,8 @@ pub fn conform<S: Scans + Send, D: Disk + Send, K: Sink, R: Threads + Wait + Syn
     tone: &Tone,
 ) -> Ended<S, D>
     requires some { 1 ≤ vec_len scans }
-    requires few { vec_len scans ≤ 16 }
-    requires few_probes { length probes.now ≤ 16 }
+    requires few { vec_len scans ≤ WORKERS }
+    requires few_probes { length probes.now ≤ WORKERS }
     requires one_world { AllPairs (λ a b. (S.state a).world ≡ (S.state b).world) scans.items }
     requires no_fault { (D.state disk).faults ≡ 0 }
     requires first_moment { D.tells ≡ true → (D.state disk).history.now ≡ 0 }
@@ -189,7 +190,7 @@ fn by_crew<S: Scans + Send, D: Disk + Send, K: Sink, R: Threads + Wait + Sync>(
     requires extent { IsExtent crew.now.extent }
     requires workers { HasCount crew.now.size.workers }
     requires share { HasCount crew.now.size.share }
-    requires scans { (1 ≤ vec_len scans) × (vec_len scans ≤ 16) }
+    requires scans { (1 ≤ vec_len scans) × (vec_len scans ≤ WORKERS) }
     requires one_world { AllPairs (λ a b. (S.state a).world ≡ (S.state b).world) scans.items }
     requires no_fault { (D.state disk).faults ≡ 0 }
     requires first_moment { D.tells ≡ true → (D.state disk).history.now ≡ 0 }
@@ -248,10 +249,8 @@ fn by_one<S: Scans, D: Disk, K: Sink, C: Counter + Hasher>(
     ensures same { (first last : S) → IsFirst scans.items first → IsFirst result.scans.items last
         → (S.state last).loans ≡ (S.state first).loans }
     ensures later { (K.state out.old).faults ≤ (K.state out.new).faults }
-    ensures untouched { IsLeftAlone disk result.disk result.outcome × IsLeftAlone old.old old.new result.outcome }
-    ensures uncalled { (words : List (List ℕ)) → IsFoundIn words found
-        → (IsUncalled CallsDisk words → result.disk ≡ disk) × (IsUncalled CallsOld words → old.new ≡ old.old) }
-    ensures lent { ((D.state result.disk).loans ≡ (D.state disk).loans) × ((D.state old.new).loans ≡ (D.state old.old).loans) }
+    ensures folders { LeavesFolders D.state result.outcome disk result.disk old.old old.new }
+    ensures uncalled { (words : List (List ℕ)) → IsFoundIn words found → LeavesUncalled words disk result.disk old.old old.new }
 {
     let outcome = answer_found(alloc, house, found, &mut scans[0], &mut disk, old, out);
     Ended {

@@ -52,6 +52,7 @@ module _ {S : Type 0} (told : Option World) (state : S → ScanState) where
   both_scanned : (old mid new : S) (n m : ℕ) (a b : Bool) → IsScanned n (a ≡ true) (state old) (state mid) → IsScanned m (b ≡ true) (state mid) (state new) → IsScanned (n + m) ((a || b) ≡ true) (state old) (state new)
   both_scanned old mid new n m a b first second = record {
     asked = second.asked ∙ ap (count_after m) first.asked ∙ loads_along n m (state old).loads;
+    heads = second.heads ∙ first.heads;
     later = omega (arith, first.later, second.later);
     failed = rose a b first second;
     steady = λ never. second.steady (λ is. never (or_right a b is)) ∙ first.steady (λ is. never (or_left a b is));

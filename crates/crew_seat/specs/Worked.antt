@@ -1,7 +1,8 @@
 -- What a worker does to its marks and its scan. All of it is this project's own rule.
 -- * worker [Stepped]: what it does to its seat: how many loads it made, each a miss of its units; whether one of them failed; a
 --   stop for a source file has its cause in its own loads; what a seat has before, and what it hands in
-use Rattle.std.specs.Prelude.{◌≡◌, ℕ, ◌+◌, ◌<◌, ◌≤◌, Bool, true, Option, None}
+use Rattle.std.specs.Prelude.{◌≡◌, ℕ, ◌+◌, ◌*◌, ◌<◌, ◌≤◌, Bool, true, Option, None}
+use Rattle.cf_base.specs.declared.limits.TheConstants.{FRAMES, WORKERS}
 use Rattle.scan_source.specs.World.{World}
 use Rattle.frame_share.specs.Units.{Tally}
 use Rattle.station.specs.Marks.{Tallies}
@@ -24,16 +25,16 @@ pub record HasCounted (before : Tally) (more : ℕ) (now : Tally) : Type 0 where
   pub parts : now.parts ≡ before.parts
   pub amount : now.amount ≡ before.amount + more
 
--- How many loads are made at most: two for each of the 262,144 frames that a job has at most, by a worker; then two for each frame
--- that one of 16 workers still holds; then two for each free frame, and for one claim more; and all of these from one seat.
+-- How many loads are made at most: two for each frame that a job has at most, by a worker; then two for each frame that a worker
+-- still holds; then two for each free frame, and for one claim more; and all of these from one seat.
 abbrev pub worker_loads : ℕ
-worker_loads = 524288
+worker_loads = 2 * FRAMES
 
 abbrev pub held_loads : ℕ
-held_loads = 32
+held_loads = 2 * WORKERS
 
 abbrev pub free_loads : ℕ
-free_loads = 524290
+free_loads = 2 * FRAMES + 2
 
 abbrev pub rest_loads : ℕ
 rest_loads = held_loads + free_loads

@@ -5,6 +5,7 @@ ghost use Rattle.crew_seat.specs.Seats.{HasGiven, HasTaken};
 ghost use Rattle.crew_seat.specs.Stepped.{IsFresh, WasCounted};
 
 use crate::seat::Seat;
+use cf_base::WORKERS;
 use conform_job::Work;
 use frame_fetch::Loader;
 use frame_share::Units;
@@ -36,7 +37,7 @@ pub fn seat_all<S: Scans, N: Work, C: Crewed>(
 ) -> Vec<Seat<S, N, C>>
     requires empty { room.items ≡ [] }
     requires room { vec_len scans ≤ vec_capacity room }
-    requires few { vec_len scans ≤ 16 }
+    requires few { vec_len scans ≤ WORKERS }
     requires parts { HasMoreThan (vec_len scans) marks.old }
     requires shares { vec_len scans < units.old.parts }
     requires closed { units.old.pending ≡ 0 }
@@ -73,7 +74,7 @@ pub fn unseat<S: Scans, N: Work, C: Crewed>(
 ) -> (Vec<S>, u64)
     requires empty { room.items ≡ [] }
     requires room { vec_len seats ≤ vec_capacity room }
-    requires some { vec_len seats ≤ 16 }
+    requires some { vec_len seats ≤ WORKERS }
     requires counted { All (λ s. WasCounted s) seats.items }
     ensures scans { result.0.items ≡ map (λ s. s.loader.scan) seats.items }
     ensures loads { result.1 ≡ sum_by (λ s. s.loader.loads) seats.items }

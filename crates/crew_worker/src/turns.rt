@@ -1,11 +1,11 @@
 //! Turns at source frames: where several workers want one that isn't shared yet, one of them loads it while the others wait.
-use cf_base::Key;
+use cf_base::{Key, WORKERS};
 use std::sync::{Condvar, Mutex, Wait};
 
 /// Which source frame each worker is asking for or loading. No clause speaks of it: it makes workers wait, and does nothing else.
 #[derive(Drop)]
 pub(crate) struct Turns {
-    keys: Mutex<[Option<Key>; 16]>,
+    keys: Mutex<[Option<Key>; WORKERS]>,
     ended: Condvar,
 }
 
@@ -13,7 +13,7 @@ impl Turns {
     /// No worker has a turn. Takes no memory.
     pub(crate) fn new() -> Turns {
         Turns {
-            keys: Mutex::new([None; 16]),
+            keys: Mutex::new([None; WORKERS]),
             ended: Condvar::new(),
         }
     }

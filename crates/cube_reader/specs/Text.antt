@@ -12,6 +12,7 @@ use Rattle.std.specs.Int.{int_max, int_min}
 use Rattle.std.specs.Str.{bytes_eq}
 use Rattle.std.specs.Str.Parse.{digits_value}
 use Rattle.std.specs.Char.{is_ascii_digit}
+use Rattle.cf_base.specs.declared.limits.TheConstants.{CUBE_BYTES}
 use Rattle.cf_base.specs.declared.fixed.Fixed.{Fixed}
 use Rattle.cf_base.specs.declared.fixed.FixedFault.{FixedFault}
 use Rattle.cf_base.specs.Fixed.{fixed_of}
@@ -202,7 +203,7 @@ settled lines None = ended lines (end_fault lines)
 
 abbrev pub cube_of : (text : List ℕ) → Result Table CubeFault
 cube_of text =
-    if nat_lt 100663296 (length text) then Err (at_line 0 TooLong)
+    if nat_lt CUBE_BYTES (length text) then Err (at_line 0 TooLong)
     else settled (lines_in text) (slice_get (faults_of (lines_in text)) 0)
 
 -- A table that is read is one.

@@ -14,30 +14,24 @@ mod reading;
 mod state;
 mod words;
 
-use cf_base::Fail;
+use cf_base::{CUBE_BYTES, Fail};
 pub use cube::Cube;
 pub use fault::{CubeFault, CubeKind};
 use reading::read_lines;
 use std::alloc::Global;
-
-/// How many bytes a text has at most.
-const MOST_BYTES: usize = 100_663_296;
 
 /// The table of a cube text, or the text's first refusal. It goes through the text once and keeps the table alone; the time
 /// that it takes grows with the length of the text, whatever the text says.
 pub fn read_cube(alloc: Global, text: &[u8]) -> Result<Cube, Fail<CubeFault>>
     ensures { Gives result (cube_of text.now) }
 {
-    if MOST_BYTES < text.len() {
+    if CUBE_BYTES < text.len() {
         return Err(Fail::Fault(CubeFault {
             line: 0,
             kind: CubeKind::TooLong,
         }));
     }
-    let reading = match read_lines(alloc, text) {
-        Ok(reading) => reading,
-        Err(fail) => return Err(fail),
-    };
+    let reading = read_lines(alloc, text)?;
     if let Some(kind) = reading.state.end_fault() {
         return Err(Fail::Fault(CubeFault {
             line: reading.lines.max(1),

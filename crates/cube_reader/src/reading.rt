@@ -9,7 +9,7 @@ use crate::fault::{CubeFault, CubeKind};
 use crate::keywords::keyword_of;
 use crate::state::{State, clamped};
 use crate::words::three_numbers;
-use cf_base::{Fail, Fixed, line_at, lines_in_turn, token_from};
+use cf_base::{CUBE_BYTES, Fail, Fixed, line_at, lines_in_turn, token_from};
 use std::alloc::Global;
 
 /// What the lines so far say, and their table.
@@ -25,7 +25,7 @@ pub struct Reading {
 
 /// Reads the lines of a text, up to its first fault.
 pub fn read_lines(alloc: Global, text: &[u8]) -> Result<Reading, Fail<CubeFault>>
-    requires { length text.now ≤ 100663296 }
+    requires { length text.now ≤ CUBE_BYTES }
     ensures { ReadsAll (lines_in text.now) result }
 {
     lines_in_turn();
@@ -58,8 +58,8 @@ fn refused_at(line: u32, fail: Fail<CubeKind>) -> Fail<CubeFault>
 
 /// Reads a line more.
 fn read_more(reading: &mut Reading, line: &[u8]) -> Result<(), Fail<CubeKind>>
-    requires few { reading.old.lines ≤ 100663296 }
-    requires few_data { reading.old.state.data_lines ≤ 100663296 }
+    requires few { reading.old.lines ≤ CUBE_BYTES }
+    requires few_data { reading.old.state.data_lines ≤ CUBE_BYTES }
     requires sized { reading.old.state.size ≤ greatest_size reading.old.state.seen.cube_size }
     ensures { ReadsLine (tokens_of line.now) reading.old result reading.new }
 {
@@ -87,8 +87,8 @@ fn begins_number(byte: u8) -> bool
 
 /// Reads a data line more.
 fn read_data(reading: &mut Reading, line: &[u8]) -> Result<(), Fail<CubeKind>>
-    requires few { reading.old.lines ≤ 100663296 }
-    requires few_data { reading.old.state.data_lines ≤ 100663296 }
+    requires few { reading.old.lines ≤ CUBE_BYTES }
+    requires few_data { reading.old.state.data_lines ≤ CUBE_BYTES }
     requires sized { reading.old.state.size ≤ greatest_size reading.old.state.seen.cube_size }
     requires solid { is_passed_over (tokens_of line.now) ≡ false }
     requires begins { is_data (tokens_of line.now) ≡ true }
@@ -117,7 +117,7 @@ fn read_keyword(
     line: &[u8],
     at: usize,
 ) -> Result<(), Fail<CubeKind>>
-    requires few { reading.old.lines ≤ 100663296 }
+    requires few { reading.old.lines ≤ CUBE_BYTES }
     requires within { at ≤ length line.now }
     requires gap { IsGap line.now at }
     requires first { tokens_of line.now ≡ word.now ∷ words_from line.now at }

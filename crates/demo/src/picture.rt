@@ -3,7 +3,7 @@ ghost use Rattle.std.specs.Prelude.{◌≡◌, ◌<◌, ◌++◌, ◌%◌, lengt
 ghost use Rattle.dpx_header.specs.Writing.{IsOutHead};
 ghost use Rattle.demo.specs.Pictures.{source_word, line_words, source_line, picture, source_head, source_file};
 
-use cf_base::{Rgb, TitleText};
+use cf_base::{HEADER, Rgb, TitleText};
 use dpx_header::{OutHead, write_header};
 use dpx_pack::{pack, word_of};
 use std::alloc::{AllocError, Global};
@@ -13,7 +13,7 @@ const WIDTH: usize = 32;
 const HEIGHT: usize = 18;
 
 /// The bytes of a source file: 2048 of header, and four for each pixel.
-const SIZE: usize = 2048 + 4 * WIDTH * HEIGHT;
+const SIZE: usize = HEADER + 4 * WIDTH * HEIGHT;
 
 /// The file of a source frame.
 pub(crate) fn source_file(alloc: Global, reel: u16, frame: u32) -> Result<Vec<u8>, AllocError>
@@ -22,7 +22,7 @@ pub(crate) fn source_file(alloc: Global, reel: u16, frame: u32) -> Result<Vec<u8
     ensures { IfOk result (λ file. file.items ≡ source_file reel frame) }
 {
     let mut file = Vec::with_capacity(alloc, SIZE)?;
-    let mut header = [0; 2048];
+    let mut header = [0; HEADER];
     write_header(&source_head(reel, frame), &mut header);
     file.extend_from_slice(&header)?;
     put_picture(&mut file, reel, frame)?;

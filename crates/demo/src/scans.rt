@@ -2,7 +2,7 @@
 ghost use Rattle.std.specs.Prelude.{◌≡◌, Some, []};
 ghost use Rattle.demo.specs.inside.Scan.{fails_of};
 
-use cf_base::PathText;
+use cf_base::{HEADER, PathText};
 use scan_source::{Head, Loaded, MemoryScans, Scans};
 use std::alloc::Global;
 
@@ -36,7 +36,7 @@ impl Scans for UnfailingScans {
         self.scans.load(path, most, into)
     }
 
-    fn head(&mut self, path: &PathText, into: &mut [u8; 2048]) -> Head {
+    fn head(&mut self, path: &PathText, into: &mut [u8; HEADER]) -> Head {
         self.scans.head(path, into)
     }
 

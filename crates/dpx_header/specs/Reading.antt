@@ -3,6 +3,7 @@
 -- * picture information of a header: the fields by offset and size in the file's byte order, and the first of the thirteen cases
 --   that holds
 use Rattle.std.specs.Prelude.{ℕ, ◌%◌, Bool, true, false, not, ◌==◌, ◌||◌, nat_lt, if◌then◌else◌, List, [], ◌∷◌, drop, slice_index, Result, Ok, Err}
+use Rattle.cf_base.specs.declared.limits.TheConstants.{HEADER, LARGEST}
 use Rattle.byteorder.specs.Endian.{big_number, little_number}
 use Rattle.dpx_header.specs.Frame.{need_of}
 use Rattle.dpx_header.specs.declared.info.FrameInfo.{FrameInfo}
@@ -64,7 +65,7 @@ fields_of number little head = record {
 
 -- a side that this program doesn't take
 abbrev pub is_bad_side : ℕ → Bool
-is_bad_side pixels = pixels == 0 || nat_lt 4096 pixels
+is_bad_side pixels = pixels == 0 || nat_lt LARGEST pixels
 
 -- the faults of a file of `len` bytes, each with the case in which it stands
 abbrev pub faults : HeaderFields → ℕ → List (Bool × DpxFault)
@@ -77,7 +78,7 @@ faults f len =
     ∷ (not (is_unset16 f.orientation), Orientation)
     ∷ (not (is_unset32 f.sign), Sign)
     ∷ (not (is_unset32 f.encryption), Encrypted)
-    ∷ (nat_lt f.info.start 2048 || nat_lt 1048576 f.info.start, Offset)
+    ∷ (nat_lt f.info.start HEADER || nat_lt 1048576 f.info.start, Offset)
     ∷ (nat_lt 4092 f.info.pad || not (f.info.pad % 4 == 0), Padding)
     ∷ (is_bad_side f.info.width || is_bad_side f.info.height, Size)
     ∷ (nat_lt len (need_of f.info), Short)

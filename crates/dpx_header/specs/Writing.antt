@@ -4,6 +4,7 @@
 --   its offset, none reaches into another, all other bytes are 00, and what is written is read back
 use Rattle.std.specs.Prelude.{◌≡◌, ◌⊎◌, ℕ, ◌+◌, ◌-◌, ◌*◌, ◌<◌, ◌≤◌, ◌&&◌, nat_le, Bool, false, List, [], ◌∷◌, ◌++◌, All, length, take, drop, replicate, Option, None, Some, codes}
 use Rattle.std.specs.List.{splice}
+use Rattle.cf_base.specs.declared.limits.TheConstants.{HEADER, LARGEST}
 use Rattle.byteorder.specs.Endian.{big_bytes}
 use Rattle.cf_base.specs.Digits.{frame_file_name}
 use Rattle.dpx_header.specs.declared.info.FrameInfo.{FrameInfo}
@@ -12,9 +13,9 @@ use Rattle.dpx_header.specs.declared.writing.OutHead.{OutHead}
 -- what can be written
 pub record IsOutHead (head : OutHead) : Type 0 where
   pub some_width : 1 ≤ head.width
-  pub most_width : head.width ≤ 4096
+  pub most_width : head.width ≤ LARGEST
   pub some_height : 1 ≤ head.height
-  pub most_height : head.height ≤ 4096
+  pub most_height : head.height ≤ LARGEST
   pub most_reel : head.reel ≤ 999
   pub most_frame : head.frame ≤ 9999999
 
@@ -39,9 +40,9 @@ text size bytes = bytes ++ replicate (size - length bytes) 0
 abbrev pub file_fields : OutHead → List Field
 file_fields head =
     (0, codes "SDPX")
-    ∷ (4, u32 2048)
+    ∷ (4, u32 HEADER)
     ∷ (8, text 8 (codes "V1.0"))
-    ∷ (16, u32 (2048 + 4 * head.width * head.height))
+    ∷ (16, u32 (HEADER + 4 * head.width * head.height))
     ∷ (20, u32 1)
     ∷ (24, u32 1664)
     ∷ (28, u32 384)
@@ -74,7 +75,7 @@ element_fields =
     ∷ (803, 10 ∷ [])
     ∷ (804, u16 1)
     ∷ (806, u16 0)
-    ∷ (808, u32 2048)
+    ∷ (808, u32 HEADER)
     ∷ (812, u32 0)
     ∷ (816, u32 0)
     ∷ []
@@ -128,7 +129,7 @@ all_laid bytes (field ∷ fields) = all_laid (laid bytes field) fields
 
 -- the header
 unfoldable pub header_of : OutHead → List ℕ
-header_of head = all_laid (replicate 2048 0) (header_fields head)
+header_of head = all_laid (replicate HEADER 0) (header_fields head)
 
 -- the field's bytes stand at its offset
 abbrev pub Stands : List ℕ → Field → Type 0
@@ -149,6 +150,6 @@ written_info head = record {
   little = false;
   width = head.width;
   height = head.height;
-  start = 2048;
+  start = HEADER;
   pad = 0;
 }

@@ -6,6 +6,7 @@ ghost use Rattle.dpx_header.specs.Reading.{number_at, is_unset16, is_unset32, fi
 
 use crate::{DpxFault, FrameInfo};
 use byteorder::{BigEndian, ByteOrder, LittleEndian};
+use cf_base::{HEADER, LARGEST};
 use std::marker::Model;
 
 /// `SDPX`, in the byte order of the file.
@@ -51,7 +52,7 @@ impl Model for Fields {
 
 /// What a file's header says of its pixels (SMPTE 268M), from its first 2048 bytes, with zeros where it is shorter, and
 /// from its length in bytes. Both byte orders are read. The first fault in the order of `DpxFault` is the refusal.
-pub fn read_header(head: &[u8; 2048], file_len: u64) -> Result<FrameInfo, DpxFault>
+pub fn read_header(head: &[u8; HEADER], file_len: u64) -> Result<FrameInfo, DpxFault>
     ensures info { result ≡ info_of head.now file_len }
 
     // What is taken has sizes and offsets in their ranges, and all its pixels lie in the file.
@@ -98,7 +99,7 @@ fn checked(fields: &Fields, file_len: u64) -> Result<FrameInfo, DpxFault>
     if !is_unset_32(fields.encryption) {
         return Err(DpxFault::Encrypted);
     }
-    if info.start < 2048 || info.start > 1_048_576 {
+    if info.start < HEADER as u32 || info.start > 1_048_576 {
         return Err(DpxFault::Offset);
     }
     if info.pad > 4092 || info.pad % 4 != 0 {
@@ -114,7 +115,7 @@ fn checked(fields: &Fields, file_len: u64) -> Result<FrameInfo, DpxFault>
 }
 
 /// The fields in a byte order.
-fn fields_at<T: ByteOrder>(head: &[u8; 2048], little: bool) -> Fields
+fn fields_at<T: ByteOrder>(head: &[u8; HEADER], little: bool) -> Fields
     ensures { result ≡ fields_of T.number_of little head.now }
 {
     Fields {
@@ -137,7 +138,7 @@ fn fields_at<T: ByteOrder>(head: &[u8; 2048], little: bool) -> Fields
 }
 
 /// The element's data offset, or where it is unset, that of the image data.
-fn data_offset<T: ByteOrder>(head: &[u8; 2048]) -> u32
+fn data_offset<T: ByteOrder>(head: &[u8; HEADER]) -> u32
     ensures { result ≡ Reading.data_offset T.number_of head.now }
 {
     let offset = u32_at::<T>(head, 808);
@@ -149,7 +150,7 @@ fn data_offset<T: ByteOrder>(head: &[u8; 2048]) -> u32
 }
 
 /// The bytes behind each line, none where the field is undefined.
-fn line_padding<T: ByteOrder>(head: &[u8; 2048]) -> u32
+fn line_padding<T: ByteOrder>(head: &[u8; HEADER]) -> u32
     ensures { result ≡ Reading.line_padding T.number_of head.now }
 {
     let padding = u32_at::<T>(head, 812);
@@ -157,16 +158,16 @@ fn line_padding<T: ByteOrder>(head: &[u8; 2048]) -> u32
 }
 
 /// The number of 16 bits at an offset.
-fn u16_at<T: ByteOrder>(head: &[u8; 2048], offset: usize) -> u16
-    requires { offset + 2 ≤ 2048 }
+fn u16_at<T: ByteOrder>(head: &[u8; HEADER], offset: usize) -> u16
+    requires { offset + 2 ≤ HEADER }
     ensures { result ≡ number_at T.number_of 2 offset head.now }
 {
     T::read_u16(&head[offset..])
 }
 
 /// The number of 32 bits at an offset.
-fn u32_at<T: ByteOrder>(head: &[u8; 2048], offset: usize) -> u32
-    requires { offset + 4 ≤ 2048 }
+fn u32_at<T: ByteOrder>(head: &[u8; HEADER], offset: usize) -> u32
+    requires { offset + 4 ≤ HEADER }
     ensures { result ≡ number_at T.number_of 4 offset head.now }
 {
     T::read_u32(&head[offset..])
@@ -190,5 +191,5 @@ fn is_unset_32(value: u32) -> bool
 fn is_bad_side(pixels: u32) -> bool
     ensures { result ≡ Reading.is_bad_side pixels }
 {
-    pixels == 0 || pixels > 4096
+    pixels == 0 || pixels > LARGEST
 }

@@ -8,6 +8,7 @@ use Rattle.std.specs.Prelude.{ℕ, ◌+◌, ◌||◌, Bool, not, ◌==◌, nat_l
 use Rattle.std.specs.Option.{option_map}
 use Rattle.std.specs.List.{filter_map, list_any, enumerate_from, find}
 use Rattle.std.specs.Result.{result_ok, result_err}
+use Rattle.cf_base.specs.declared.limits.TheConstants.{LIST_BYTES}
 use Rattle.cf_base.specs.declared.timing.Rate.{Rate}
 use Rattle.cf_base.specs.declared.event.EventRec.{EventRec}
 use Rattle.cf_base.specs.declared.event.EventList.{EventList}
@@ -77,4 +78,4 @@ list_from rate lines =
     (if has_event events then Ok (record { mode = record_mode lines; events = events }) else Err (refusal 0 fault.NoEvents)))
 
 abbrev pub list_of : Rate → List ℕ → Result EventList ListRefusal
-list_of rate text = if nat_lt 4194304 (length text) then Err (refusal 0 fault.TooLong) else list_from rate (lines_in text)
+list_of rate text = if nat_lt LIST_BYTES (length text) then Err (refusal 0 fault.TooLong) else list_from rate (lines_in text)

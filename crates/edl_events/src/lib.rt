@@ -14,15 +14,12 @@ mod rounds;
 mod steps;
 mod table;
 
-use cf_base::{EventList, EventRows, Fail, Rate};
+use cf_base::{EventList, EventRows, Fail, LIST_BYTES, Rate};
 use cf_timecode::TcFault;
 use edl_lines::LineFault;
 use reading::{put_speeds, read_lines};
 use rounds::{has_event, second_round};
 use std::alloc::Global;
-
-/// How many bytes a list has at most.
-const MOST_BYTES: usize = 4_194_304;
 
 /// Why a text is no list, and at which of its lines, from 1. Line 0 is the text as a whole.
 #[derive(Clone, Copy, Debug, PartialEq, Eq)]
@@ -69,16 +66,13 @@ pub fn read_list(alloc: Global, rate: Rate, text: &[u8]) -> Result<EventList, Fa
     ensures answer { Gives result (list_of rate text.now) }
     ensures made { IsMade rate result }
 {
-    if MOST_BYTES < text.len() {
+    if LIST_BYTES < text.len() {
         return Err(Fail::Fault(ListRefusal {
             line: 0,
             kind: ListKind::TooLong,
         }));
     }
-    let reading = match read_lines(alloc, rate, text) {
-        Ok(reading) => reading,
-        Err(fail) => return Err(fail),
-    };
+    let reading = read_lines(alloc, rate, text)?;
     let events = match put_speeds(alloc, &reading.events, &reading.speeds) {
         Ok(events) => events,
         Err(_) => return Err(Fail::NoMemory),

@@ -13,7 +13,7 @@ ghost use Rattle.edl_events.specs.inside.Reads.{ReadsLine, IsPlain, IsAdded, not
 use crate::steps::{State, label_number, next_step};
 use crate::table::Table;
 use crate::{ListKind, ListRefusal};
-use cf_base::{EventRec, Fail, Mode, Name, Rate, Span, line_at, lines_in_turn};
+use cf_base::{EventRec, Fail, LIST_BYTES, Mode, Name, Rate, Span, line_at, lines_in_turn};
 use edl_lines::{LineKind, read_line};
 use std::alloc::{AllocError, Global};
 use std::collections::BTreeMap;
@@ -33,7 +33,7 @@ pub struct Reading {
 
 /// Reads the lines of a text, up to its first fault.
 pub fn read_lines(alloc: Global, rate: Rate, text: &[u8]) -> Result<Reading, Fail<ListRefusal>>
-    requires { length text.now ≤ 4194304 }
+    requires { length text.now ≤ LIST_BYTES }
     ensures { FirstRound rate (lines_in text.now) result }
 {
     lines_in_turn();
@@ -79,9 +79,9 @@ fn refused_at(line: u32, fail: Fail<ListKind>) -> Fail<ListRefusal>
 pub fn read_more(rate: Rate, reading: &mut Reading, line: &[u8]) -> Result<(), Fail<ListKind>>
     requires counts { CanCount rate reading.old.state.mode }
     requires record_counts { CanCount rate (unwrap_or reading.old.state.record_mode reading.old.state.mode) }
-    requires few { reading.old.state.lines ≤ 4194304 }
+    requires few { reading.old.state.lines ≤ LIST_BYTES }
     requires few_pictures { reading.old.state.pictures ≤ 10000 }
-    requires short { length line.now ≤ 4194304 }
+    requires short { length line.now ≤ LIST_BYTES }
     ensures { ReadsLine rate (line_of line.now) reading.old result reading.new }
 {
     let kind = match read_line(line) {
@@ -107,7 +107,7 @@ fn read_plain(
 ) -> Result<(), Fail<ListKind>>
     requires counts { CanCount rate reading.old.state.mode }
     requires record_counts { CanCount rate (unwrap_or reading.old.state.record_mode reading.old.state.mode) }
-    requires few { reading.old.state.lines ≤ 4194304 }
+    requires few { reading.old.state.lines ≤ LIST_BYTES }
     requires few_pictures { reading.old.state.pictures ≤ 10000 }
     requires within { IsIn line.now kind }
     requires plain { IsPlain kind }
@@ -149,7 +149,7 @@ fn read_motion(
     trigger: Span,
 ) -> Result<(), Fail<ListKind>>
     requires counts { CanCount rate reading.old.state.mode }
-    requires few { reading.old.state.lines ≤ 4194304 }
+    requires few { reading.old.state.lines ≤ LIST_BYTES }
     requires within { IsSpanIn line.now trigger }
     requires bound { nat_abs speed ≤ 999999 }
     ensures { ReadsLine rate (record { bytes = line.now; kind = Ok (Motion reel.now speed trigger) }) reading.old result reading.new }

@@ -7,7 +7,7 @@ ghost use Rattle.edl_events.specs.Pictures.{label_number, times_of, is_at, leads
 ghost use Rattle.edl_events.specs.inside.Steps.{IsInDayOf, picture_from, step_of};
 
 use crate::ListKind;
-use cf_base::{EventRec, Mode, Name, Rate, Span, Transition, can_count};
+use cf_base::{EventRec, LIST_BYTES, Mode, Name, Rate, Span, Transition, can_count};
 use cf_timecode::{counting_laws, frames_of, parse};
 use edl_lines::{LineFault, LineKind};
 use trans_mix::known_wipe;
@@ -92,22 +92,10 @@ fn times_of(
     ensures day { IfOk result (λ times. AreTimes rate mode record_mode times) }
 {
     let [a, b, c, d] = spans;
-    let src_in = match label_number(rate, mode, line, a) {
-        Ok(n) => n,
-        Err(kind) => return Err(kind),
-    };
-    let src_out = match label_number(rate, mode, line, b) {
-        Ok(n) => n,
-        Err(kind) => return Err(kind),
-    };
-    let rec_in = match label_number(rate, record_mode, line, c) {
-        Ok(n) => n,
-        Err(kind) => return Err(kind),
-    };
-    let rec_out = match label_number(rate, record_mode, line, d) {
-        Ok(n) => n,
-        Err(kind) => return Err(kind),
-    };
+    let src_in = label_number(rate, mode, line, a)?;
+    let src_out = label_number(rate, mode, line, b)?;
+    let rec_in = label_number(rate, record_mode, line, c)?;
+    let rec_out = label_number(rate, record_mode, line, d)?;
     Ok(Times {
         src_in,
         src_out,
@@ -173,7 +161,7 @@ fn picture(
     requires counts { CanCount rate state.now.mode }
     requires record_counts { CanCount rate (unwrap_or state.now.record_mode state.now.mode) }
     requires spans { AreSpansIn line.now spans }
-    requires few { state.now.lines ≤ 4194304 }
+    requires few { state.now.lines ≤ LIST_BYTES }
     ensures value { result ≡ picture_from rate state.now line.now number reel.now transition spans }
     ensures day { IfOk result (IsInDayOf rate state.now) }
 {
@@ -210,7 +198,7 @@ pub fn next_step(rate: Rate, state: &State, line: &[u8], kind: LineKind) -> Resu
     requires counts { CanCount rate state.now.mode }
     requires record_counts { CanCount rate (unwrap_or state.now.record_mode state.now.mode) }
     requires within { IsIn line.now kind }
-    requires few { state.now.lines ≤ 4194304 }
+    requires few { state.now.lines ≤ LIST_BYTES }
     requires few_pictures { state.now.pictures ≤ 10000 }
     ensures value { result ≡ step_of rate state.now line.now kind }
     ensures day { IfOk result (λ t. IfSome t.event (IsInDayOf rate state.now)) }

@@ -8,11 +8,13 @@ ghost use Rattle.edl_lines.specs.inside.Shapes.{lasting, shape_of, lasting_event
 
 use crate::numbers::{decimal, speed_of};
 use crate::{LineFault, LineKind};
-use cf_base::{Name, Span, TokenSpan, Transition, are_digits, digits_value, token_from};
+use cf_base::{
+    LIST_BYTES, Name, Span, TokenSpan, Transition, are_digits, digits_value, token_from,
+};
 
 /// An event line whose first token is its number.
 pub fn read_event(line: &[u8], first: TokenSpan) -> Result<LineKind, LineFault>
-    requires small { length line.now ≤ 4194304 }
+    requires small { length line.now ≤ LIST_BYTES }
     requires apart { (first.start < first.end) × (first.end ≤ length line.now) }
     requires gap { IsGap line.now first.end }
     ensures within { IfOk result (λ kind. IsIn line.now kind) }
@@ -82,7 +84,7 @@ fn is_other_channel(byte: u8) -> bool
 
 /// A picture event by what stands behind its channels.
 fn read_picture(line: &[u8], at: usize, number: u32, reel: Name) -> Result<LineKind, LineFault>
-    requires small { length line.now ≤ 4194304 }
+    requires small { length line.now ≤ LIST_BYTES }
     requires within { at ≤ length line.now }
     requires gap { IsGap line.now at }
     ensures within { IfOk result (λ kind. IsIn line.now kind) }
@@ -109,7 +111,7 @@ fn read_lasting(
     reel: Name,
     shape: Shape,
 ) -> Result<LineKind, LineFault>
-    requires small { length line.now ≤ 4194304 }
+    requires small { length line.now ≤ LIST_BYTES }
     requires within { at ≤ length line.now }
     requires gap { IsGap line.now at }
     ensures within { IfOk result (λ kind. IsIn line.now kind) }
@@ -132,7 +134,7 @@ fn read_times(
     reel: Name,
     transition: Transition,
 ) -> Result<LineKind, LineFault>
-    requires small { length line.now ≤ 4194304 }
+    requires small { length line.now ≤ LIST_BYTES }
     requires within { at ≤ length line.now }
     requires gap { IsGap line.now at }
     ensures within { IfOk result (λ kind. IsIn line.now kind) }
@@ -165,7 +167,7 @@ fn read_times(
 }
 
 fn span_of(token: TokenSpan) -> Span
-    requires { (token.start ≤ 4194304) × (token.end ≤ 4194304) }
+    requires { (token.start ≤ LIST_BYTES) × (token.end ≤ LIST_BYTES) }
     ensures { result ≡ record { start = token.start; end = token.end } }
 {
     Span {
@@ -208,7 +210,7 @@ fn shape_of(bytes: &[u8]) -> Result<Shape, LineFault>
 
 /// A motion line whose first token is `M2`.
 pub fn read_motion(line: &[u8], first: TokenSpan) -> Result<LineKind, LineFault>
-    requires small { length line.now ≤ 4194304 }
+    requires small { length line.now ≤ LIST_BYTES }
     requires apart { (first.start < first.end) × (first.end ≤ length line.now) }
     requires gap { IsGap line.now first.end }
     ensures within { IfOk result (λ kind. IsIn line.now kind) }

@@ -13,7 +13,7 @@ ghost use Rattle.cf_base.specs.Tokens.{tokens, is_blank};
 ghost use Rattle.edl_lines.specs.Within.{IsIn, IsSpanIn};
 ghost use Rattle.edl_lines.specs.Lines.{reading, fcm_of, trimmed_from};
 
-use cf_base::{Mode, Name, Span, Transition, is_blank, token_from};
+use cf_base::{LIST_BYTES, Mode, Name, Span, Transition, is_blank, token_from};
 use event::{read_event, read_motion};
 use thiserror::Error;
 
@@ -88,7 +88,7 @@ pub enum LineFault {
 
 /// The one kind of a line with its fields, or its one fault. The line has no line ends, and at most 4,194,304 bytes.
 pub fn read_line(line: &[u8]) -> Result<LineKind, LineFault>
-    requires short { length line.now ≤ 4194304 }
+    requires short { length line.now ≤ LIST_BYTES }
     ensures kind { result ≡ reading line.now }
     ensures within { IfOk result (λ kind. IsIn line.now kind) }
 {
@@ -116,7 +116,7 @@ pub fn read_line(line: &[u8]) -> Result<LineKind, LineFault>
 /// The line from a place on, without blanks at both ends.
 fn trimmed_from(line: &[u8], from: usize) -> Span
     requires within { from ≤ length line.now }
-    requires small { length line.now ≤ 4194304 }
+    requires small { length line.now ≤ LIST_BYTES }
     ensures text { result ≡ trimmed_from line.now from }
     ensures within { IsSpanIn line.now result }
 {

@@ -211,10 +211,7 @@ impl<N: Work, L: Ledger, S: Scans> Loader<N, L, S> {
         ensures tried { OnErr result (WereTried (keys_of_need (need_at N.job i)) (P.log share.old) (P.log share.new)) }
         ensures loaded { HasLoadedFor S.state 2 result self.old self.new }
     {
-        let sides = match self.sides_of(job, share, i) {
-            Ok(sides) => sides,
-            Err(end) => return Err(end),
-        };
+        let sides = self.sides_of(job, share, i)?;
         let frame = render(job, i, lent(&sides.old), lent(&sides.new), room);
         self.keep(sides);
         Ok(frame)
@@ -237,10 +234,7 @@ impl<N: Work, L: Ledger, S: Scans> Loader<N, L, S> {
         ensures stop { IfErr result (IsUnrendered N.job N.files) }
         ensures loaded { HasLoadedFor S.state 2 result self.old self.new }
     {
-        let sides = match self.sides_of(job, share, i) {
-            Ok(sides) => sides,
-            Err(end) => return Err(end),
-        };
+        let sides = self.sides_of(job, share, i)?;
         let frame = render_forked(
             rt,
             job,

@@ -2,6 +2,8 @@
 ghost use Rattle.std.specs.Prelude.{◌≡◌, ◌≤◌};
 ghost use Rattle.frame_range.specs.Parts.{IsExtent, part_edge, range_of};
 
+use cf_base::FRAMES;
+
 /// How much of a job a run is to render.
 #[derive(Clone, Copy, Debug, PartialEq, Eq)]
 pub enum Extent {
@@ -23,7 +25,7 @@ pub struct FrameRange {
 /// The frames of a job of so many frames, at most 262,144, that a run of this extent renders. They may be none.
 pub fn range_of(extent: Extent, count: u32) -> FrameRange
     requires extent { IsExtent extent }
-    requires count { count ≤ 262144 }
+    requires count { count ≤ FRAMES }
     ensures range { result ≡ range_of extent count }
     ensures ordered { result.low ≤ result.high }
     ensures within { result.high ≤ count }
@@ -43,7 +45,7 @@ pub fn range_of(extent: Extent, count: u32) -> FrameRange
 /// The frame before which so many of the parts end.
 fn edge_of(edge: u16, parts: u16, count: u32) -> u32
     requires parts { (1 ≤ parts) × (edge ≤ parts) × (parts ≤ 999) }
-    requires count { count ≤ 262144 }
+    requires count { count ≤ FRAMES }
     ensures { result ≡ part_edge edge parts count }
 {
     u32::from(edge) * count / u32::from(parts)

@@ -14,6 +14,7 @@
 use Rattle.std.specs.Prelude.{◌≡◌, ℕ, ◌+◌, ◌-◌, ◌*◌, ◌<◌, List, take, [], ◌++◌, map, flat_map, slice_index, Option, Some, None, IfSome, IsSomeAnd, Result, Ok, Err, if◌then◌else◌}
 use Rattle.std.specs.Option.{option_map}
 use Rattle.std.specs.List.{range_with_len}
+use Rattle.cf_base.specs.declared.limits.TheConstants.{HEADER}
 use Rattle.byteorder.specs.Endian.{big_bytes}
 use Rattle.cf_base.specs.declared.event.Transition.{Transition}
 use Rattle.cf_base.specs.declared.event.Transition.TheVariants.{Cut, Dissolve, Wipe}
@@ -162,7 +163,7 @@ abbrev pub pixel_count : JobData → ℕ
 pixel_count job = job.parts.project.width * job.parts.project.height
 
 abbrev pub frame_size : JobData → ℕ
-frame_size job = 2048 + 4 * pixel_count job
+frame_size job = HEADER + 4 * pixel_count job
 
 -- a frame's index, its file and its bytes
 pub record FrameBytes : Type 0 where

@@ -2,7 +2,7 @@
 ghost use Rattle.std.specs.Prelude.{◌≡◌, length, IfOk};
 ghost use Rattle.frame_render.specs.Frame.{frame_size, pixel_count};
 
-use cf_base::{Fail, Never};
+use cf_base::{Fail, HEADER, Never};
 use conform_job::Job;
 use std::alloc::Global;
 use std::marker::Model;
@@ -28,7 +28,7 @@ impl FrameBuf {
         ensures room { IfOk result (λ buf. length buf ≡ frame_size job.now) }
     {
         job.recall();
-        match vec![in alloc; 0; 2048 + 4 * (job.width() as usize * job.height() as usize)] {
+        match vec![in alloc; 0; HEADER + 4 * (job.width() as usize * job.height() as usize)] {
             Ok(bytes) => Ok(FrameBuf { bytes }),
             Err(_) => Err(Fail::NoMemory),
         }

@@ -11,7 +11,7 @@ ghost use Rattle.frame_render.specs.inside.Frame.{HasWords, IsDecoded};
 
 use crate::picture::Picture;
 use crate::{Decoded, FrameBuf, Rendered};
-use cf_base::FrameNo;
+use cf_base::{FrameNo, HEADER};
 use cf_timecode::{bcd, label_of};
 use conform_job::{Job, Work};
 use dpx_header::{OutHead, write_header};
@@ -121,7 +121,7 @@ fn render_file(job: &Job, i: u32, old: Option<&[u32]>, new: Option<&[u32]>, out:
         old,
         new,
     };
-    picture.render_bands(&mut out[2048..]);
+    picture.render_bands(&mut out[HEADER..]);
 }
 
 /// The same, side by side.
@@ -148,19 +148,19 @@ fn render_file_forked<R: Threads + Sync>(
         old,
         new,
     };
-    picture.render_parts(rt, threads, &mut out[2048..]);
+    picture.render_parts(rt, threads, &mut out[HEADER..]);
 }
 
 /// Writes the header of record frame `i`.
 pub(crate) fn put_header(job: &Job, i: u32, out: &mut [u8])
     requires index { i < frame_count job.now.parts.timeline.events }
-    requires room { 2048 ≤ length out.old }
-    ensures header { take 2048 out.new ≡ header_of (out_head job.now i) }
-    ensures behind { drop 2048 out.new ≡ drop 2048 out.old }
+    requires room { HEADER ≤ length out.old }
+    ensures header { take HEADER out.new ≡ header_of (out_head job.now i) }
+    ensures behind { drop HEADER out.new ≡ drop HEADER out.old }
     ensures size { length out.new ≡ length out.old }
     ensures planned { ArePlanned job.now.parts }
 {
-    let mut header = [0; 2048];
+    let mut header = [0; HEADER];
     write_header(&out_head(job, i), &mut header);
     out[..2048].copy_from_slice(&header);
 }

@@ -3,6 +3,7 @@
 ghost use Rattle.std.specs.Prelude.{◌≡◌, ◌<◌, ◌≤◌, length};
 ghost use Rattle.std.specs.Option.{option_copied};
 ghost use Rattle.cf_base.specs.Rgb.{codes_of};
+ghost use Rattle.cf_base.specs.declared.limits.TheConstants.{LONGEST};
 ghost use Rattle.record_timeline.specs.Shots.{Lasts};
 ghost use Rattle.conform_job.specs.Job.{ArePlanned};
 ghost use Rattle.frame_render.specs.Frame.{black_of, line_of, seen_word, side_colour};
@@ -12,7 +13,7 @@ ghost use Rattle.frame_render.specs.inside.Pictures.{IsPicture, words_of_line};
 
 use crate::picture::Picture;
 use band_kernels::{WipeFrame, blend_band, copy_band, fill_band, look_band, seen_band, wipe_band};
-use cf_base::{Rgb, Transition};
+use cf_base::{LONGEST, Rgb, Transition};
 use conform_job::Job;
 use dpx_pack::word_of;
 use record_timeline::Shot;
@@ -24,7 +25,7 @@ struct TransitionFrame {
     k: u32,
     d: u32,
     ghost within: { k < d },
-    ghost day: { d ≤ 2592000 },
+    ghost day: { d ≤ LONGEST },
 }
 
 impl Picture<'_> {

@@ -5,6 +5,7 @@ ghost use Rattle.frame_render.specs.Frame.{black_of, pixel_count};
 ghost use Rattle.frame_render.specs.inside.Pictures.{IsPicture, lines_of, picture_of, words_of_line};
 ghost use Rattle.frame_render.specs.inside.Lines.{HasColours, StandsAt, stride};
 
+use cf_base::LARGEST;
 use conform_job::Job;
 use dpx_pack::{pack, word_of};
 use record_timeline::Shot;
@@ -53,7 +54,7 @@ impl Picture<'_> {
     fn fork_lines<R: Threads + Sync>(&self, rt: &R, lines: usize, out: &mut [u8])
         requires picture { IsPicture self.now }
         requires some { 0 < lines }
-        requires lines { lines ≤ 4096 }
+        requires lines { lines ≤ LARGEST }
         requires room { length out.old ≡ 4 * pixel_count self.now.job.now }
         ensures { EachIndex out.new (λ k. slice_index out.new k ≡ slice_index (picture_of self.now) k) }
     {
@@ -89,8 +90,8 @@ impl Picture<'_> {
     {
         let width = self.job.width() as usize;
         let stride = 4 * width;
-        let black = [word_of(self.job.project().black); 4096];
-        let mut line = [0; 4096];
+        let black = [word_of(self.job.project().black); LARGEST as usize];
+        let mut line = [0; LARGEST as usize];
         for n in 0..count {
             let start = n as usize * stride;
             let bytes = &mut out[start..start + stride];
@@ -114,7 +115,7 @@ impl Picture<'_> {
 
 /// The first line of band `n` of a picture.
 fn first_line(height: u32, bands: u32, n: u32) -> u32
-    requires height { height ≤ 4096 }
+    requires height { height ≤ LARGEST }
     requires bands { bands ≤ 64 }
     requires some { 0 < bands }
     requires within { n ≤ bands }

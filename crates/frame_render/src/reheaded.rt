@@ -6,6 +6,7 @@ ghost use Rattle.frame_render.specs.Frame.{IsFileOf, frame_file, frame_size};
 
 use crate::Rendered;
 use crate::file::put_header;
+use cf_base::HEADER;
 use conform_job::{Job, Work};
 use std::marker::PhantomData;
 
@@ -15,7 +16,7 @@ pub fn rehead<N: Work>(job: &Job, i: u32, file: &mut [u8])
     requires job { job.now ≡ N.job }
     requires index { i < frame_count N.job.parts.timeline.events }
     requires size { length file.old ≡ frame_size N.job }
-    requires pixels { IfSome N.files (λ world. drop 2048 file.old ≡ drop 2048 (frame_file N.job (file_at world) i)) }
+    requires pixels { IfSome N.files (λ world. drop HEADER file.old ≡ drop HEADER (frame_file N.job (file_at world) i)) }
     ensures size { length file.new ≡ frame_size N.job }
     ensures file { IsFileOf N.job N.files i file.new }
 {

@@ -11,16 +11,13 @@ ghost use Rattle.outside.specs.Places.{folders_of, old_folder, reel_folder};
 ghost use Rattle.reel_disk.specs.Folder.{folder_in};
 
 pub use causes::tell_cause;
-use cf_base::PathText;
+use cf_base::{PathText, WORKERS};
 pub use places::{Places, split_words};
 use reel_disk::{Disk, FolderDisk, LockFiles};
 use scan_source::FileScans;
 use std::alloc::{AllocError, Global};
 use std::rt::Runtime;
 use std::{env, io};
-
-/// How many scans a call is handed.
-const SCANS: usize = 16;
 
 /// The reel folder, in the current folder, if the words name no other.
 const FOLDER: &[u8] = b"conform.out";
@@ -44,7 +41,7 @@ pub fn outside_of<R: Runtime + LockFiles + AllocGlobal>(
     rt: &R,
     places: &Places,
 ) -> Result<Outside<R>, AllocError>
-    ensures scans { IfOk result (λ outside. vec_len outside.scans ≡ 16) }
+    ensures scans { IfOk result (λ outside. vec_len outside.scans ≡ WORKERS) }
     ensures folders { IfOk result (λ outside. (folder_in outside.disk, folder_in outside.old) ≡ folders_of places.now) }
     ensures disk { IfOk result (λ outside. (⟦<FolderDisk<R> as Disk>⟧.state outside.disk).faults ≡ 0) }
 {
@@ -80,10 +77,10 @@ fn words_behind(alloc: Global, mut arguments: env::Args) -> Result<Vec<String>, 
 
 /// Scans over the files of the system, below the current folder.
 fn scans_over<R: Runtime + AllocGlobal>(rt: &R) -> Result<Vec<FileScans<R>>, AllocError>
-    ensures { IfOk result (λ scans. vec_len scans ≡ 16) }
+    ensures { IfOk result (λ scans. vec_len scans ≡ WORKERS) }
 {
     let mut scans = Vec::new(rt.alloc());
-    for _ in 0..SCANS {
+    for _ in 0..WORKERS {
         scans.push(FileScans::new(rt.clone()?))?;
     }
     Ok(scans)

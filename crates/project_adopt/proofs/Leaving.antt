@@ -1,5 +1,5 @@
 -- Where a project is refused, no frame was taken over.
-use Rattle.std.proofs.Common.{◌≡◌, ℕ, List, Option, Result, Ok, Err, IfErr, MatchResult, sym, subst, inl, inr}
+use Rattle.std.proofs.Common.{◌≡◌, ℕ, List, Option, Result, Ok, Err, MatchResult, sym, subst, inl, inr}
 use Rattle.scan_source.specs.World.{World}
 use Rattle.conform_job.specs.Job.{JobData}
 use Rattle.reconform.specs.declared.adopting.Adopted.{Adopted}
@@ -8,7 +8,6 @@ use Rattle.reconform.specs.declared.adopting.AdoptFault.TheVariants as fault
 use Rattle.outcome.specs.declared.Outcome.{Outcome}
 use Rattle.outcome.specs.declared.Outcome.TheVariants as outcome
 use Rattle.outcome.specs.declared.Refused.{Refused}
-use Rattle.project_job.specs.Asked.{HasInspectedFor}
 use Rattle.project_job.specs.Jobs.{IsOfJob}
 use Rattle.reel_disk.specs.State.{FolderState}
 use Rattle.project_run.specs.Calls.{IsRefusal}
@@ -51,16 +50,9 @@ old_refused (outcome.Changed reel key was now) refusal kind is = kind
 old_refused outcome.DiskFault refusal kind is = kind
 old_refused (outcome.SinkFault instead) refusal kind is = kind
 
-onward_unrefused : (job : JobData) (told : Option World) (old_path : List ℕ) (old old_after disk disk_after : FolderState) (loads loads_after : ℕ) (reached : Outcome) (output : List ℕ) (refusal : Refused)
+pub onward_unrefused : (job : JobData) (told : Option World) (old_path : List ℕ) (old old_after disk disk_after : FolderState) (loads loads_after : ℕ) (reached : Outcome) (output : List ℕ) (refusal : Refused)
     → GoesOn job old_path told loads loads_after old old_after disk disk_after reached output → reached ≡ outcome.Refused refusal → ⊥
 onward_unrefused job told old_path old old_after disk disk_after loads loads_after reached output refusal (inl has) is =
     adoption_unrefused job has.old_job told old old_after disk disk_after has.planned loads_after reached output has.went (subst IsRefusal (sym is) tt)
 onward_unrefused job told old_path old old_after disk disk_after loads loads_after reached output refusal (inr none) is =
     old_refused none.found refusal none.unplanned.kind (subst (λ r. r ≡ outcome.Refused refusal) none.reached_is is)
-
-pub asked_onward : {A : Type 0} (r : Result A Outcome) (P : A → Type 0) (job : JobData) (told here : Option World) (path old_path : List ℕ) (old old_after disk disk_after : FolderState)
-    (loads loads_after before after : ℕ) (output : Outcome → List ℕ)
-    → MatchResult r P (λ reached. GoesOn job old_path here loads loads_after old old_after disk disk_after reached (output reached)) → IfErr r (HasInspectedFor told path before after)
-asked_onward (Ok a) P job told here path old_path old old_after disk disk_after loads loads_after before after output went = tt
-asked_onward (Err reached) P job told here path old_path old old_after disk disk_after loads loads_after before after output went =
-    λ refusal is. absurd (onward_unrefused job here old_path old old_after disk disk_after loads loads_after reached (output reached) refusal went is)

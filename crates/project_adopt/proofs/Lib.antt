@@ -1,5 +1,6 @@
 mod Composing
 mod Deciding
+mod Heading
 mod Leaving
 mod Looks
 mod Names

@@ -1,2 +1,3 @@
 pub mod Adopt
+pub mod Heads
 pub mod inside

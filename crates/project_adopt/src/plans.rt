@@ -2,10 +2,11 @@
 ghost use Rattle.std.specs.Prelude.{◌≡◌, Err, IfErr, MatchResult};
 ghost use Rattle.conform_job.specs.Answers.{AreInfosOf};
 ghost use Rattle.scan_source.specs.State.{LeavesScan};
-ghost use Rattle.project_run.specs.Calls.{IsLeftAlone, LeavesScanFor, Replies, OverScan};
+ghost use Rattle.project_run.specs.Calls.{IsLeftAlone, Replies, OverScan};
 ghost use Rattle.reconform.specs.Adopt.{LeavesBoth};
 ghost use Rattle.project_adopt.specs.Adopt.{GoesOn, IsAdoptReply, IsOfAdopt, OnDisks};
-ghost use Rattle.project_adopt.specs.inside.Adopt.{IsJobOver};
+ghost use Rattle.project_adopt.specs.Heads.{AreOldHeads, LeavesScanOfBoth};
+ghost use Rattle.project_adopt.specs.inside.Adopt.{Ends, IsJobOver};
 
 use crate::reels::adopt_jobs;
 use crate::report::of_old_project;
@@ -42,7 +43,7 @@ pub fn adopt<S: Scans, D: Disk, H: Hasher>(
         (OverScan (S.state scan.old) (S.state scan.new) (IsAdoptReply path.now old_path.now))) }
     ensures kind { MatchResult result (λ text. Unit {0}) IsOfAdopt }
 
-    ensures scan { LeavesScanFor path.now result (S.state scan.old) (S.state scan.new) }
+    ensures scan { LeavesScanOfBoth path.now old_path.now result (S.state scan.old) (S.state scan.new) }
     ensures disks { LeavesBoth (result ≡ Err Outcome.DiskFault) (D.state old.old) (D.state old.new) (D.state disk.old) (D.state disk.new) }
     ensures untouched { IfErr result (IsLeftAlone disk.old disk.new) }
     ensures old_untouched { IfErr result (IsLeftAlone old.old old.new) }
@@ -75,6 +76,7 @@ fn adopt_onto<S: Scans, D: Disk, H: Hasher>(
     ensures kind { MatchResult result (λ text. Unit {0}) IsOfAdopt }
 
     ensures scan { LeavesScan (result ≡ Err Outcome.SourceFault) (S.state scan.old) (S.state scan.new) }
+    ensures heads { Ends result (AreOldHeads (S.state scan.old).world old_path.now (S.state scan.old).heads (S.state scan.new).heads) }
 
     ensures disks { LeavesBoth (result ≡ Err Outcome.DiskFault) (D.state old.old) (D.state old.new) (D.state disk.old) (D.state disk.new) }
     ensures untouched { IfErr result (IsLeftAlone disk.old disk.new) }

@@ -9,7 +9,7 @@ ghost use Rattle.project_run.specs.Run.{IsOfRun};
 ghost use Rattle.reconform.specs.Adopt.{CanServe, LeavesBoth};
 ghost use Rattle.reel_disk.specs.Disk.{view_of};
 ghost use Rattle.project_adopt.specs.Adopt.{IsAdoption, IsOfAdopt, IsOldSoundIn, IsPromised, IsRest, OnDisks};
-ghost use Rattle.project_adopt.specs.inside.Adopt.{Ends, IsJobOver};
+ghost use Rattle.project_adopt.specs.inside.Adopt.{Ends, IsJobOver, LeavesPlanned};
 
 use crate::report::{outcome_of_fault, reply_of};
 use conform_job::{Job, Work};
@@ -52,10 +52,11 @@ pub(crate) fn adopt_jobs<S: Scans, D: Disk, H: Hasher>(
     ensures kind { MatchResult result (λ text. Unit {0}) IsOfAdopt }
 
     ensures scan { LeavesScan (result ≡ Err Outcome.SourceFault) (S.state scan.old) (S.state scan.new) }
+    ensures heads { (S.state scan.new).heads ≡ (S.state scan.old).heads }
 
     ensures disks { LeavesBoth (result ≡ Err Outcome.DiskFault) (D.state old.old) (D.state old.new) (D.state disk.old) (D.state disk.new) }
 {
-    adopt_and_run::<Brand, Brand, S, D, H>(alloc, job, old_job, scan, old, disk, hasher)
+    adopt_and_run::<Brand, Brand, S, D, H>(alloc, job, old_job, scan, disk, old, hasher)
 }
 
 /// The same under names of both jobs.
@@ -64,8 +65,8 @@ fn adopt_and_run<N: Work, O: Work, S: Scans, D: Disk, H: Hasher>(
     job: &Job,
     old_job: &Job,
     scan: &mut S,
-    old: &mut D,
     disk: &mut D,
+    old: &mut D,
     hasher: &H,
 ) -> Result<Vec<u8>, Outcome>
     requires can_hash { H.can_hash }
@@ -81,7 +82,7 @@ fn adopt_and_run<N: Work, O: Work, S: Scans, D: Disk, H: Hasher>(
         (IsPromised N.job N.files)) }
     ensures kind { MatchResult result (λ text. Unit {0}) IsOfAdopt }
 
-    ensures scan { LeavesScan (result ≡ Err Outcome.SourceFault) (S.state scan.old) (S.state scan.new) }
+    ensures scan { LeavesPlanned (result ≡ Err Outcome.SourceFault) (S.state scan.old) (S.state scan.new) }
 
     ensures disks { LeavesBoth (result ≡ Err Outcome.DiskFault) (D.state old.old) (D.state old.new) (D.state disk.old) (D.state disk.new) }
 {
@@ -105,6 +106,7 @@ fn run_rest<S: Scans, D: Disk>(
     ensures kind { MatchResult result (λ text. Unit {0}) IsOfRun }
 
     ensures scan { LeavesScan (result ≡ Err Outcome.SourceFault) (S.state scan.old) (S.state scan.new) }
+    ensures heads { (S.state scan.new).heads ≡ (S.state scan.old).heads }
 
     ensures disk { LeavesDisk (result ≡ Err Outcome.DiskFault) (D.state disk.old) (D.state disk.new) }
 {

@@ -16,7 +16,7 @@ use Rattle.run_alone.specs.Safe.{IsSafeRun}
 use Rattle.run_alone.specs.declared.report.Report.{Report}
 use Rattle.frame_fetch.specs.declared.run_end.RunEnd.{RunEnd}
 use Rattle.frame_fetch.specs.declared.run_end.RunEnd.TheVariants as ends
-use Rattle.project_job.specs.Asked.{HasLoadedFor}
+use Rattle.project_job.specs.Asked.{HasInspectedFor, HasLoadedFor, IsInspected}
 use Rattle.project_job.specs.Jobs.{HasPlanned, IsOfJob, AreLoaded, cube_count}
 use Rattle.project_job.specs.Texts.{ByFiles, HasComeTo, IsByTexts}
 use Rattle.outcome.specs.declared.Outcome.{Outcome}
@@ -107,17 +107,18 @@ module _ {S : Type 0} (state : S → ScanState) where
 
     pub uncrewed : {extent : Extent} (path : List ℕ) (workers share : ℕ) (scans : List S) (first : S) (disk : FolderState) (reached : Outcome) (output : List ℕ) → 0 < length scans → get_or scans 0 first ≡ first
         → IfSome (state first).world (λ files. HasPlanned (file_at files) path (Err reached)) → ByFiles (state first).world (λ files. IsByTexts files path (Err reached)) → IsOfJob reached → AreLoaded 1 3 (state first).loads (state used).loads
-        → HasLoadedFor (state first).world path (state first).loads (state used).loads reached → (reached ≢ outcomes.SourceFault → (state used).faults ≡ (state first).faults)
+        → HasLoadedFor (state first).world path (state first).loads (state used).loads reached → HasInspectedFor (state first).world path (state first).heads (state used).heads reached → (reached ≢ outcomes.SourceFault → (state used).faults ≡ (state first).faults)
         → (state first).faults ≤ (state used).faults → (state used).world ≡ (state first).world → (state used).loans ≡ (state first).loans
         → IsCrewReply state path extent workers share scans (set scans 0 used) disk disk reached output
-    uncrewed path workers share [] first disk reached output some is why read kind texts refused steady later told lent = absurd (omega (arith, some))
-    uncrewed path workers share (scan ∷ scans) first disk reached output some is why read kind texts refused steady later told lent = inr (record {
+    uncrewed path workers share [] first disk reached output some is why read kind texts refused asked steady later told lent = absurd (omega (arith, some))
+    uncrewed path workers share (scan ∷ scans) first disk reached output some is why read kind texts refused asked steady later told lent = inr (record {
       why = subst (λ s. HasComeTo (state s).world path (Err reached)) (sym is) (record { told = why; read = read });
       kind = kind;
       untouched = refl;
       size = refl;
       texts = λ d. subst (λ s. AreLoaded 1 3 (state s).loads (state used).loads) (sym is) texts;
       refused = λ d. subst (λ s. HasLoadedFor (state s).world path (state s).loads (state used).loads reached) (sym is) refused;
+      refused_heads = λ d. subst (λ s. HasInspectedFor (state s).world path (state s).heads (state used).heads reached) (sym is) asked;
       steady = λ other d. steady other ∙ ap (λ s. (state s).faults) (sym is);
       later = λ d. subst (λ s. (state s).faults ≤ (state used).faults) (sym is) later;
       told = λ d. told ∙ ap (λ s. (state s).world) (sym is);
@@ -127,14 +128,15 @@ module _ {S : Type 0} (state : S → ScanState) where
 
     pub crewed : (job : JobData) (extent : Extent) (range : FrameRange) (path : List ℕ) (workers share : ℕ) (scans new : List S) (first : S) (disk disk_after : FolderState) (reached : Outcome) (output : List ℕ) → range ≡ range_of extent (frames_of job) → 0 < length scans → get_or scans 0 first ≡ first
         → IfSome (state first).world (λ files. HasPlanned (file_at files) path (Ok job)) → ByFiles (state first).world (λ files. IsByTexts files path (Ok job)) → (state used).world ≡ (state first).world
-        → HasFirstLoaded state (2 + cube_count job.parts.project.cube) scans (set scans 0 used)
+        → HasFirstLoaded state (2 + cube_count job.parts.project.cube) scans (set scans 0 used) → IsInspected (state first).world job (state first).heads (state used).heads
         → IsJobRunByCrew state job extent range (told_by state (set scans 0 used)) workers share (set scans 0 used) new disk disk_after reached output
         → IsCrewReply state path extent workers share scans new disk disk_after reached output
-    crewed job extent range path workers share scans new first disk disk_after reached output whole some is comes read told texts ran = inl (record {
+    crewed job extent range path workers share scans new first disk disk_after reached output whole some is comes read told texts inspected ran = inl (record {
       job = job;
       comes = subst (λ o. HasComeTo o path (Ok job)) (told_first scans some is) (record { told = comes; read = read });
       planned = set scans 0 used;
       texts = texts;
+      inspected = inspected_first scans some is inspected;
       ran = subst (λ (r : FrameRange). IsJobRunByCrew state job extent r (told_by state scans) workers share (set scans 0 used) new disk disk_after reached output) whole
           (subst (λ o. IsJobRunByCrew state job extent range o workers share (set scans 0 used) new disk disk_after reached output) (told_still scans first some is told) ran);
     })
@@ -142,3 +144,8 @@ module _ {S : Type 0} (state : S → ScanState) where
         told_first : (scans : List S) → 0 < length scans → get_or scans 0 first ≡ first → (state first).world ≡ told_by state scans
         told_first [] some is = absurd (omega (arith, some))
         told_first (scan ∷ scans) some is = ap (λ s. (state s).world) (sym is)
+
+        inspected_first : (scans : List S) → 0 < length scans → get_or scans 0 first ≡ first → IsInspected (state first).world job (state first).heads (state used).heads
+            → (d : S) → IsInspected (told_by state scans) job (state (get_or scans 0 d)).heads (state (get_or (set scans 0 used) 0 d)).heads
+        inspected_first [] some is all d = absurd (omega (arith, some))
+        inspected_first (scan ∷ scans) some is all d = subst (λ s. IsInspected (state s).world job (state s).heads (state used).heads) (sym is) all

@@ -19,7 +19,7 @@ use Rattle.frame_fetch.specs.Ends.{IsChange}
 use Rattle.run_alone.specs.declared.report.Report.{Report}
 use Rattle.frame_fetch.specs.declared.run_end.RunEnd.{RunEnd}
 use Rattle.frame_fetch.specs.declared.run_end.RunEnd.TheVariants as ends
-use Rattle.project_job.specs.Asked.{HasLoadedFor}
+use Rattle.project_job.specs.Asked.{HasInspectedFor, HasLoadedFor, IsInspected}
 use Rattle.project_job.specs.Jobs.{IsOfJob, AreLoaded, cube_count}
 use Rattle.project_job.specs.Texts.{HasComeTo}
 use Rattle.outcome.specs.declared.Outcome.{Outcome}
@@ -78,6 +78,9 @@ module _ {S : Type 0} (state : S → ScanState) where
     -- the scans when it was planned, with the first of them
     pub planned : List S
     pub texts : HasFirstLoaded (2 + cube_count job.parts.project.cube) old planned
+    -- with it each needed source frame was inspected once; the crew asks for no head
+    pub inspected : (scan : S) → IsInspected (told_by state old) job (state (slice_index_or old 0 scan)).heads
+        (state (slice_index_or planned 0 scan)).heads
     pub ran : IsJobRunByCrew job extent (range_of extent (frames_of job)) (told_by state old) workers share
         planned new disk disk_after reached output
 
@@ -91,6 +94,9 @@ module _ {S : Type 0} (state : S → ScanState) where
     -- of a refused one the files up to the one that has the fault
     pub refused : (scan : S) → HasLoadedFor (told_by state old) path (state (slice_index_or old 0 scan)).loads
         (state (slice_index_or new 0 scan)).loads reached
+    -- and no head, but those of a job's frames up to the refused one
+    pub refused_heads : (scan : S) → HasInspectedFor (told_by state old) path (state (slice_index_or old 0 scan)).heads
+        (state (slice_index_or new 0 scan)).heads reached
     pub steady : reached ≢ outcome.SourceFault
         → (scan : S) → (state (slice_index_or new 0 scan)).faults ≡ (state (slice_index_or old 0 scan)).faults
     pub later : (scan : S) → (state (slice_index_or old 0 scan)).faults ≤ (state (slice_index_or new 0 scan)).faults

@@ -9,7 +9,7 @@ ghost use Rattle.run_alone.specs.Task.{IsTask};
 ghost use Rattle.project_run.specs.Calls.{IsLeftAlone, Replies};
 ghost use Rattle.project_run.specs.Run.{IsOfRun, IsShareCount};
 
-use cf_base::PathText;
+use cf_base::{PathText, WORKERS};
 use frame_range::{Extent, range_of};
 use outcome::Outcome;
 use project_job::planned;
@@ -53,10 +53,10 @@ pub fn run_crewed<S: Scans + Send, D: Disk + Send, R: Threads + Wait + Sync>(
     mut scans: Vec<S>,
     disk: D,
 ) -> CrewEnded<S, D>
-    requires scans { (1 ≤ vec_len scans) × (vec_len scans ≤ 16) }
+    requires scans { (1 ≤ vec_len scans) × (vec_len scans ≤ WORKERS) }
     requires one_world { AllPairs (λ a b. (S.state a).world ≡ (S.state b).world) scans.items }
     requires extent { IsExtent extent }
-    requires size { (1 ≤ size.workers) × (size.workers ≤ 16) × IsShareCount size.share }
+    requires size { (1 ≤ size.workers) × (size.workers ≤ WORKERS) × IsShareCount size.share }
     requires unused { ((D.state disk).faults ≡ 0) × (D.tells ≡ true → (D.state disk).history.now ≡ 0) }
     ensures reply { Replies result.result (OnDisk D.tells (D.state disk) (D.state result.disk)
         (IsCrewReply S.state path.now extent size.workers size.share scans.items result.scans.items)) }
@@ -100,9 +100,9 @@ fn run_job<S: Scans + Send, D: Disk + Send, R: Threads + Wait + Sync>(
     disk: D,
 ) -> CrewEnded<S, D>
     requires task { IsTask task.now.job.now task.now.share task.now }
-    requires scans { (1 ≤ vec_len scans) × (vec_len scans ≤ 16) }
+    requires scans { (1 ≤ vec_len scans) × (vec_len scans ≤ WORKERS) }
     requires one_world { All (λ scan. (S.state scan).world ≡ told_by S.state scans.items) scans.items }
-    requires workers { (1 ≤ workers) × (workers ≤ 16) }
+    requires workers { (1 ≤ workers) × (workers ≤ WORKERS) }
     requires infos { AreInfosOf task.now.job.now.parts (told_by S.state scans.items) task.now.job.now.infos }
     requires unused { ((D.state disk).faults ≡ 0) × (D.tells ≡ true → (D.state disk).history.now ≡ 0) }
     ensures ran { Replies result.result (OnDisk D.tells (D.state disk) (D.state result.disk)

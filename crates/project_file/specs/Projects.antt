@@ -14,6 +14,7 @@ use Rattle.std.proofs.Common.{lit≤}
 use Rattle.std.proofs.lemmas.Bool.{leb-true}
 use Rattle.std.specs.List.{list_any, All}
 use Rattle.std.specs.Str.{bytes_eq, IsUtf8}
+use Rattle.cf_base.specs.declared.limits.TheConstants.{LARGEST, LONGEST, PROJECT_BYTES}
 use Rattle.cf_base.specs.Text.{kept_if, is_name, is_path_text, path_text_of, title_text_of}
 use Rattle.cf_base.specs.Timing.{can_count, frames_in_day}
 use Rattle.cf_base.specs.declared.fail.Fail.{Fail}
@@ -64,10 +65,10 @@ abbrev pub rate_in : Members → Result Rate ProjectFault
 rate_in ms = needed (top 2) rate_at (get_member (codes "rate") ms)
 
 abbrev pub width_in : Members → Result ℕ ProjectFault
-width_in ms = needed (top 3) (whole_at (top 3) 1 4096) (get_member (codes "width") ms)
+width_in ms = needed (top 3) (whole_at (top 3) 1 LARGEST) (get_member (codes "width") ms)
 
 abbrev pub height_in : Members → Result ℕ ProjectFault
-height_in ms = needed (top 4) (whole_at (top 4) 1 4096) (get_member (codes "height") ms)
+height_in ms = needed (top 4) (whole_at (top 4) 1 LARGEST) (get_member (codes "height") ms)
 
 -- a code, 0 to 1023
 abbrev pub Code : Type 0
@@ -181,7 +182,7 @@ reel_of rate reel ms = do
   prefix ← needed (place reel 11) (text_at (place reel 11) prefix_of) (get_member (codes "prefix") ms)
   mode ← optional NonDrop (mode_at reel rate) (get_member (codes "drop") ms)
   start ← needed (place reel 12) (text_at (place reel 12) (label_number rate mode)) (get_member (codes "start") ms)
-  frames ← needed (place reel 14) (whole_at (place reel 14) 1 2592000) (get_member (codes "frames") ms)
+  frames ← needed (place reel 14) (whole_at (place reel 14) 1 LONGEST) (get_member (codes "frames") ms)
   file ← optional start (whole_at (place reel 15) 0 9999999) (get_member (codes "file") ms)
   Ok (record { name = name; prefix = prefix; start = start; day = frames_in_day rate mode; frames = frames; file = file })
 
@@ -257,11 +258,11 @@ project_of ms = do
 
 -- the bytes are the text of this table
 abbrev pub IsRead : List ℕ → Members → Type 0
-IsRead text ms = (length text ≤ 1048576) × IsUtf8 text × (parse_document text ≡ Some ms)
+IsRead text ms = (length text ≤ PROJECT_BYTES) × IsUtf8 text × (parse_document text ≡ Some ms)
 
 -- the bytes are too many, or the text of no table
 abbrev pub IsUnread : List ℕ → Type 0
-IsUnread text = (1048576 < length text) ⊎ (IsUtf8 text → parse_document text ≡ None)
+IsUnread text = (PROJECT_BYTES < length text) ⊎ (IsUtf8 text → parse_document text ≡ None)
 
 -- a text that isn't read comes to its fault, and one that is read to what its table comes to
 abbrev pub Means : List ℕ → Result Project ProjectFault → Type 0
@@ -283,12 +284,12 @@ pub record IsReelInRange (reel : ReelEntry) : Type 0 where
   pub prefix : length reel.prefix ≤ 200
   pub start : reel.start < reel.day
   pub some : 1 ≤ reel.frames
-  pub most : reel.frames ≤ 2592000
+  pub most : reel.frames ≤ LONGEST
   pub file : reel.file ≤ 9999999
 
 pub record IsInRange (project : Project) : Type 0 where
-  pub width : (1 ≤ project.width) × (project.width ≤ 4096)
-  pub height : (1 ≤ project.height) × (project.height ≤ 4096)
+  pub width : (1 ≤ project.width) × (project.width ≤ LARGEST)
+  pub height : (1 ≤ project.height) × (project.height ≤ LARGEST)
   pub bands : (1 ≤ project.bands) × (project.bands ≤ 64)
   pub few : length project.reels ≤ 1024
   pub cuts : length project.cuts ≤ 998

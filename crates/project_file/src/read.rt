@@ -14,7 +14,7 @@ use crate::settings::{
     bands_in, black_in, cube_in, edl_in, height_in, rate_in, title_in, width_in,
 };
 use crate::unknown::{knows_reels, knows_top};
-use cf_base::{Fail, ReelRows};
+use cf_base::{Fail, PROJECT_BYTES, ReelRows};
 use std::alloc::Global;
 use toml::Table;
 
@@ -55,7 +55,7 @@ fn read_table(alloc: Global, text: &[u8]) -> Result<Table, Fail<ProjectFault>>
     ensures read { IfOk result (λ table. IsRead text.now (table_view table)) }
     ensures unread { IfErr result (λ fail. IsTextFault text.now fail) }
 {
-    if text.len() > 1_048_576 {
+    if text.len() > PROJECT_BYTES {
         return Err(Fail::Fault(Place::top(0).fault(ProjectKind::Text)));
     }
     match toml::table_from_slice(alloc, text) {

@@ -12,7 +12,7 @@ ghost use Rattle.project_file.specs.Projects.{reel_of, reels_at, reels_from, ree
 
 use crate::fault::{Place, ProjectFault, ProjectKind};
 use crate::keys::{flag_at, member, whole_at};
-use cf_base::{Fail, Mode, Name, PathText, Rate, ReelEntry, can_count, day};
+use cf_base::{Fail, LONGEST, Mode, Name, PathText, Rate, ReelEntry, can_count, day};
 use cf_timecode::{counting_laws, frames_of, parse};
 use std::alloc::Global;
 use toml::{Table, Value};
@@ -224,13 +224,13 @@ pub fn label_number(rate: Rate, mode: Mode, bytes: &[u8]) -> Option<u32>
 
 /// Key 14.
 fn frames_in(place: Place, table: &Table) -> Result<u32, ProjectFault>
-    ensures frames { result ≡ needed place (whole_at place 1 2592000) (get_member (codes "frames") (table_view table.now)) }
-    ensures range { IfOk result (λ n. (1 ≤ n) × (n ≤ 2592000)) }
+    ensures frames { result ≡ needed place (whole_at place 1 LONGEST) (get_member (codes "frames") (table_view table.now)) }
+    ensures range { IfOk result (λ n. (1 ≤ n) × (n ≤ LONGEST)) }
 {
     let Some(value) = member(table, "frames") else {
         return Err(place.fault(ProjectKind::MissingKey));
     };
-    whole_at(place, 1, 2_592_000, value)
+    whole_at(place, 1, LONGEST, value)
 }
 
 /// Key 15.

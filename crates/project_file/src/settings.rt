@@ -9,7 +9,7 @@ ghost use Rattle.cf_base.specs.Text.{path_text_of};
 
 use crate::fault::{Place, ProjectFault, ProjectKind};
 use crate::keys::{member, number_between, whole_at};
-use cf_base::{PathText, Rate, Rgb, TitleText};
+use cf_base::{LARGEST, PathText, Rate, Rgb, TitleText};
 use toml::{Table, Value};
 
 /// Key 1.
@@ -74,17 +74,17 @@ fn needed_whole(
 /// Key 3.
 pub(crate) fn width_in(table: &Table) -> Result<u32, ProjectFault>
     ensures width { result ≡ width_in (table_view table.now) }
-    ensures range { IfOk result (λ n. (1 ≤ n) × (n ≤ 4096)) }
+    ensures range { IfOk result (λ n. (1 ≤ n) × (n ≤ LARGEST)) }
 {
-    needed_whole(Place::top(3), 1, 4096, table, "width")
+    needed_whole(Place::top(3), 1, LARGEST, table, "width")
 }
 
 /// Key 4.
 pub(crate) fn height_in(table: &Table) -> Result<u32, ProjectFault>
     ensures height { result ≡ height_in (table_view table.now) }
-    ensures range { IfOk result (λ n. (1 ≤ n) × (n ≤ 4096)) }
+    ensures range { IfOk result (λ n. (1 ≤ n) × (n ≤ LARGEST)) }
 {
-    needed_whole(Place::top(4), 1, 4096, table, "height")
+    needed_whole(Place::top(4), 1, LARGEST, table, "height")
 }
 
 /// Key 5.

@@ -5,10 +5,16 @@
 --     loads_of refusal cube      how many files are loaded before the refusal, of a project that names this cube
 --     HasLoadedFor told path before after reached      so many were loaded, where a refusal was reached
 --     HasInspectedFor told path before after reached      and no head was asked for, but those of a job's frames up to the refused one
-use Rattle.std.specs.Prelude.{◌≡◌, ℕ, ◌+◌, List, Option, Some, None, IfOk, Result, Ok}
+-- * cost of a plan: one head of each source frame that the job needs, whatever it comes to behind the plan
+--     IsInspected told job before after      each needed source frame was inspected once
+--     AreHeadsFor told path before after reached      which heads were asked for, where this was reached
+use Rattle.std.specs.Prelude.{◌≡◌, ℕ, ◌+◌, List, [], length, Option, Some, None, IfOk, Result, Ok}
 use Rattle.scan_source.specs.World.{World}
-use Rattle.conform_job.specs.Answers.{count_after}
+use Rattle.conform_job.specs.Answers.{count_after, Grows, HeadsGrow}
+use Rattle.conform_job.specs.Asks.{asks_of}
 use Rattle.conform_job.specs.Ended.{HasAsked}
+use Rattle.conform_job.specs.Infos.{HasEachOnce}
+use Rattle.conform_job.specs.Job.{JobData}
 use Rattle.conform_job.specs.declared.parts.JobFault.{JobFault}
 use Rattle.conform_job.specs.declared.parts.JobParts.{JobParts}
 use Rattle.project_file.specs.Projects.{Means}
@@ -20,7 +26,7 @@ use Rattle.outcome.specs.declared.Refused.{Refused}
 use Rattle.outcome.specs.declared.Refused.TheVariants as refused
 use Rattle.outcome.specs.declared.Which.TheVariants as which
 use Rattle.project_job.specs.Jobs.{cube_count, FilesRead, parts_from}
-use Rattle.project_job.specs.Texts.{ByFiles}
+use Rattle.project_job.specs.Texts.{ByFiles, HasComeTo}
 
 -- The project is loaded first, then the list, then the cube if one is named; a job is judged behind them all. A file that stands
 -- alone is no project's.
@@ -73,3 +79,30 @@ WereInspected told path before after other = after ≡ before
 
 abbrev pub HasInspectedFor : Option World → List ℕ → (before after : ℕ) → Outcome → Type 0
 HasInspectedFor told path before after reached = IfRefused reached (WereInspected told path before after)
+
+-- Each source frame that the job needs was inspected once: the infos have one entry for each needed key.
+pub record IsInspected (told : Option World) (job : JobData) (before after : ℕ) : Type 0 where
+  pub needed : Grows job.parts told (asks_of job.parts.timeline) [] job.infos
+  pub once : HasEachOnce job.infos
+  pub heads : HeadsGrow before after 0 (length job.infos)
+
+-- the project came to a job, and each source frame that this needs was inspected once
+pub record HasInspectedAll (told : Option World) (path : List ℕ) (before after : ℕ) : Type 0 where
+  pub job : JobData
+  pub comes : HasComeTo told path (Ok job)
+  pub inspected : IsInspected told job before after
+
+-- the outcomes that come only once a project has come to its job
+abbrev pub IsBehindPlan : Outcome → Type 0
+IsBehindPlan outcome.Done = Unit {0}
+IsBehindPlan (outcome.OtherJob kept wanted) = Unit {0}
+IsBehindPlan (outcome.BadLedger len) = Unit {0}
+IsBehindPlan (outcome.Damaged frame kept found) = Unit {0}
+IsBehindPlan (outcome.Changed reel key was now) = Unit {0}
+IsBehindPlan outcome.DiskFault = Unit {0}
+IsBehindPlan other = ⊥
+
+-- Of a refused project those up to the refused frame, and behind a plan those of the whole job.
+pub record AreHeadsFor (told : Option World) (path : List ℕ) (before after : ℕ) (reached : Outcome) : Type 0 where
+  pub refused : HasInspectedFor told path before after reached
+  pub planned : IsBehindPlan reached → HasInspectedAll told path before after

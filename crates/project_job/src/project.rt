@@ -18,7 +18,7 @@ ghost use Rattle.scan_source.specs.State.{LeavesScan};
 ghost use Rattle.outcome.specs.declared.Refused.TheVariants as refused;
 
 use crate::loads::load;
-use cf_base::{EventList, Fail, PathText, Rate};
+use cf_base::{CUBE_BYTES, EventList, Fail, LIST_BYTES, PROJECT_BYTES, PathText, Rate};
 use conform_job::{Job, JobFault, JobParts, job_digest};
 use cube_reader::read_cube;
 use edl_events::read_list;
@@ -31,13 +31,13 @@ use std::alloc::Global;
 use tetra_look::Look;
 
 /// One byte more than the longest project has.
-const MOST_PROJECT: u64 = 1_048_577;
+const MOST_PROJECT: u64 = PROJECT_BYTES as u64 + 1;
 
 /// One byte more than the longest list has.
-pub const MOST_LIST: u64 = 4_194_305;
+pub const MOST_LIST: u64 = LIST_BYTES as u64 + 1;
 
 /// One byte more than the longest cube has.
-const MOST_CUBE: u64 = 100_663_297;
+const MOST_CUBE: u64 = CUBE_BYTES as u64 + 1;
 
 /// A project and its text.
 #[derive(Drop)]

@@ -1,10 +1,13 @@
 -- Where a project is refused, its job wasn't run or looked at.
-use Rattle.std.proofs.Common.{◌≡◌, ◌≢◌, ℕ, List, Vec, Global, Option, Result, Ok, Err, IfErr, MatchResult, refl, sym, subst, arith, inl, inr}
+use Rattle.std.proofs.Common.{◌≡◌, ◌≢◌, ℕ, List, [], length, Vec, Global, Option, Result, Ok, Err, IfErr, IfSome, MatchResult, refl, sym, subst, arith, inl, inr}
 use Rattle.std.specs.Prelude.{◌⊎◌}
 use Rattle.cf_base.specs.declared.reel.ReelEntry.{ReelEntry}
 use Rattle.scan_source.specs.State.{LeavesScan, ScanState}
-use Rattle.scan_source.specs.World.{World}
+use Rattle.scan_source.specs.World.{World, file_at}
 use Rattle.scan_source.proofs.Leaving.{leaves_as, leaves_done}
+use Rattle.conform_job.specs.Answers.{Grows, HeadsGrow}
+use Rattle.conform_job.specs.Asks.{asks_of}
+use Rattle.conform_job.specs.Infos.{HasEachOnce}
 use Rattle.conform_job.specs.Job.{JobData}
 use Rattle.resume_ledger.specs.Look.{ViewState}
 use Rattle.resume_ledger.specs.declared.attach.OpenFault.{OpenFault}
@@ -16,8 +19,9 @@ use Rattle.frame_fetch.specs.declared.run_end.RunEnd.{RunEnd}
 use Rattle.frame_fetch.specs.declared.run_end.RunEnd.TheVariants as ends
 use Rattle.outcome.specs.declared.Outcome.{Outcome}
 use Rattle.outcome.specs.declared.Outcome.TheVariants as outcomes
-use Rattle.project_job.specs.Asked.{HasInspectedFor}
-use Rattle.project_job.specs.Jobs.{IsOfJob}
+use Rattle.project_job.specs.Asked.{AreHeadsFor, HasInspectedAll, HasInspectedFor, IsBehindPlan}
+use Rattle.project_job.specs.Jobs.{HasPlanned, IsOfJob}
+use Rattle.project_job.specs.Texts.{ByFiles, IsByTexts}
 use Rattle.project_run.specs.Look.{HasFound, IsBehindLook, outcome_of_fault}
 use Rattle.project_run.specs.Quality.{IsTabled}
 use Rattle.project_run.specs.Calls.{IsLeftAlone, IsRefusal, LeavesDiskFor, LeavesScanFor}
@@ -120,29 +124,79 @@ pub left_by : {A D : Type 0} (r : Result A Outcome) (P : A → Type 0) (Q : Outc
 left_by (Ok a) P Q before after is none = tt
 left_by (Err reached) P Q before after is none = λ refused. absurd (none reached is refused)
 
-pub asked_by : {A : Type 0} (r : Result A Outcome) (P : A → Type 0) (Q : Outcome → Type 0) (told : Option World) (path : List ℕ) (before after : ℕ) → MatchResult r P Q
-    → ((reached : Outcome) → Q reached → IsRefusal reached → ⊥) → IfErr r (HasInspectedFor told path before after)
-asked_by (Ok a) P Q told path before after is none = tt
-asked_by (Err reached) P Q told path before after is none = λ refusal same. absurd (none reached is (subst IsRefusal (sym same) tt))
+-- a plan asks for one head of each needed frame
+pub planned_all : (told : Option World) (path : List ℕ) (job : JobData) (before after : ℕ) → IfSome told (λ world. HasPlanned (file_at world) path (Ok job))
+    → ByFiles told (λ files. IsByTexts files path (Ok job)) → Grows job.parts told (asks_of job.parts.timeline) [] job.infos → HasEachOnce job.infos
+    → HeadsGrow before after 0 (length job.infos) → HasInspectedAll told path before after
+planned_all told path job before after comes read needed once heads = record {
+  job = job;
+  comes = record { told = comes; read = read };
+  inspected = record { needed = needed; once = once; heads = heads };
+}
+
+-- behind a plan nothing more is asked for
+pub heads_behind : {A : Type 0} (r : Result A Outcome) (P : A → Type 0) (Q : Outcome → Type 0) (told : Option World) (path : List ℕ) (before after : ℕ) → HasInspectedAll told path before after
+    → MatchResult r P Q → ((reached : Outcome) → Q reached → IsRefusal reached → ⊥)
+    → MatchResult r (λ _. AreHeadsFor told path before after outcomes.Done) (AreHeadsFor told path before after)
+heads_behind (Ok a) P Q told path before after all is none = record { refused = λ refusal same. absurd (cc); planned = λ _. all }
+heads_behind (Err reached) P Q told path before after all is none = record {
+  refused = λ refusal same. absurd (none reached is (subst IsRefusal (sym same) tt));
+  planned = λ _. all;
+}
+
+-- of a command that is done with the plan
+pub heads_planned : (told : Option World) (path : List ℕ) (job : JobData) (before after : ℕ) → IfSome told (λ world. HasPlanned (file_at world) path (Ok job))
+    → ByFiles told (λ files. IsByTexts files path (Ok job)) → Grows job.parts told (asks_of job.parts.timeline) [] job.infos → HasEachOnce job.infos
+    → HeadsGrow before after 0 (length job.infos) → AreHeadsFor told path before after outcomes.Done
+heads_planned told path job before after comes read needed once heads = record {
+  refused = λ refusal same. absurd (cc);
+  planned = λ _. planned_all told path job before after comes read needed once heads;
+}
+
+-- what stands in the place of a job comes behind no plan
+pub unbehind : (reached : Outcome) → IsOfJob reached → IsBehindPlan reached → ⊥
+unbehind outcomes.Done kind behind = kind
+unbehind outcomes.Usage kind behind = kind
+unbehind (outcomes.SinkFault instead) kind behind = kind
+unbehind (outcomes.Refused refusal) kind behind = behind
+unbehind (outcomes.OtherJob kept wanted) kind behind = kind
+unbehind (outcomes.BadLedger len) kind behind = kind
+unbehind (outcomes.OldRefused refusal) kind behind = kind
+unbehind (outcomes.OldOtherJob kept wanted) kind behind = kind
+unbehind (outcomes.OldBadLedger len) kind behind = kind
+unbehind (outcomes.Damaged frame kept found) kind behind = kind
+unbehind (outcomes.Changed reel key was now) kind behind = kind
+unbehind outcomes.SourceFault kind behind = behind
+unbehind outcomes.DiskFault kind behind = kind
+unbehind outcomes.NoMemory kind behind = behind
+
+-- no job was planned
+pub heads_unplanned : (reached : Outcome) (told : Option World) (path : List ℕ) (before after : ℕ) → IsOfJob reached → HasInspectedFor told path before after reached
+    → AreHeadsFor told path before after reached
+heads_unplanned reached told path before after kind asked = record { refused = asked; planned = λ behind. absurd (unbehind reached kind behind) }
 
 -- ---- what is left of the scan and of the disk
 
 module _ (path : List ℕ) (before after : ScanState) where
   pub scan_left : (result : Result (Vec ℕ Global) Outcome) (P : Vec ℕ Global → Type 0) (Q : Outcome → Type 0)
-      → LeavesScan (result ≡ Err outcomes.SourceFault) before after
+      → LeavesScan (result ≡ Err outcomes.SourceFault) before after → HasInspectedAll before.world path before.heads after.heads
       → MatchResult result P Q → ((reached : Outcome) → Q reached → IsRefusal reached → ⊥) → LeavesScanFor path result before after
-  scan_left result P Q lent is none = record { lent = lent; refused_heads = asked_by result P Q before.world path before.heads after.heads is none }
+  scan_left result P Q lent all is none = record { lent = lent; heads = heads_behind result P Q before.world path before.heads after.heads all is none }
 
   -- a look at the folder behind the plan makes no call on the scan
   pub scan_looked : {J : Type 0} (job : J) (result : Result (Vec ℕ Global) Outcome) (P : Vec ℕ Global → Type 0) (Q : Outcome → Type 0)
-      → LeavesScan (◌≡◌ {A = Result J Outcome} (Ok job) (Err outcomes.SourceFault)) before after → result ≢ Err outcomes.SourceFault
+      → LeavesScan (◌≡◌ {A = Result J Outcome} (Ok job) (Err outcomes.SourceFault)) before after → HasInspectedAll before.world path before.heads after.heads
+      → result ≢ Err outcomes.SourceFault
       → MatchResult result P Q → ((reached : Outcome) → Q reached → IsRefusal reached → ⊥) → LeavesScanFor path result before after
-  scan_looked job result P Q planned never is none = scan_left result P Q (leaves_done (λ is. cc) never planned) is none
+  scan_looked job result P Q planned all never is none = scan_left result P Q (leaves_done (λ is. cc) never planned) all is none
 
   -- no job was planned
   pub scan_unplanned : {J : Type 0} (reached : Outcome) → LeavesScan (◌≡◌ {A = Result J Outcome} (Err reached) (Err outcomes.SourceFault)) before after
-      → HasInspectedFor before.world path before.heads after.heads reached → LeavesScanFor path (Err reached) before after
-  scan_unplanned reached planned asked = record { lent = leaves_as (λ is. cc) (λ is. cc) planned; refused_heads = asked }
+      → HasInspectedFor before.world path before.heads after.heads reached → IsOfJob reached → LeavesScanFor path (Err reached) before after
+  scan_unplanned reached planned asked kind = record {
+    lent = leaves_as (λ is. cc) (λ is. cc) planned;
+    heads = heads_unplanned reached before.world path before.heads after.heads kind asked;
+  }
 
 module _ {D : Type 0} (state : D → DiskState) where
   pub disk_left : (result : Result (Vec ℕ Global) Outcome) (P : Vec ℕ Global → Type 0) (Q : Outcome → Type 0) (before after : D)

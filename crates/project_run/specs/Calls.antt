@@ -18,7 +18,7 @@ use Rattle.scan_source.specs.World.{World}
 use Rattle.printed_lines.specs.Lines.{line_of}
 use Rattle.outcome.specs.declared.Outcome.{Outcome}
 use Rattle.outcome.specs.declared.Outcome.TheVariants as outcome
-use Rattle.project_job.specs.Asked.{HasInspectedFor}
+use Rattle.project_job.specs.Asked.{AreHeadsFor}
 
 -- what it came to: its output, or an outcome with its line
 abbrev pub Replies : Result (Vec ℕ Global) Outcome → (Outcome → List ℕ → Type 0) → Type 0
@@ -43,10 +43,11 @@ IsRefusal other = ⊥
 abbrev pub IsLeftAlone : {A : Type 0} → A → A → Outcome → Type 0
 IsLeftAlone before after reached = IsRefusal reached → after ≡ before
 
--- Of a refused project no more heads were asked for than its refusal determines.
+-- Of a refused project no more heads were asked for than its refusal determines, and behind a plan one of each needed frame.
 pub record LeavesScanFor (path : List ℕ) (result : Result (Vec ℕ Global) Outcome) (before after : ScanState) : Type 0 where
   pub lent : LeavesScan (result ≡ Err outcome.SourceFault) before after
-  pub refused_heads : IfErr result (HasInspectedFor before.world path before.heads after.heads)
+  pub heads : MatchResult result (λ output. AreHeadsFor before.world path before.heads after.heads outcome.Done)
+      (AreHeadsFor before.world path before.heads after.heads)
 
 pub record LeavesDiskFor {D : Type 0} (state : D → DiskState) (result : Result (Vec ℕ Global) Outcome) (before after : D) : Type 0 where
   pub lent : LeavesDisk (result ≡ Err outcome.DiskFault) (state before) (state after)

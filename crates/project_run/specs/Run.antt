@@ -7,6 +7,7 @@
 --     IsUnplanned      it came to none, and the folder is as it was
 use Rattle.std.specs.Prelude.{◌≡◌, ◌⊎◌, ℕ, ◌+◌, ◌-◌, ◌≤◌, List, [], ◌∷◌, ◌++◌, codes, decimal, slice_get, unwrap_or, Option, Some, Ok, Err}
 use Rattle.std.specs.Option.{option_map}
+use Rattle.cf_base.specs.declared.limits.TheConstants.{SHARED}
 use Rattle.cf_base.specs.Count.{HasRisen}
 use Rattle.cf_base.specs.declared.reel.ReelEntry.{ReelEntry}
 use Rattle.scan_source.specs.World.{World}
@@ -35,7 +36,7 @@ use Rattle.outcome.specs.declared.Outcome.TheVariants as outcome
 
 -- from 1 to 16
 abbrev pub IsShareCount : ℕ → Type 0
-IsShareCount n = (1 ≤ n) × (n ≤ 16)
+IsShareCount n = (1 ≤ n) × (n ≤ SHARED)
 
 -- the frames of the reel, those that were acknowledged at the opening, and the rendered ones
 abbrev pub run_text : Report → List ℕ

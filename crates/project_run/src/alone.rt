@@ -72,6 +72,7 @@ fn run_job<S: Scans, D: Disk>(
     ensures kind { MatchResult result (λ text. Unit {0}) IsOfRun }
 
     ensures scan { LeavesScan (result ≡ Err Outcome.SourceFault) (S.state scan.old) (S.state scan.new) }
+    ensures heads { (S.state scan.new).heads ≡ (S.state scan.old).heads }
 
     ensures disk { LeavesDisk (result ≡ Err Outcome.DiskFault) (D.state disk.old) (D.state disk.new) }
 {

@@ -16,8 +16,8 @@ use cf_base::PathText;
 use conform_job::Job;
 use outcome::Outcome;
 use project_job::planned;
-use reel_disk::Disk;
-use reel_qc::{SheetDone, SheetFault, Tone, make_sheet};
+use reel_disk::{Disk, DiskFail};
+use reel_qc::{SheetDone, Tone, make_sheet};
 use resume_ledger::{Ledger, LedgerView};
 use scan_source::Scans;
 use std::alloc::{AllocError, Global};
@@ -99,8 +99,8 @@ fn sheeted<D: Disk>(
             Ok(text) => Ok(text),
             Err(_) => Err(Outcome::NoMemory),
         },
-        Err(SheetFault::DiskFault) => Err(Outcome::DiskFault),
-        Err(SheetFault::NoMemory) => Err(Outcome::NoMemory),
+        Err(DiskFail::DiskFault) => Err(Outcome::DiskFault),
+        Err(DiskFail::NoMemory) => Err(Outcome::NoMemory),
     }
 }
 

@@ -13,8 +13,8 @@ use cf_base::PathText;
 use conform_job::Job;
 use outcome::Outcome;
 use project_job::planned;
-use reel_disk::Disk;
-use reel_qc::{Counter, Probe, QcFault, quality_table};
+use reel_disk::{Disk, DiskFail};
+use reel_qc::{Counter, Probe, quality_table};
 use resume_ledger::{Ledger, LedgerView};
 use scan_source::Scans;
 use std::alloc::Global;
@@ -99,7 +99,7 @@ fn counted<D: Disk, C: Counter>(
 {
     match quality_table(alloc, counter, probes, disk, job, view) {
         Ok(text) => Ok(text),
-        Err(QcFault::DiskFault) => Err(Outcome::DiskFault),
-        Err(QcFault::NoMemory) => Err(Outcome::NoMemory),
+        Err(DiskFail::DiskFault) => Err(Outcome::DiskFault),
+        Err(DiskFail::NoMemory) => Err(Outcome::NoMemory),
     }
 }

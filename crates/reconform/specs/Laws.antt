@@ -3,6 +3,7 @@
 --   on
 --     EqualPlansLookAlike      frames of one plan in alike jobs with one look over one world have equal pixels
 use Rattle.std.specs.Prelude.{◌≡◌, ℕ, ◌≤◌, List, length, drop}
+use Rattle.cf_base.specs.declared.limits.TheConstants.{HEADER}
 use Rattle.conform_job.specs.Job.{JobData}
 use Rattle.conform_job.specs.Refusals.{Files}
 use Rattle.frame_render.specs.Frame.{frame_file}
@@ -14,7 +15,7 @@ HasTitle job = length job.parts.project.title ≤ 199
 
 -- the bytes of a frame's file from 2048 on: its pixels
 abbrev pub pixels_of : JobData → Files → ℕ → List ℕ
-pixels_of job files i = drop 2048 (frame_file job files i)
+pixels_of job files i = drop HEADER (frame_file job files i)
 
 abbrev pub EqualPlansLookAlike : Type 0
 EqualPlansLookAlike = (a b : JobData) (files : Files) (i j : ℕ) → HasTitle a → HasTitle b

@@ -42,10 +42,7 @@ impl Takeover<'_, '_, '_, '_> {
     {
         let mut next = from;
         for n in 0..rooms.len() {
-            match self.read_next::<N, O, D, E>(old, reel, next, &mut rooms[n]) {
-                Ok(behind) => next = behind,
-                Err(DiskFault) => return Err(DiskFault),
-            }
+            next = self.read_next::<N, O, D, E>(old, reel, next, &mut rooms[n])?;
         }
         Ok(next)
     }

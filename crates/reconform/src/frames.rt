@@ -15,6 +15,7 @@ use crate::ahead::{free_place, place_of};
 use crate::intact::read_intact;
 use crate::plan::plan_at;
 use crate::takeover::Takeover;
+use cf_base::HEADER;
 use conform_job::Work;
 use frame_hash::Room;
 use frame_render::{Rendered, rehead};
@@ -38,7 +39,7 @@ impl Takeover<'_, '_, '_, '_> {
         ensures intact { IfOk result (λ is. D.tells ≡ true
             → (is ≡ true) ↔ HasIntactDonor N.job O.job self.now.view.now (view_of (D.state old.old).history) i) }
         ensures pixels { IfOk result (λ is. is ≡ true → IfSome N.files (λ world.
-            drop 2048 file.new ≡ drop 2048 (frame_file N.job (file_at world) i))) }
+            drop HEADER file.new ≡ drop HEADER (frame_file N.job (file_at world) i))) }
         ensures file { length file.new ≡ frame_size O.job }
         ensures reads { OnlyReads D.tells (D.state old.old) (D.state old.new) }
         ensures disk { LeavesDisk (IsErr result) (D.state old.old) (D.state old.new) }

@@ -13,6 +13,7 @@ use crate::adopting::AdoptFault;
 use crate::donors::Donors;
 use crate::plan::are_alike;
 use crate::takeover::Takeover;
+use cf_base::HEADER;
 use conform_job::{Job, Work};
 use frame_hash::{Hasher, Room, rooms_of};
 use reel_disk::{Disk, DiskFault};
@@ -334,7 +335,7 @@ fn frame_len(job: &Job) -> usize
     ensures { result ≡ frame_size job.now }
 {
     job.recall();
-    2048 + 4 * (job.width() as usize * job.height() as usize)
+    HEADER + 4 * (job.width() as usize * job.height() as usize)
 }
 
 /// Adopts what can be, where the two jobs are alike.

@@ -8,6 +8,7 @@
 use Rattle.std.specs.Prelude.{◌≡◌, ℕ, ◌-◌, ◌≤◌, min, max, Bool, nat_lt, if◌then◌else◌, List, [], ◌∷◌, map, take, slice_get, Option, Some, None, Result, Ok, Err}
 use Rattle.std.specs.Option.{option_map}
 use Rattle.std.specs.List.{filter, filter_map, find, enumerate_from}
+use Rattle.cf_base.specs.declared.limits.TheConstants.{FRAMES}
 use Rattle.cf_base.specs.declared.timing.Rate.{Rate}
 use Rattle.cf_base.specs.declared.timing.Mode.{Mode}
 use Rattle.cf_base.specs.declared.event.EventRec.{EventRec}
@@ -59,11 +60,11 @@ unless_overlap (Some fault) other = Err fault
 abbrev pub timeline_of : Rate → EventList → Result RecordReel TimelineFault
 timeline_of rate list =
     unless_overlap (first_overlap list.events)
-    (if nat_lt 262144 (frame_count list.events) then Err TooLongReel else Ok
+    (if nat_lt FRAMES (frame_count list.events) then Err TooLongReel else Ok
     (record { rate = rate; mode = list.mode; events = list.events }))
 
 -- what holds of every timeline
 pub record IsAccepted (rate : Rate) (mode : Mode) (events : List EventRec) : Type 0 where
   pub made : IsWellMade rate mode events
   pub apart : first_overlap events ≡ None
-  pub short : frame_count events ≤ 262144
+  pub short : frame_count events ≤ FRAMES

@@ -6,6 +6,7 @@
 --     shot_of rate events n      the shot of frame n
 --     IsShotIn events shot      what every shot of a well-made list keeps
 use Rattle.std.specs.Prelude.{◌≡◌, ℕ, zero, suc, ℤ, pos, ◌+ℤ◌, ◌-◌, ◌<◌, ◌≤◌, ◌&&◌, Bool, nat_lt, nat_le, if◌then◌else◌, IsTrue, List, length, slice_get, Option, Some, None, position}
+use Rattle.cf_base.specs.declared.limits.TheConstants.{LONGEST}
 use Rattle.cf_base.specs.declared.timing.Rate.{Rate}
 use Rattle.cf_base.specs.declared.event.Transition.{Transition}
 use Rattle.cf_base.specs.declared.event.Transition.TheVariants.{Cut, Dissolve, Wipe}
@@ -82,7 +83,7 @@ pub record IsTransitionIn (events : List EventRec) (old new : Side) (transition 
   pub new_side : IsSideIn events new
   pub lasts : Lasts d transition
   pub within : k < d
-  pub day : d ≤ 2592000
+  pub day : d ≤ LONGEST
 
 abbrev pub IsShotIn : List EventRec → Shot → Type 0
 IsShotIn events Gap = Unit {0}

@@ -9,7 +9,7 @@ ghost use Rattle.record_timeline.specs.Laws.{SharingIsMeeting, FindsMeetings, Na
 ghost use Rattle.record_timeline.specs.Laws.{MadeCovers, HoldsCovered, EndsWithin, BeginsCovered, EndsCovered, ReelIsLeast};
 ghost use Rattle.record_timeline.specs.Laws.{ShowsCover, ShowsGap};
 
-use cf_base::{EventList, EventRec, Fail, FrameNo, Mode, Rate, Transition};
+use cf_base::{EventList, EventRec, FRAMES, Fail, FrameNo, Mode, Rate, Transition};
 use shots::{event_before, shot_within};
 use spans::{RecordSpan, covering, end_frame, first_frame, first_overlap, sorted_spans};
 use std::alloc::Global;
@@ -42,9 +42,6 @@ pub enum Shot {
         d: u32,
     },
 }
-
-/// How many frames a reel has at most.
-const MOST_FRAMES: u32 = 262_144;
 
 /// Why a list has no timeline.
 #[derive(Clone, Copy, Debug, PartialEq, Eq)]
@@ -105,7 +102,7 @@ impl Timeline {
         }
         let first = first_frame(events);
         let count = end_frame(events).saturating_sub(first);
-        if MOST_FRAMES < count {
+        if FRAMES < count {
             return Err(Fail::Fault(TimelineFault::TooLongReel));
         }
         Ok(Timeline {
@@ -129,7 +126,7 @@ impl Timeline {
     pub fn count(&self) -> u32
         ensures count { result ≡ frame_count self.now.events }
         ensures some { 1 ≤ result }
-        ensures most { result ≤ 262144 }
+        ensures most { result ≤ FRAMES }
     {
         self.count
     }

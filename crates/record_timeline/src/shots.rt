@@ -4,7 +4,7 @@ ghost use Rattle.std.specs.Option.{ForSome, option_copied};
 ghost use Rattle.record_timeline.specs.Shots.{side_of, shot_within, duration_of, event_before};
 
 use crate::{Shot, Side};
-use cf_base::{EventRec, Rate, Transition};
+use cf_base::{EventRec, LONGEST, Rate, Transition};
 use speed_map::source_offset;
 
 /// The event before a place, if there is one.
@@ -23,7 +23,7 @@ pub fn event_before(events: &[EventRec], place: usize) -> Option<&EventRec>
 /// What an event shows at record frame `n`, also past its end.
 pub fn side_of(rate: Rate, place: u32, e: &EventRec, n: u32) -> Side
     requires begun { e.now.rec_in ≤ n }
-    requires frames { n ≤ 2592000 }
+    requires frames { n ≤ LONGEST }
     requires speed { IfSome e.now.speed (λ s. nat_abs s ≤ 999999) }
     ensures { result ≡ side_of rate place e.now n }
 {
@@ -44,7 +44,7 @@ pub fn side_of(rate: Rate, place: u32, e: &EventRec, n: u32) -> Side
 /// The shot of a record frame that an event covers, with the event before it in the list if there is one.
 pub fn shot_within(rate: Rate, place: u32, e: &EventRec, old: Option<&EventRec>, n: u32) -> Shot
     requires begun { e.now.rec_in ≤ n }
-    requires frames { n ≤ 2592000 }
+    requires frames { n ≤ LONGEST }
     requires speed { IfSome e.now.speed (λ s. nat_abs s ≤ 999999) }
     requires speed_before { ForSome old (λ o. IfSome o.now.speed (λ s. nat_abs s ≤ 999999)) }
     requires place { ForSome old (λ o. 1 ≤ place) }

@@ -6,6 +6,7 @@ ghost use Rattle.reel_disk.specs.Disk.{view_of, HasLength, HasRead, IsStill, IsW
 ghost use Rattle.reel_disk.specs.State.{DiskState, lent_by};
 
 use cf_base::FileId;
+use std::alloc::AllocError;
 
 /// A part of the folder that a crash may still change.
 #[derive(Clone, Copy, Debug, PartialEq, Eq)]
@@ -19,6 +20,26 @@ pub enum Place {
 /// The disk failed.
 #[derive(Clone, Copy, Debug, PartialEq, Eq)]
 pub struct DiskFault;
+
+/// Why what was to be made of a disk's files isn't there.
+#[derive(Clone, Copy, Debug, PartialEq, Eq)]
+pub enum DiskFail {
+    /// The disk failed, which it counts.
+    DiskFault,
+    /// Memory ran out.
+    NoMemory,
+}
+
+impl From<AllocError> for DiskFail {
+    ghost use Rattle.std.specs.Prelude.{◌≡◌};
+    ghost use Rattle.reel_disk.specs.declared.disk.DiskFail.TheVariants.{NoMemory};
+
+    ghost from_gives = { λ _ fail. fail ≡ NoMemory };
+
+    fn from(_error: AllocError) -> DiskFail {
+        DiskFail::NoMemory
+    }
+}
 
 /// How long a file is.
 #[derive(Clone, Copy, Debug, PartialEq, Eq)]

@@ -15,7 +15,7 @@ mod reel_files;
 mod start;
 mod store;
 
-pub use disk::{Did, Disk, DiskFault, Got, Length, Place};
+pub use disk::{Did, Disk, DiskFail, DiskFault, Got, Length, Place};
 pub use folder::FolderDisk;
 pub use lock::LockFiles;
 pub use memory::MemoryDisk;

@@ -2,14 +2,11 @@
 //! opened in a file's place.
 ghost use Rattle.std.specs.Prelude.{◌≡◌, ◌≤◌, length, IfOk};
 
-use cf_base::{FilePath, Tried, Trouble, again, fill, told};
+use cf_base::{FilePath, PIECE, Tried, Trouble, again, fill, told};
 use std::fs::{self, Metadata, OpenFile, OpenOptions};
 use std::io::{self, ErrorKind, Read, Seek, SeekFrom, Write};
 use std::os::unix::fs::MetadataExt;
 use std::rt::Files;
-
-/// How many bytes of a file are written again at once.
-const PIECE: usize = 65536;
 
 /// An open file, and what the system says of it.
 #[derive(Drop)]

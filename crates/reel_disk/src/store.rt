@@ -150,10 +150,7 @@ pub(crate) fn write_file(
 {
     let copy = bytes.to_vec(alloc)?;
     make_room(store)?;
-    let before = match put(&mut store.files, id, copy) {
-        Ok(before) => before,
-        Err(refused) => return Err(refused),
-    };
+    let before = put(&mut store.files, id, copy)?;
     loosen_place(&mut store.loose, Place::Whole(id));
     push_in_room(&mut store.steps, Step::Wrote { id, before });
     Ok(())
@@ -173,10 +170,7 @@ pub(crate) fn write_part(
 {
     make_room(store)?;
     let from = start as usize;
-    let before = match patch(alloc, &mut store.files, id, from, bytes) {
-        Ok(before) => before,
-        Err(refused) => return Err(refused),
-    };
+    let before = patch(alloc, &mut store.files, id, from, bytes)?;
     let len = bytes.len() as u64;
     loosen_place(&mut store.loose, Place::Range { id, start, len });
     push_in_room(

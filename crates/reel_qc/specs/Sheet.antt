@@ -11,6 +11,7 @@
 -- Colours are lists of codes by channel: red, green, blue. A cell has one pixel for each box of 16 by 16 of its frame.
 use Rattle.std.specs.Prelude.{◌≡◌, ◌⊎◌, ℕ, ◌+◌, ◌-◌, ◌*◌, ◌/◌, ◌%◌, ◌&&◌, ◌==◌, max, false, nat_lt, if◌then◌else◌, List, [], ◌∷◌, ◌++◌, length, map, take, slice_index, slice_index_or, slice_get, Option, Some, None}
 use Rattle.std.specs.List.{filter, flat_map, fold, range_with_len, sum_by}
+use Rattle.cf_base.specs.declared.limits.TheConstants.{LARGEST}
 use Rattle.byteorder.specs.Endian.{big_bytes}
 use Rattle.cf_base.specs.declared.event.EventRec.{EventRec}
 use Rattle.cf_base.specs.Events.{record_length}
@@ -42,7 +43,7 @@ cell_height job = boxes_of job.parts.project.height
 
 -- as many as fit into 4096 lines
 abbrev pub most_cells : JobData → ℕ
-most_cells job = 8 * (4096 / cell_height job)
+most_cells job = 8 * (LARGEST / cell_height job)
 
 -- The record frame of the record in of each line of positive record length. It is counted from 0 through the whole record, as the
 -- job's frames and the view's gates are, also where the record is cut into reels.

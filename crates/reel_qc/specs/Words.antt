@@ -4,6 +4,7 @@
 --     frame_words job file      its words, as many as are whole and at most as many as the frame has pixels; none without a file
 use Rattle.std.specs.Prelude.{ℕ, ◌+◌, ◌-◌, ◌*◌, ◌/◌, min, List, [], length, drop, map, Option, Some, None}
 use Rattle.std.specs.List.{range_with_len}
+use Rattle.cf_base.specs.declared.limits.TheConstants.{HEADER}
 use Rattle.byteorder.specs.Endian.{big_number}
 use Rattle.conform_job.specs.Job.{JobData}
 use Rattle.frame_render.specs.Frame.{pixel_count}
@@ -20,7 +21,7 @@ words_from start most bytes =
 -- the words of the image data from the `first`-th on, at most so many; an absent file has none
 abbrev pub words_in : (first most : ℕ) → Option (List ℕ) → List ℕ
 words_in first most None = []
-words_in first most (Some bytes) = words_from (2048 + 4 * first) most bytes
+words_in first most (Some bytes) = words_from (HEADER + 4 * first) most bytes
 
 abbrev pub frame_words : JobData → Option (List ℕ) → List ℕ
 frame_words job file = words_in 0 (pixel_count job) file

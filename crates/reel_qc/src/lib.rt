@@ -10,9 +10,8 @@ mod sheet;
 mod table;
 mod words;
 
-pub use sheet::{SheetDone, SheetFault, Tone, ToneTable, make_sheet, square, square_table};
+pub use sheet::{SheetDone, Tone, ToneTable, make_sheet, square, square_table};
 pub use table::{
-    Counter, Forked, OneThread, Probe, ProbeKind, QcFault, count_forked, high, low, quality_table,
-    sum,
+    Counter, Forked, OneThread, Probe, ProbeKind, count_forked, high, low, quality_table, sum,
 };
 pub use words::frame_words;

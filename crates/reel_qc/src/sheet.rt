@@ -1,5 +1,5 @@
 //! The contact sheet, as a file of the reel folder.
-ghost use Rattle.std.specs.Prelude.{◌≡◌, ◌≢◌, ◌+◌, ◌*◌, ◌/◌, ◌<◌, ◌≤◌, All, ℕ, true, length, OnOk, IfOk, IsErrOf, Err};
+ghost use Rattle.std.specs.Prelude.{◌≡◌, ◌+◌, ◌*◌, ◌/◌, ◌<◌, ◌≤◌, All, ℕ, true, length, OnOk, IfOk, IsErrOf, Err};
 ghost use Rattle.cf_base.specs.declared.file.FileId.TheVariants.{Sheet};
 ghost use Rattle.reel_disk.specs.State.{LeavesDisk, OnlyReads};
 ghost use Rattle.dpx_header.specs.Writing.{IsOutHead, header_of};
@@ -22,12 +22,12 @@ use crate::sheet::boxes::boxes_of;
 use crate::sheet::cells::{cell_frames, load_row};
 use crate::sheet::drawing::{Drawing, draw_cells};
 use crate::words::{Buffers, pixels_of};
-use cf_base::FileId;
+use cf_base::{FileId, HEADER, LARGEST, PIECE};
 use conform_job::Job;
 pub use curves::{square, square_table};
 use dpx_header::{OutHead, write_header};
 use printed_text::put_bytes;
-use reel_disk::Disk;
+use reel_disk::{Disk, DiskFail};
 use resume_ledger::{LedgerView, write_firmly};
 use std::alloc::{AllocError, Global};
 pub use tone::Tone;
@@ -42,15 +42,6 @@ pub struct SheetDone {
     pub peak: u16,
 }
 
-/// Why there is no sheet.
-#[derive(Clone, Copy, Debug, PartialEq, Eq)]
-pub enum SheetFault {
-    /// The disk failed.
-    DiskFault,
-    /// No memory was left.
-    NoMemory,
-}
-
 /// Makes the contact sheet of a reel, and writes it to the file `FileId::Sheet`, whole, and syncs it: a small picture of each
 /// event's first frame, eight side by side, each code under the tone. Of an event whose first frame the view doesn't
 /// acknowledge, or whose file is short there, the picture is the project's black.
@@ -63,7 +54,7 @@ pub fn make_sheet<D: Disk>(
     job: &Job,
     view: &LedgerView,
     tone: &Tone,
-) -> Result<SheetDone, SheetFault>
+) -> Result<SheetDone, DiskFail>
     requires size { length view.now.gates ≡ frames_of job.now }
 
     // The sheet is there, and a crash keeps it so.
@@ -83,16 +74,13 @@ pub fn make_sheet<D: Disk>(
 
     // Whatever the disk tells, nothing but the sheet is written and synced, and where memory was missing nothing is.
     ensures writes { WritesSheet (writes_in (D.state disk.old).calls) (writes_in (D.state disk.new).calls) }
-    ensures reads { result ≡ Err SheetFault.NoMemory → OnlyReads D.tells (D.state disk.old) (D.state disk.new) }
-    ensures disk { LeavesDisk (IsErrOf result SheetFault.DiskFault) (D.state disk.old) (D.state disk.new) }
+    ensures reads { result ≡ Err DiskFail.NoMemory → OnlyReads D.tells (D.state disk.old) (D.state disk.new) }
+    ensures disk { LeavesDisk (IsErrOf result DiskFail.DiskFault) (D.state disk.old) (D.state disk.new) }
 {
-    let sheet = match sheet_of(alloc, disk, job, view, tone) {
-        Ok(sheet) => sheet,
-        Err(fault) => return Err(fault),
-    };
+    let sheet = sheet_of(alloc, disk, job, view, tone)?;
     match write_firmly(disk, FileId::Sheet, &sheet.bytes) {
         Ok(()) => Ok(sheet.done),
-        Err(_) => Err(SheetFault::DiskFault),
+        Err(_) => Err(DiskFail::DiskFault),
     }
 }
 
@@ -110,7 +98,7 @@ fn sheet_of<D: Disk>(
     job: &Job,
     view: &LedgerView,
     tone: &Tone,
-) -> Result<SheetFile, SheetFault>
+) -> Result<SheetFile, DiskFail>
     requires size { length view.now.gates ≡ frames_of job.now }
     ensures bytes { IfOk result (λ sheet. D.tells ≡ true
         → sheet.bytes.items ≡ sheet_file tone.now.table job.now view.now (view_of (D.state disk.old).history)) }
@@ -119,16 +107,11 @@ fn sheet_of<D: Disk>(
         → sheet.done.peak ≡ sheet_peak tone.now.table job.now view.now (view_of (D.state disk.old).history)) }
     ensures code { IfOk result (λ sheet. sheet.done.peak ≤ 1023) }
     ensures reads { OnlyReads D.tells (D.state disk.old) (D.state disk.new) }
-    ensures disk { LeavesDisk (IsErrOf result SheetFault.DiskFault) (D.state disk.old) (D.state disk.new) }
+    ensures disk { LeavesDisk (IsErrOf result DiskFail.DiskFault) (D.state disk.old) (D.state disk.new) }
 {
     job.recall();
-    let Ok(frames) = cell_frames(alloc, job) else {
-        return Err(SheetFault::NoMemory);
-    };
-    let drawing = match draw_sheet(alloc, disk, job, view, &frames, tone) {
-        Ok(drawing) => drawing,
-        Err(fault) => return Err(fault),
-    };
+    let frames = cell_frames(alloc, job)?;
+    let drawing = draw_sheet(alloc, disk, job, view, &frames, tone)?;
     let Drawing { bytes, greatest } = drawing;
     Ok(SheetFile {
         bytes,
@@ -147,22 +130,18 @@ fn draw_sheet<D: Disk>(
     view: &LedgerView,
     frames: &[u32],
     tone: &Tone,
-) -> Result<Drawing, SheetFault>
+) -> Result<Drawing, DiskFail>
     requires size { length view.now.gates ≡ frames_of job.now }
     requires frames { frames.now ≡ cell_frames job.now }
     requires within { All (λ i. i < frames_of job.now) frames.now }
     requires some { 0 < length frames.now }
     ensures drawn { IfOk result (λ drawing. DrawsSheet tone.now.table job.now view.now D.tells (D.state disk.old).history drawing) }
     ensures reads { OnlyReads D.tells (D.state disk.old) (D.state disk.new) }
-    ensures disk { LeavesDisk (IsErrOf result SheetFault.DiskFault) (D.state disk.old) (D.state disk.new) }
+    ensures disk { LeavesDisk (IsErrOf result DiskFail.DiskFault) (D.state disk.old) (D.state disk.new) }
 {
     let rows = rows_of(job, frames);
-    let Ok(mut drawing) = begin(alloc, job, rows) else {
-        return Err(SheetFault::NoMemory);
-    };
-    let Ok(mut buffers) = Buffers::new(alloc, pixels_of(job)) else {
-        return Err(SheetFault::NoMemory);
-    };
+    let mut drawing = begin(alloc, job, rows)?;
+    let mut buffers = Buffers::new(alloc, pixels_of(job))?;
     let shown = Shown {
         alloc,
         job,
@@ -171,10 +150,7 @@ fn draw_sheet<D: Disk>(
         tone,
     };
     for row in 0..rows {
-        match draw_row(&shown, disk, row, &mut buffers, &mut drawing) {
-            Ok(()) => {}
-            Err(fault) => return Err(fault),
-        }
+        draw_row(&shown, disk, row, &mut buffers, &mut drawing)?;
     }
     Ok(drawing)
 }
@@ -185,7 +161,7 @@ fn rows_of(job: &Job, frames: &[u32]) -> u32
     requires some { 0 < length frames.now }
     ensures rows { result ≡ sheet_rows job.now }
     ensures some { 1 ≤ result }
-    ensures fit { result * cell_height job.now ≤ 4096 }
+    ensures fit { result * cell_height job.now ≤ LARGEST }
 {
     job.recall();
     ((frames.len() + 7) / 8) as u32
@@ -195,16 +171,16 @@ fn rows_of(job: &Job, frames: &[u32]) -> u32
 fn begin(alloc: Global, job: &Job, rows: u32) -> Result<Drawing, AllocError>
     requires rows { rows ≡ sheet_rows job.now }
     requires some { 1 ≤ rows }
-    requires fit { rows * cell_height job.now ≤ 4096 }
+    requires fit { rows * cell_height job.now ≤ LARGEST }
     ensures header { IfOk result (λ drawing. drawing.bytes.items ≡ header_of (sheet_head job.now)) }
     ensures greatest { IfOk result (λ drawing. drawing.greatest ≡ 0) }
 {
     let head = sheet_head(job, rows);
-    let mut header = [0; 2048];
+    let mut header = [0; HEADER];
     write_header(&head, &mut header);
     let mut bytes = Vec::with_capacity(
         alloc,
-        2048 + 4 * (head.width as usize * head.height as usize),
+        HEADER + 4 * (head.width as usize * head.height as usize),
     )?;
     put_bytes(&mut bytes, &header)?;
     Ok(Drawing { bytes, greatest: 0 })
@@ -214,7 +190,7 @@ fn begin(alloc: Global, job: &Job, rows: u32) -> Result<Drawing, AllocError>
 fn sheet_head(job: &Job, rows: u32) -> OutHead
     requires rows { rows ≡ sheet_rows job.now }
     requires some { 1 ≤ rows }
-    requires fit { rows * cell_height job.now ≤ 4096 }
+    requires fit { rows * cell_height job.now ≤ LARGEST }
     ensures head { result ≡ sheet_head job.now }
     ensures valid { IsOutHead result }
 {
@@ -235,7 +211,7 @@ fn sheet_head(job: &Job, rows: u32) -> OutHead
 fn height_of(rows: u32, cell: u32) -> u32
     requires some_rows { 1 ≤ rows }
     requires some_lines { 1 ≤ cell }
-    requires fit { rows * cell ≤ 4096 }
+    requires fit { rows * cell ≤ LARGEST }
     ensures height { result ≡ rows * cell }
     ensures some { 1 ≤ result }
 {
@@ -259,20 +235,20 @@ fn draw_row<D: Disk>(
     row: u32,
     buffers: &mut Buffers,
     drawing: &mut Drawing,
-) -> Result<(), SheetFault>
+) -> Result<(), DiskFail>
     requires size { length shown.now.view.now.gates ≡ frames_of shown.now.job.now }
     requires frames { shown.now.frames.now ≡ cell_frames shown.now.job.now }
     requires within { All (λ i. i < frames_of shown.now.job.now) shown.now.frames.now }
-    requires row { row ≤ 4096 }
-    requires piece { length buffers.old.piece.items ≡ 65536 }
+    requires row { row ≤ LARGEST }
+    requires piece { length buffers.old.piece.items ≡ PIECE }
     ensures drawn { OnOk result (DrawsRow shown.now.tone.now.table shown.now.job.now shown.now.view.now
         D.tells (D.state disk.old).history row drawing.old drawing.new) }
-    ensures piece { length buffers.new.piece.items ≡ 65536 }
+    ensures piece { length buffers.new.piece.items ≡ PIECE }
     ensures reads { OnlyReads D.tells (D.state disk.old) (D.state disk.new) }
-    ensures disk { LeavesDisk (IsErrOf result SheetFault.DiskFault) (D.state disk.old) (D.state disk.new) }
+    ensures disk { LeavesDisk (IsErrOf result DiskFail.DiskFault) (D.state disk.old) (D.state disk.new) }
 {
     shown.job.recall();
-    let cells = match load_row(
+    let cells = load_row(
         shown.alloc,
         disk,
         shown.job,
@@ -280,12 +256,7 @@ fn draw_row<D: Disk>(
         shown.frames,
         row,
         buffers,
-    ) {
-        Ok(cells) => cells,
-        Err(fault) => return Err(fault),
-    };
-    match draw_cells(shown.job, shown.tone, &cells, row, drawing) {
-        Ok(()) => Ok(()),
-        Err(_) => Err(SheetFault::NoMemory),
-    }
+    )?;
+    draw_cells(shown.job, shown.tone, &cells, row, drawing)?;
+    Ok(())
 }

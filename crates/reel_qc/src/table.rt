@@ -1,5 +1,5 @@
 //! The quality table, as text.
-ghost use Rattle.std.specs.Prelude.{◌≡◌, ◌≢◌, ◌∷◌, [], ◌++◌, ◌<◌, ◌≤◌, true, length, map, codes, decimal, OnOk, IfOk, IsErrOf, Err};
+ghost use Rattle.std.specs.Prelude.{◌≡◌, ◌∷◌, [], ◌++◌, ◌<◌, ◌≤◌, true, length, map, codes, decimal, OnOk, IfOk, IsErrOf};
 ghost use Rattle.reel_disk.specs.State.{LeavesDisk, OnlyReads};
 ghost use Rattle.printed_text.specs.Text.{spaced_line};
 ghost use Rattle.reel_disk.specs.Disk.{view_of};
@@ -16,24 +16,16 @@ mod probe;
 
 use crate::table::counting::{Counting, count_frame};
 use crate::words::{Buffers, pixels_of};
+use cf_base::PIECE;
 use conform_job::Job;
 pub use counter::{Counter, Forked, OneThread};
 pub use counts::{high, low, sum};
 pub use pieces::count_forked;
 use printed_text::{put_bytes, put_number};
 pub use probe::{Probe, ProbeKind};
-use reel_disk::Disk;
+use reel_disk::{Disk, DiskFail};
 use resume_ledger::LedgerView;
 use std::alloc::{AllocError, Global};
-
-/// Why there is no table.
-#[derive(Clone, Copy, Debug, PartialEq, Eq)]
-pub enum QcFault {
-    /// The disk failed.
-    DiskFault,
-    /// No memory was left.
-    NoMemory,
-}
 
 /// The quality table of a reel: the line `qc` and the kinds of the probes; a line for each frame that the view acknowledges,
 /// in order, with its number and the count of each probe over the words of its file, of which an absent one has none; last
@@ -47,7 +39,7 @@ pub fn quality_table<D: Disk, C: Counter>(
     disk: &mut D,
     job: &Job,
     view: &LedgerView,
-) -> Result<Vec<u8>, QcFault>
+) -> Result<Vec<u8>, DiskFail>
     requires ready { C.ready }
     requires size { length view.now.gates ≡ frames_of job.now }
     ensures table { IfOk result (λ text. D.tells ≡ true
@@ -62,29 +54,20 @@ pub fn quality_table<D: Disk, C: Counter>(
 
     // It only reads: what the disk tells stays at every moment, and no write and no sync is made, whatever the answer is.
     ensures reads { OnlyReads D.tells (D.state disk.old) (D.state disk.new) }
-    ensures disk { LeavesDisk (IsErrOf result QcFault.DiskFault) (D.state disk.old) (D.state disk.new) }
+    ensures disk { LeavesDisk (IsErrOf result DiskFail.DiskFault) (D.state disk.old) (D.state disk.new) }
 {
     let room = counter.most_words().min(pixels_of(job));
-    let Ok(mut buffers) = Buffers::new(alloc, room) else {
-        return Err(QcFault::NoMemory);
-    };
+    let mut buffers = Buffers::new(alloc, room)?;
     let mut text = Vec::new(alloc);
-    let Ok(()) = put_kinds(&mut text, probes) else {
-        return Err(QcFault::NoMemory);
-    };
+    put_kinds(&mut text, probes)?;
     let counting = Counting {
         alloc,
         counter,
         probes,
     };
-    let frames = match put_rows(&counting, disk, job, view, &mut buffers, &mut text) {
-        Ok(frames) => frames,
-        Err(fault) => return Err(fault),
-    };
-    match put_frames(&mut text, frames) {
-        Ok(()) => Ok(text),
-        Err(_) => Err(QcFault::NoMemory),
-    }
+    let frames = put_rows(&counting, disk, job, view, &mut buffers, &mut text)?;
+    put_frames(&mut text, frames)?;
+    Ok(text)
 }
 
 /// The first line.
@@ -145,23 +128,20 @@ fn put_rows<D: Disk, C: Counter>(
     view: &LedgerView,
     buffers: &mut Buffers,
     text: &mut Vec<u8>,
-) -> Result<u32, QcFault>
+) -> Result<u32, DiskFail>
     requires ready { C.ready }
     requires size { length view.now.gates ≡ frames_of job.now }
-    requires piece { length buffers.old.piece.items ≡ 65536 }
+    requires piece { length buffers.old.piece.items ≡ PIECE }
     requires room { 0 < length buffers.old.words.items }
     requires few { length buffers.old.words.items ≤ 16777216 }
     ensures rows { IfOk result
         (AddsRows (map (λ p. p.kind) counting.now.probes.now) job.now view.now D.tells (D.state disk.old).history text.old text.new) }
     ensures reads { OnlyReads D.tells (D.state disk.old) (D.state disk.new) }
-    ensures disk { LeavesDisk (IsErrOf result QcFault.DiskFault) (D.state disk.old) (D.state disk.new) }
+    ensures disk { LeavesDisk (IsErrOf result DiskFail.DiskFault) (D.state disk.old) (D.state disk.new) }
 {
     let mut frames = 0;
     for i in 0..job.count() {
-        match put_frame(counting, disk, job, view, i, buffers, text) {
-            Ok(more) => frames += more,
-            Err(fault) => return Err(fault),
-        }
+        frames += put_frame(counting, disk, job, view, i, buffers, text)?;
     }
     Ok(frames)
 }
@@ -175,32 +155,27 @@ fn put_frame<D: Disk, C: Counter>(
     i: u32,
     buffers: &mut Buffers,
     text: &mut Vec<u8>,
-) -> Result<u32, QcFault>
+) -> Result<u32, DiskFail>
     requires ready { C.ready }
     requires size { length view.now.gates ≡ frames_of job.now }
     requires within { i < frames_of job.now }
-    requires piece { length buffers.old.piece.items ≡ 65536 }
+    requires piece { length buffers.old.piece.items ≡ PIECE }
     requires room { 0 < length buffers.old.words.items }
     requires few { length buffers.old.words.items ≤ 16777216 }
     ensures rows { IfOk result
         (AddsRow (map (λ p. p.kind) counting.now.probes.now) job.now view.now i D.tells (D.state disk.old).history text.old text.new) }
     ensures few { IfOk result (λ more. more ≤ 1) }
-    ensures piece { length buffers.new.piece.items ≡ 65536 }
+    ensures piece { length buffers.new.piece.items ≡ PIECE }
     ensures room { length buffers.new.words.items ≡ length buffers.old.words.items }
     ensures reads { OnlyReads D.tells (D.state disk.old) (D.state disk.new) }
-    ensures disk { LeavesDisk (IsErrOf result QcFault.DiskFault) (D.state disk.old) (D.state disk.new) }
+    ensures disk { LeavesDisk (IsErrOf result DiskFail.DiskFault) (D.state disk.old) (D.state disk.new) }
 {
     if !view.is_acked(i) {
         return Ok(0);
     }
-    let counts = match count_frame(counting, disk, job, i, buffers) {
-        Ok(counts) => counts,
-        Err(fault) => return Err(fault),
-    };
-    match put_row(i, &counts, text) {
-        Ok(()) => Ok(1),
-        Err(_) => Err(QcFault::NoMemory),
-    }
+    let counts = count_frame(counting, disk, job, i, buffers)?;
+    put_row(i, &counts, text)?;
+    Ok(1)
 }
 
 /// The line of a frame with these counts.

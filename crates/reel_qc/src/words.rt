@@ -1,5 +1,5 @@
 //! The words of a frame's file.
-ghost use Rattle.std.specs.Prelude.{◌≡◌, ◌≢◌, ◌*◌, ◌<◌, ◌≤◌, ◌^◌, ℕ, true, length, drop, slice_index, take, Some, OnOk, IfOk, IsErrOf, Err};
+ghost use Rattle.std.specs.Prelude.{◌≡◌, ◌*◌, ◌<◌, ◌≤◌, ◌^◌, ℕ, true, length, drop, slice_index, take, Some, OnOk, IfOk, IsErrOf, Err};
 ghost use Rattle.reel_disk.specs.State.{LeavesDisk, OnlyReads};
 ghost use Rattle.conform_job.specs.Job.{file_of};
 ghost use Rattle.reel_disk.specs.Disk.{view_of};
@@ -7,11 +7,10 @@ ghost use Rattle.reel_writer.specs.Reel.{frames_of};
 ghost use Rattle.frame_render.specs.Frame.{pixel_count};
 ghost use Rattle.reel_qc.specs.Words.{frame_words, words_in, words_from};
 
-use crate::table::QcFault;
 use byteorder::{BigEndian, ByteOrder};
-use cf_base::{Fail, FileId, Never};
+use cf_base::{Fail, FileId, HEADER, Never, PIECE};
 use conform_job::Job;
-use reel_disk::{Disk, Got};
+use reel_disk::{Disk, DiskFail, Got};
 use std::alloc::{AllocError, Global};
 
 /// Words of one read.
@@ -33,9 +32,9 @@ pub fn frame_words(job: &Job, file: &[u8], out: &mut Vec<u32>) -> Result<(), Fai
 
 /// The bytes of a file behind its header.
 fn image_of(file: &[u8]) -> &[u8]
-    ensures { result.now ≡ drop 2048 file.now }
+    ensures { result.now ≡ drop HEADER file.now }
 {
-    &file[file.len().min(2048)..]
+    &file[file.len().min(HEADER)..]
 }
 
 /// How many pixels a frame of a job has.
@@ -71,7 +70,7 @@ pub(crate) struct Buffers {
 impl Buffers {
     /// With room for so many words.
     pub(crate) fn new(alloc: Global, room: usize) -> Result<Buffers, AllocError>
-        ensures piece { IfOk result (λ buffers. length buffers.piece.items ≡ 65536) }
+        ensures piece { IfOk result (λ buffers. length buffers.piece.items ≡ PIECE) }
         ensures words { IfOk result (λ buffers. length buffers.words.items ≡ room) }
     {
         let piece = vec![in alloc; 0u8; 4 * WORDS]?;
@@ -86,34 +85,28 @@ pub(crate) fn read_frame<D: Disk>(
     job: &Job,
     i: u32,
     buffers: &mut Buffers,
-) -> Result<(), QcFault>
+) -> Result<(), DiskFail>
     requires within { i < frames_of job.now }
-    requires piece { length buffers.old.piece.items ≡ 65536 }
+    requires piece { length buffers.old.piece.items ≡ PIECE }
     ensures words { OnOk result (D.tells ≡ true
         → buffers.new.words.items ≡ frame_words job.now (view_of (D.state disk.old).history (file_of job.now i))) }
     ensures size { OnOk result (length buffers.new.words.items ≤ 16777216) }
     ensures most { OnOk result (length buffers.new.words.items ≤ pixel_count job.now) }
-    ensures piece { length buffers.new.piece.items ≡ 65536 }
+    ensures piece { length buffers.new.piece.items ≡ PIECE }
     ensures reads { OnlyReads D.tells (D.state disk.old) (D.state disk.new) }
-    ensures disk { LeavesDisk (IsErrOf result QcFault.DiskFault) (D.state disk.old) (D.state disk.new) }
+    ensures disk { LeavesDisk (IsErrOf result DiskFail.DiskFault) (D.state disk.old) (D.state disk.new) }
 {
     // The frame before may have been short.
-    let Ok(()) = buffers.words.resize(pixels_of(job), 0) else {
-        return Err(QcFault::NoMemory);
-    };
-    match read_words(
+    buffers.words.resize(pixels_of(job), 0)?;
+    let count = read_words(
         disk,
         job.file_of(i),
         0,
         &mut buffers.piece,
         &mut buffers.words,
-    ) {
-        Ok(count) => {
-            buffers.words.truncate(count);
-            Ok(())
-        }
-        Err(fault) => Err(fault),
-    }
+    )?;
+    buffers.words.truncate(count);
+    Ok(())
 }
 
 /// Reads the words of a file from the `first`-th on, as many as there is room for: how many are there.
@@ -123,18 +116,18 @@ pub(crate) fn read_words<D: Disk>(
     first: usize,
     piece: &mut [u8],
     words: &mut [u32],
-) -> Result<usize, QcFault>
+) -> Result<usize, DiskFail>
     requires first { first ≤ 16777216 }
     requires room { length words.old ≤ 16777216 }
-    requires piece { length piece.old ≡ 65536 }
+    requires piece { length piece.old ≡ PIECE }
     ensures words { IfOk result (λ count. D.tells ≡ true
         → take count words.new ≡ words_in first (length words.old) (view_of (D.state disk.old).history id)) }
     ensures few { IfOk result (λ count. count ≤ length words.old) }
     ensures small { (k : ℕ) → slice_index words.new k < 2 ^ 32 }
     ensures size { length words.new ≡ length words.old }
-    ensures piece { length piece.new ≡ 65536 }
+    ensures piece { length piece.new ≡ PIECE }
     ensures reads { OnlyReads D.tells (D.state disk.old) (D.state disk.new) }
-    ensures disk { LeavesDisk (IsErrOf result QcFault.DiskFault) (D.state disk.old) (D.state disk.new) }
+    ensures disk { LeavesDisk (IsErrOf result DiskFail.DiskFault) (D.state disk.old) (D.state disk.new) }
 {
     let most = words.len();
     let mut done = 0;
@@ -143,10 +136,7 @@ pub(crate) fn read_words<D: Disk>(
         let count = WORDS.min(most - done);
         let bytes = &mut piece[..4 * count];
         let room = &mut words[found..found + count];
-        match read_piece(disk, id, first + done, bytes, room) {
-            Ok(more) => found += more,
-            Err(fault) => return Err(fault),
-        }
+        found += read_piece(disk, id, first + done, bytes, room)?;
         done += count;
     }
     Ok(found)
@@ -159,7 +149,7 @@ fn read_piece<D: Disk>(
     first: usize,
     bytes: &mut [u8],
     words: &mut [u32],
-) -> Result<usize, QcFault>
+) -> Result<usize, DiskFail>
     requires first { first ≤ 33554432 }
     requires bytes { length bytes.old ≡ 4 * length words.old }
     ensures words { IfOk result (λ count. D.tells ≡ true
@@ -168,11 +158,11 @@ fn read_piece<D: Disk>(
     ensures size { length words.new ≡ length words.old }
     ensures bytes { length bytes.new ≡ length bytes.old }
     ensures reads { OnlyReads D.tells (D.state disk.old) (D.state disk.new) }
-    ensures disk { LeavesDisk (IsErrOf result QcFault.DiskFault) (D.state disk.old) (D.state disk.new) }
+    ensures disk { LeavesDisk (IsErrOf result DiskFail.DiskFault) (D.state disk.old) (D.state disk.new) }
 {
-    match disk.read(id, 2048 + 4 * first as u64, bytes) {
+    match disk.read(id, HEADER as u64 + 4 * first as u64, bytes) {
         Got::Bytes(n) => Ok(take_words(&bytes[..n], words)),
         Got::Absent => Ok(0),
-        Got::Failed => Err(QcFault::DiskFault),
+        Got::Failed => Err(DiskFail::DiskFault),
     }
 }

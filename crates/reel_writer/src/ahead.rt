@@ -58,10 +58,7 @@ impl Ahead {
             if let Some(digest) = take_digest(&mut self.rooms, i) {
                 return Ok(Some(digest));
             }
-            match read_beside(disk, job, view, hasher, self.next, &mut self.rooms) {
-                Ok(next) => self.next = next,
-                Err(DiskFault) => return Err(DiskFault),
-            }
+            self.next = read_beside(disk, job, view, hasher, self.next, &mut self.rooms)?;
         }
         Ok(None)
     }
@@ -176,10 +173,7 @@ fn read_on<D: Disk>(
 {
     let mut next = from;
     if room.frame.is_none() {
-        match read_next(disk, job, view, from, room) {
-            Ok(behind) => next = behind,
-            Err(DiskFault) => return Err(DiskFault),
-        }
+        next = read_next(disk, job, view, from, room)?;
     }
     room.hash_part(size);
     Ok(next)

@@ -11,6 +11,7 @@ ghost use Rattle.reel_writer.specs.inside.Damage.{HasCheckedOne, IsCheckOneFor};
 
 use crate::ahead::Ahead;
 use crate::files::frame_len;
+use cf_base::PIECE;
 use conform_job::Job;
 use frame_hash::Hasher;
 use reel_disk::{Disk, DiskFault};
@@ -62,7 +63,7 @@ pub fn check<D: Disk, H: Hasher>(
     ensures known { IsCheckFor job.now view.now result }
     ensures disk { LeavesDisk (result ≡ Err CheckFault.DiskFault) (D.state disk.old) (D.state disk.new) }
 {
-    let Ok(mut piece) = vec![in alloc; 0u8; 65536] else {
+    let Ok(mut piece) = vec![in alloc; 0u8; PIECE] else {
         return Err(CheckFault::NoMemory);
     };
     let mut ahead = Ahead::new(
@@ -85,7 +86,7 @@ fn check_all<D: Disk, H: Hasher>(
     requires can_hash { H.can_hash }
     requires size { length view.now.gates ≡ frames_of job.now }
     requires ahead { D.tells ≡ true → AreRead job.now (view_of (D.state disk.old).history) ahead.old.rooms.items }
-    requires piece { length piece.old ≡ 65536 }
+    requires piece { length piece.old ≡ PIECE }
     ensures answer { D.tells ≡ true
         → HasChecked job.now view.now (view_of (D.state disk.old).history) result }
     ensures reads { OnlyReads D.tells (D.state disk.old) (D.state disk.new) }
@@ -116,14 +117,14 @@ fn check_one<D: Disk, H: Hasher>(
     requires size { length view.now.gates ≡ frames_of job.now }
     requires within { i < frames_of job.now }
     requires ahead { D.tells ≡ true → AreRead job.now (view_of (D.state disk.old).history) ahead.old.rooms.items }
-    requires piece { length piece.old ≡ 65536 }
+    requires piece { length piece.old ≡ PIECE }
     ensures answer { D.tells ≡ true
         → HasCheckedOne job.now view.now (view_of (D.state disk.old).history) i result }
     ensures reads { OnlyReads D.tells (D.state disk.old) (D.state disk.new) }
     ensures known { IsCheckOneFor view.now i result }
     ensures ahead { OnOk result (D.tells ≡ true
         → AreRead job.now (view_of (D.state disk.old).history) ahead.new.rooms.items) }
-    ensures piece { length piece.new ≡ 65536 }
+    ensures piece { length piece.new ≡ PIECE }
     ensures disk { LeavesDisk (result ≡ Err CheckFault.DiskFault) (D.state disk.old) (D.state disk.new) }
 {
     let Some(kept) = view.hash_of(i) else {
@@ -158,13 +159,13 @@ fn digest_of<D: Disk, H: Hasher>(
     requires size { length view.now.gates ≡ frames_of job.now }
     requires within { i < frames_of job.now }
     requires ahead { D.tells ≡ true → AreRead job.now (view_of (D.state disk.old).history) ahead.old.rooms.items }
-    requires piece { length piece.old ≡ 65536 }
+    requires piece { length piece.old ≡ PIECE }
     ensures digest { IfOk result (λ digest. D.tells ≡ true
         → digest ≡ digest_of_file (view_of (D.state disk.old).history (file_of job.now i))) }
     ensures reads { OnlyReads D.tells (D.state disk.old) (D.state disk.new) }
     ensures ahead { OnOk result (D.tells ≡ true
         → AreRead job.now (view_of (D.state disk.old).history) ahead.new.rooms.items) }
-    ensures piece { length piece.new ≡ 65536 }
+    ensures piece { length piece.new ≡ PIECE }
     ensures disk { LeavesDisk (IsErr result) (D.state disk.old) (D.state disk.new) }
 {
     match ahead.digest_of(disk, job, view, hasher, i) {

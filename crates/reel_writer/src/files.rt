@@ -14,7 +14,7 @@ ghost use Rattle.resume_ledger.specs.Attach.{IsAnswerTo, OpeningMayWrite};
 ghost use Rattle.reel_writer.specs.Calls.{Opens};
 ghost use Rattle.reel_writer.specs.Reel.{frames_of, HasBegun};
 
-use cf_base::FileId;
+use cf_base::{FRAMES, FileId, HEADER};
 use conform_job::Job;
 use reel_disk::Disk;
 use resume_ledger::{Ledger, OpenFault, Version};
@@ -26,7 +26,7 @@ pub(crate) fn files_of(alloc: Global, job: &Job) -> Result<Vec<FileId>, AllocErr
     ensures each { IfOk result (λ files. (i : ℕ) → i < frames_of job.now
         → file_at files.items i ≡ file_of job.now i) }
     ensures some { IfOk result (λ files. 1 ≤ length files.items) }
-    ensures most { IfOk result (λ files. length files.items ≤ 262144) }
+    ensures most { IfOk result (λ files. length files.items ≤ FRAMES) }
 {
     let mut files = Vec::new(alloc);
     for i in 0..job.timeline().count() {
@@ -66,5 +66,5 @@ pub(crate) fn frame_len(job: &Job) -> u64
     ensures each { (sources : Sources) (i : ℕ) → length (frame_file job.now sources i) ≡ frame_size job.now }
 {
     job.recall();
-    2048 + 4 * (job.width() as u64 * job.height() as u64)
+    HEADER as u64 + 4 * (job.width() as u64 * job.height() as u64)
 }

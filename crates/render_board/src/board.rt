@@ -5,12 +5,9 @@ ghost use Rattle.render_board.specs.Board.{IsLegal, turn_of, claim_of, least_fre
 ghost use Rattle.render_board.specs.inside.Inside.{IsLeastFree};
 
 use crate::step::{History, Step, Why};
-use cf_base::{Fail, Never};
+use cf_base::{FRAMES, Fail, Never, WORKERS};
 use std::alloc::Global;
 use std::marker::Model;
-
-/// How many workers a board has at most.
-const MOST_WORKERS: usize = 16;
 
 /// What a claim answers.
 #[derive(Clone, Copy, Debug, PartialEq, Eq)]
@@ -49,7 +46,7 @@ pub struct Board {
     /// claimed.
     cursor: usize,
     workers: u16,
-    turns: [Turn; MOST_WORKERS],
+    turns: [Turn; WORKERS],
     has_stopped: bool,
     history: Vec<Step>,
 }
@@ -78,15 +75,15 @@ impl Board {
         workers: u16,
     ) -> Result<Board, Fail<Never>>
         requires some_workers { 1 ≤ workers }
-        requires most_workers { workers ≤ 16 }
+        requires most_workers { workers ≤ WORKERS }
         requires some_frames { 1 ≤ length done.now }
-        requires most_frames { length done.now ≤ 262144 }
+        requires most_frames { length done.now ≤ FRAMES }
         requires range { (low ≤ high) × (high ≤ length done.now) }
         ensures { IfOk result (λ board. board ≡ record { start = done.now; low = low; high = high; workers = workers; steps = [] }) }
     {
         let start = Vec::from_slice(alloc, done).map_err(|_| Fail::NoMemory)?;
         let (low, high) = (low as usize, high as usize);
-        let room = 2 * (high - low) + MOST_WORKERS;
+        let room = 2 * (high - low) + WORKERS;
         let history = Vec::with_capacity(alloc, room).map_err(|_| Fail::NoMemory)?;
         Ok(Board {
             start,
@@ -94,7 +91,7 @@ impl Board {
             high,
             cursor: low,
             workers,
-            turns: [Turn::Idle; MOST_WORKERS],
+            turns: [Turn::Idle; WORKERS],
             has_stopped: false,
             history,
         })
@@ -154,9 +151,9 @@ impl Board {
     pub fn workers(&self) -> u16
         ensures workers { result ≡ self.now.workers }
         ensures some { 1 ≤ result }
-        ensures most { result ≤ 16 }
+        ensures most { result ≤ WORKERS }
         ensures some_frames { 1 ≤ length self.now.start }
-        ensures most_frames { length self.now.start ≤ 262144 }
+        ensures most_frames { length self.now.start ≤ FRAMES }
         ensures range { (self.now.low ≤ self.now.high) × (self.now.high ≤ length self.now.start) }
         ensures legal { IsLegal self.now }
     {

@@ -9,6 +9,7 @@
 use Rattle.std.specs.Prelude.{◌≡◌, ℕ, ◌+◌, ◌*◌, ◌≤◌, List, [], ◌∷◌, ◌++◌, length, take, drop, replicate, codes}
 use Rattle.std.specs.Int.{to_be_bytes}
 use Rattle.std.proofs.Common.{w32}
+use Rattle.cf_base.specs.declared.limits.TheConstants.{FRAMES}
 use Rattle.cf_base.specs.declared.file.FileId.{FileId}
 use Rattle.cf_base.specs.declared.file.FileId.TheVariants.{Seal, Body, Seal2, Body2}
 use Rattle.resume_ledger.specs.declared.layout.Version.{Version}
@@ -27,7 +28,7 @@ pub record Layout : Type 0 where
   pub most : ℕ
 
 -- After a head of 64 bytes version 1 has one byte for each frame, its gate. Version 2 has 33: the gate, and the frame's
--- record of 32 bytes. A seal is its text and a line feed; no body is for more than 262,144 frames.
+-- record of 32 bytes. A seal is its text and a line feed; no body is for more frames than a reel has at most.
 abbrev pub layout_of : Version → Layout
 layout_of One = record {
   seal = Seal;
@@ -36,7 +37,7 @@ layout_of One = record {
   magic = codes "CFLEDGR1";
   gate = λ i. 64 + i;
   size = λ count. 64 + count;
-  most = 262208;
+  most = 64 + FRAMES;
 }
 layout_of Two = record {
   seal = Seal2;
@@ -45,7 +46,7 @@ layout_of Two = record {
   magic = codes "CFLEDGR2";
   gate = λ i. 64 + 33 * i;
   size = λ count. 64 + 33 * count;
-  most = 8650816;
+  most = 64 + 33 * FRAMES;
 }
 
 -- 64 bytes: the magic, the job's digest, the number of frames with its high byte first, and 20 zeros

@@ -7,6 +7,7 @@
 --     Hashes, bytes_of      of a file that is hashed, and the bytes that its reads gave
 use Rattle.std.specs.Prelude.{◌≡◌, ◌≢◌, ◌⊎◌, ℕ, ◌+◌, ◌*◌, ◌<◌, ◌≤◌, Bool, true, false, List, [], ◌∷◌, ◌++◌, length, take, Option, Some, None, Result, Ok, Err, IsErr, Vec}
 use Rattle.std.specs.declared.alloc.Global.{Global}
+use Rattle.cf_base.specs.declared.limits.TheConstants.{PIECE}
 use Rattle.cf_base.specs.declared.file.FileId.{FileId}
 use Rattle.cf_base.specs.declared.file.FileId.TheVariants.{Body2}
 use Rattle.reel_disk.specs.declared.disk.Length as l
@@ -112,7 +113,7 @@ reads_of id (p ∷ pieces) old = Read id (length (bytes_of pieces)) p.1 (g.TheVa
 -- Each asked for 65,536 bytes, began before the end, and gave more than none.
 abbrev pub ArePieces : ℕ → List (ℕ × List ℕ) → Type 0
 ArePieces size [] = Unit {0}
-ArePieces size (p ∷ pieces) = ArePieces size pieces × (length (bytes_of pieces) < size) × (0 < p.0) × (length p.1 ≡ 65536)
+ArePieces size (p ∷ pieces) = ArePieces size pieces × (length (bytes_of pieces) < size) × (0 < p.0) × (length p.1 ≡ PIECE)
 
 -- The file was read to its end of so many bytes, and this is the SHA-256 of what those reads gave; or one of them gave nothing.
 abbrev pub ReadsHash : FileId → ℕ → Option (List ℕ) → (old new : List Call) → Type 0

@@ -1,5 +1,6 @@
 -- What follows from the definitions of the ledger.
 use Rattle.std.specs.Prelude.{◌≡◌, ◌↔◌, ℕ, ◌≤◌, true, false, List, length, slice_index_or, Ok, Err, count_by}
+use Rattle.cf_base.specs.declared.limits.TheConstants.{FRAMES}
 use Rattle.cf_base.specs.declared.file.FileId.{FileId}
 use Rattle.reel_disk.specs.Disk.{Files, Moment, History, moment_of, view_of}
 use Rattle.reel_disk.specs.Runs.{Extends, Spares, Surely}
@@ -60,5 +61,5 @@ pub record OneNumber : Type 0 where
 
 -- The closed body of a job is that job's.
 abbrev pub ClosedBodyIsOwn : Type 0
-ClosedBodyIsOwn = (digest : List ℕ) (count : ℕ) → length digest ≡ 32 → count ≤ 262144
+ClosedBodyIsOwn = (digest : List ℕ) (count : ℕ) → length digest ≡ 32 → count ≤ FRAMES
     → IsOwn (layout_of Two) digest count (closed_body digest count)

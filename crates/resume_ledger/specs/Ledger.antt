@@ -6,6 +6,7 @@
 --     IsSealed, Acks, IsFit      of any files
 --     LedgerState, Agrees        the ledger, and that it says what the disk holds
 use Rattle.std.specs.Prelude.{◌≡◌, ◌⊎◌, ◌↔◌, ℕ, ◌<◌, ◌≤◌, ◌==◌, Bool, true, false, List, length, slice_index, slice_index_or, Some}
+use Rattle.cf_base.specs.declared.limits.TheConstants.{FRAMES}
 use Rattle.cf_base.specs.declared.file.FileId.{FileId}
 use Rattle.cf_base.specs.declared.file.FileId.TheVariants.{Seal, Body, Seal2, Body2}
 use Rattle.reel_disk.specs.Disk.{Files, Moment, IsFirm}
@@ -67,7 +68,7 @@ pub record LedgerState : Type 0 where
 pub record IsLedger (digest : List ℕ) (gates : List Bool) : Type 0 where
   pub digest_size : length digest ≡ 32
   pub not_empty : 1 ≤ length gates
-  pub most : length gates ≤ 262144
+  pub most : length gates ≤ FRAMES
 
 -- The flags acknowledge what the files do.
 pub record AreFlagsOf (digest : List ℕ) (count : ℕ) (files : Files) (flags : List Bool) : Type 0 where

@@ -13,7 +13,7 @@ use crate::Ledger;
 use crate::layout::Version;
 use crate::older::open_older;
 use crate::sealed::{is_sealed, open_sealed};
-use cf_base::FileId;
+use cf_base::{FRAMES, FileId};
 use reel_disk::{Disk, DiskFault};
 use std::alloc::Global;
 
@@ -53,7 +53,7 @@ impl Ledger {
         files: &[FileId],
         size: u64,
     ) -> Result<Ledger, OpenFault>
-        requires count { (1 ≤ length files.now) × (length files.now ≤ 262144) }
+        requires count { (1 ≤ length files.now) × (length files.now ≤ FRAMES) }
         requires frames { (i : ℕ) → i < length files.now → IsFrameFile (file_at files.now i) }
 
         // By the view at the start: which answer comes, and what the disk holds then.

@@ -6,6 +6,7 @@ ghost use Rattle.resume_ledger.specs.Steps.{IsJudged, OthersKept};
 
 use crate::OpenFault;
 use crate::layout::Version;
+use cf_base::FRAMES;
 use std::alloc::{AllocError, Global};
 
 /// A gate that is open.
@@ -31,7 +32,7 @@ fn head(
 /// The body of a job without an open gate, of version 2.
 #[tactic(auto, unfolding(crate::specs::Body::closed_body))]
 pub(crate) fn closed(alloc: Global, digest: &[u8; 32], count: u32) -> Result<Vec<u8>, AllocError>
-    requires { count ≤ 262144 }
+    requires { count ≤ FRAMES }
     ensures body { IfOk result (λ body. body.items ≡ closed_body digest.now count) }
     ensures size { IfOk result (λ body. length body.items ≡ 64 + 33 * count) }
     ensures digest { length digest.now ≡ 32 }
@@ -51,7 +52,7 @@ pub(crate) fn judge(
     count: u32,
 ) -> Result<Vec<bool>, OpenFault>
     requires size { length body.now ≤ (layout_of version).most }
-    requires most { count ≤ 262144 }
+    requires most { count ≤ FRAMES }
     ensures { IsJudged (layout_of version) digest count body.now result }
 {
     let bad = OpenFault::BadLedger {
@@ -91,7 +92,7 @@ pub(crate) fn gates(
     count: u32,
 ) -> Result<Vec<bool>, AllocError>
     requires size { length body.now ≡ (layout_of version).size count }
-    requires most { count ≤ 262144 }
+    requires most { count ≤ FRAMES }
     ensures { IfOk result (λ gates. AreGatesOf (layout_of version) body.now count gates.items) }
 {
     let mut gates = Vec::new(alloc);

@@ -7,7 +7,7 @@ ghost use Rattle.resume_ledger.specs.Hash.{IsHashOf, digest_of_file};
 ghost use Rattle.resume_ledger.specs.Calls.{Hashes, ReadsHash};
 ghost use Rattle.resume_ledger.specs.OpeningCalls.{FailsReads, FailsHash, FailsDigest, Digests};
 
-use cf_base::FileId;
+use cf_base::{FileId, PIECE};
 use reel_disk::{Disk, DiskFault, Got, Length};
 use sha2::{Digest, Sha256};
 
@@ -21,10 +21,10 @@ pub fn hash_of_file<D: Disk>(
     size: u64,
     piece: &mut [u8],
 ) -> Result<Option<[u8; 32]>, DiskFault>
-    requires piece { length piece.old ≡ 65536 }
+    requires piece { length piece.old ≡ PIECE }
     ensures reads { OnlyReads D.tells (D.state disk.old) (D.state disk.new) }
     ensures hash { IfOk result (λ hash. D.tells ≡ true → IsHashOf (view_of (D.state disk.old).history id) size hash) }
-    ensures piece { length piece.new ≡ 65536 }
+    ensures piece { length piece.new ≡ PIECE }
     ensures calls { IfOk result (λ hash. Hashes id size hash (D.state disk.old).calls (D.state disk.new).calls) }
     ensures failed { OnErr result (FailsHash id size (D.state disk.old).calls (D.state disk.new).calls) }
     ensures disk { LeavesDisk (IsErr result) (D.state disk.old) (D.state disk.new) }
@@ -45,10 +45,10 @@ pub fn digest_of_file<D: Disk>(
     id: FileId,
     piece: &mut [u8],
 ) -> Result<[u8; 32], DiskFault>
-    requires piece { length piece.old ≡ 65536 }
+    requires piece { length piece.old ≡ PIECE }
     ensures reads { OnlyReads D.tells (D.state disk.old) (D.state disk.new) }
     ensures digest { IfOk result (λ digest. D.tells ≡ true → digest ≡ digest_of_file (view_of (D.state disk.old).history id)) }
-    ensures piece { length piece.new ≡ 65536 }
+    ensures piece { length piece.new ≡ PIECE }
     ensures calls { IfOk result (λ digest. Digests id digest (D.state disk.old).calls (D.state disk.new).calls) }
     ensures failed { OnErr result (FailsDigest id (D.state disk.old).calls (D.state disk.new).calls) }
     ensures disk { LeavesDisk (IsErr result) (D.state disk.old) (D.state disk.new) }
@@ -72,11 +72,11 @@ fn read_pieces<D: Disk>(
     size: u64,
     piece: &mut [u8],
 ) -> Result<Option<[u8; 32]>, DiskFault>
-    requires piece { length piece.old ≡ 65536 }
+    requires piece { length piece.old ≡ PIECE }
     requires there { D.tells ≡ true → HasSize size (view_of (D.state disk.old).history id) }
     ensures reads { OnlyReads D.tells (D.state disk.old) (D.state disk.new) }
     ensures hash { IfOk result (λ hash. D.tells ≡ true → IsHashOf (view_of (D.state disk.old).history id) size hash) }
-    ensures piece { length piece.new ≡ 65536 }
+    ensures piece { length piece.new ≡ PIECE }
     ensures calls { IfOk result (λ hash. ReadsHash id size hash (D.state disk.old).calls (D.state disk.new).calls) }
     ensures failed { OnErr result (FailsReads id size (D.state disk.old).calls (D.state disk.new).calls) }
     ensures disk { LeavesDisk (IsErr result) (D.state disk.old) (D.state disk.new) }

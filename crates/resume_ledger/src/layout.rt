@@ -3,7 +3,7 @@ ghost use Rattle.std.specs.Prelude.{◌≡◌, ◌≤◌, IfSome};
 ghost use Rattle.resume_ledger.specs.Body.{layout_of};
 ghost use Rattle.resume_ledger.specs.inside.Body.{IsCountFor};
 
-use cf_base::FileId;
+use cf_base::{FRAMES, FileId};
 
 /// A version of the ledger.
 #[derive(Clone, Copy, Debug, PartialEq, Eq)]
@@ -70,8 +70,8 @@ impl Version {
         ensures { result ≡ (layout_of self).most }
     {
         match self {
-            Version::One => 262_208,
-            Version::Two => 8_650_816,
+            Version::One => 64 + u64::from(FRAMES),
+            Version::Two => 64 + 33 * u64::from(FRAMES),
         }
     }
 

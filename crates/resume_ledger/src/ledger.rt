@@ -12,7 +12,7 @@ ghost use Rattle.resume_ledger.specs.Calls.{PutsRecord, PutsGate};
 use crate::body::OPEN;
 use crate::layout::Version;
 use crate::write::patch_firmly;
-use cf_base::FileId;
+use cf_base::{FRAMES, FileId};
 use reel_disk::{Disk, DiskFault};
 use std::marker::Model;
 
@@ -41,7 +41,7 @@ impl Ledger {
     /// An open ledger with these gates.
     pub(crate) fn of(digest: [u8; 32], gates: Vec<bool>) -> Ledger
         requires some { 1 ≤ length gates.items }
-        requires most { length gates.items ≤ 262144 }
+        requires most { length gates.items ≤ FRAMES }
         ensures { result ≡ record { digest = digest; gates = gates.items; closed = false } }
     {
         Ledger {

@@ -14,6 +14,7 @@ use crate::body::{judge, record_at};
 use crate::layout::Version;
 use crate::sealed::{in_force, load_body};
 use crate::{Ledger, OpenFault};
+use cf_base::FRAMES;
 use reel_disk::{Disk, DiskFault};
 use std::alloc::Global;
 use std::marker::Model;
@@ -30,6 +31,7 @@ pub struct LedgerView {
 impl Model for LedgerView {
     ghost use Rattle.std.specs.Prelude.{◌≤◌, ◌≡◌, length, MatchOption};
     ghost use Rattle.std.specs.Option.{option_map};
+    ghost use Rattle.cf_base.specs.declared.limits.TheConstants.{FRAMES};
     ghost use Rattle.resume_ledger.specs.Body.{layout_of};
     ghost use Rattle.resume_ledger.specs.declared.layout.Version.TheVariants.{Two};
     ghost use Rattle.resume_ledger.specs.Look.{ViewState};
@@ -38,7 +40,7 @@ impl Model for LedgerView {
 
     ghost view = { λ v. record { gates = v.gates.items; body = option_map (λ b. b.items) v.body } };
 
-    ghost invariant = { λ v. (length v.gates.items ≤ 262144)
+    ghost invariant = { λ v. (length v.gates.items ≤ FRAMES)
         × MatchOption v.body (Unit {0}) (λ b. length b.items ≡ (layout_of Two).size (length v.gates.items)) };
 }
 
@@ -89,7 +91,7 @@ impl Ledger {
         digest: [u8; 32],
         count: u32,
     ) -> Result<LedgerView, OpenFault>
-        requires count { (1 ≤ count) × (count ≤ 262144) }
+        requires count { (1 ≤ count) × (count ≤ FRAMES) }
 
         ensures answer { D.tells ≡ true → HasLooked digest count (D.state disk.old).history (D.state disk.new).history result }
 
@@ -119,7 +121,7 @@ impl Ledger {
         digest: [u8; 32],
         count: u32,
     ) -> Result<u32, OpenFault>
-        requires count { (1 ≤ count) × (count ≤ 262144) }
+        requires count { (1 ≤ count) × (count ≤ FRAMES) }
 
         ensures answer { D.tells ≡ true → HasPeeked digest count (D.state disk.old).history (D.state disk.new).history result }
 
@@ -146,7 +148,7 @@ fn look_sealed<D: Disk>(
     digest: [u8; 32],
     count: u32,
 ) -> Result<LedgerView, OpenFault>
-    requires most { count ≤ 262144 }
+    requires most { count ≤ FRAMES }
     requires sealed { D.tells ≡ true → IsInForce version (view_of (D.state disk.old).history) }
     ensures answer { D.tells ≡ true → HasLooked digest count (D.state disk.old).history (D.state disk.new).history result }
     ensures reads { OnlyReads D.tells (D.state disk.old) (D.state disk.new) }
@@ -166,7 +168,7 @@ fn look_sealed<D: Disk>(
 
 /// The view that a body of this version gives.
 fn view_by(version: Version, gates: Vec<bool>, body: Vec<u8>) -> LedgerView
-    requires most { length gates.items ≤ 262144 }
+    requires most { length gates.items ≤ FRAMES }
     requires size { length body.items ≡ (layout_of version).size (length gates.items) }
     ensures { result ≡ record { gates = gates.items; body = records_in version body.items } }
 {

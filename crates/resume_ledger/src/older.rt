@@ -18,7 +18,7 @@ use crate::layout::Version;
 use crate::sealed::{is_sealed, read_body};
 use crate::write::write_firmly;
 use crate::{Ledger, OpenFault};
-use cf_base::FileId;
+use cf_base::{FRAMES, FileId, PIECE};
 use reel_disk::{Disk, DiskFault};
 use std::alloc::Global;
 
@@ -31,7 +31,7 @@ pub(crate) fn open_older<D: Disk>(
     size: u64,
 ) -> Result<Ledger, OpenFault>
     requires some { 1 ≤ length files.now }
-    requires most { length files.now ≤ 262144 }
+    requires most { length files.now ≤ FRAMES }
     requires frames { (i : ℕ) → i < length files.now → IsFrameFile (file_at files.now i) }
     requires unsealed { D.tells ≡ true → IsInForce Version.Two (view_of (D.state disk.old).history) → ⊥ }
     requires firm { D.tells ≡ true → IsFirm (loose_of (D.state disk.old).history) FileId.Seal2 }
@@ -69,7 +69,7 @@ fn first_body<D: Disk>(
     size: u64,
 ) -> Result<Vec<u8>, OpenFault>
     requires some { 1 ≤ length files.now }
-    requires most { length files.now ≤ 262144 }
+    requires most { length files.now ≤ FRAMES }
     requires unsealed { D.tells ≡ true → IsInForce Version.Two (view_of (D.state disk.old).history) → ⊥ }
     requires firm { D.tells ≡ true → IsFirm (loose_of (D.state disk.old).history) FileId.Seal2 }
     ensures reading { D.tells ≡ true → IsReading (D.state disk.old).history (D.state disk.new).history }
@@ -104,7 +104,7 @@ fn taken_body<D: Disk>(
     body: Vec<u8>,
 ) -> Result<Vec<u8>, OpenFault>
     requires some { 1 ≤ length files.now }
-    requires most { length files.now ≤ 262144 }
+    requires most { length files.now ≤ FRAMES }
     requires closed { body.items ≡ closed_body digest (length files.now) }
     requires size { length body.items ≡ 64 + 33 * length files.now }
     requires sealed { D.tells ≡ true → IsInForce Version.One (view_of (D.state disk.old).history) }
@@ -120,7 +120,7 @@ fn taken_body<D: Disk>(
         Ok(gates) => gates,
         Err(fault) => return Err(fault),
     };
-    let Ok(mut piece) = vec![in alloc; 0u8; 65536] else {
+    let Ok(mut piece) = vec![in alloc; 0u8; PIECE] else {
         return Err(OpenFault::NoMemory);
     };
     let mut body = body;
@@ -137,7 +137,7 @@ fn acked_before<D: Disk>(
     digest: [u8; 32],
     count: u32,
 ) -> Result<Vec<bool>, OpenFault>
-    requires most { count ≤ 262144 }
+    requires most { count ≤ FRAMES }
     requires sealed { D.tells ≡ true → IsInForce Version.One (view_of (D.state disk.old).history) }
     ensures reading { D.tells ≡ true → IsReading (D.state disk.old).history (D.state disk.new).history }
     ensures acked { D.tells ≡ true → HasAcked digest count (D.state disk.old).history (D.state disk.new).history result }
@@ -162,13 +162,13 @@ fn record_one<D: Disk>(
     body: &mut [u8],
     i: u32,
 ) -> Result<(), DiskFault>
-    requires piece { length piece.old ≡ 65536 }
+    requires piece { length piece.old ≡ PIECE }
     requires within { 64 + 33 * (i + 1) ≤ length body.old }
     requires closed { slice_index body.old (64 + 33 * i) ≢ 65 }
     ensures reads { OnlyReads D.tells (D.state disk.old) (D.state disk.new) }
     ensures recorded { OnOk result (D.tells ≡ true → IsRecorded was_open (view_of (D.state disk.old).history id) size body.new i) }
     ensures others { OthersKept body.old body.new i }
-    ensures piece { length piece.new ≡ 65536 }
+    ensures piece { length piece.new ≡ PIECE }
     ensures calls { OnOk result (TakesFrame was_open id size i body.old body.new (D.state disk.old).calls (D.state disk.new).calls) }
     ensures failed { OnErr result ((was_open ≡ true) × FailsHash id size (D.state disk.old).calls (D.state disk.new).calls) }
     ensures disk { LeavesDisk (IsErr result) (D.state disk.old) (D.state disk.new) }
@@ -195,8 +195,8 @@ fn record_all<D: Disk>(
     piece: &mut [u8],
     body: &mut [u8],
 ) -> Result<(), DiskFault>
-    requires piece { length piece.old ≡ 65536 }
-    requires few { length files.now ≤ 262144 }
+    requires piece { length piece.old ≡ PIECE }
+    requires few { length files.now ≤ FRAMES }
     requires gates { length gates.now ≡ length files.now }
     requires body { length body.old ≡ 64 + 33 * length files.now }
     requires closed { (k : ℕ) → k < length files.now → slice_index body.old (64 + 33 * k) ≢ 65 }

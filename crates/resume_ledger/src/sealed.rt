@@ -10,6 +10,7 @@ ghost use Rattle.resume_ledger.specs.inside.Steps.{IsReading, IsReadFirmly, Read
 use crate::body::judge;
 use crate::layout::Version;
 use crate::{Ledger, OpenFault};
+use cf_base::FRAMES;
 use reel_disk::{Did, Disk, DiskFault, Got, Length};
 use std::alloc::Global;
 
@@ -135,7 +136,7 @@ pub(crate) fn open_sealed<D: Disk>(
     count: u32,
 ) -> Result<Ledger, OpenFault>
     requires some { 1 ≤ count }
-    requires most { count ≤ 262144 }
+    requires most { count ≤ FRAMES }
     requires sealed { D.tells ≡ true → IsInForce Version.Two (view_of (D.state disk.old).history) }
     requires firm { D.tells ≡ true → IsFirm (loose_of (D.state disk.old).history) Seal2 }
     ensures reading { D.tells ≡ true → IsReading (D.state disk.old).history (D.state disk.new).history }

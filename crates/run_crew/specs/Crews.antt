@@ -9,6 +9,7 @@
 --     AreWorked      what the workers did with their scans
 --     IsFirstUse      a disk before its first call
 use Rattle.std.specs.Prelude.{◌≡◌, ◌↔◌, ◌⊎◌, ℕ, ◌+◌, ◌-◌, ◌<◌, ◌≤◌, Bool, true, false, List, [], length, sum_by, count_by, slice_index_or, Option, Some, None, MatchOption}
+use Rattle.cf_base.specs.declared.limits.TheConstants.{WORKERS}
 use Rattle.scan_source.specs.State.{ScanState}
 use Rattle.scan_source.specs.World.{World}
 use Rattle.conform_job.specs.Job.{JobData}
@@ -67,7 +68,7 @@ pub record IsReported (job : JobData) (end : RunEnd) (report : Report) : Type 0 
 -- a load.
 pub record AreShared (capacity : ℕ) (log : List ShareStep) (report : Report) : Type 0 where
   pub some : 1 ≤ capacity
-  pub most : capacity ≤ 16
+  pub most : capacity ≤ WORKERS
   pub legal : IsShareLegal capacity log
   pub misses : report.misses ≡ misses_of log
   pub loads : report.loads ≡ report.misses

@@ -19,6 +19,7 @@ ghost use Rattle.run_alone.specs.Task.{IsTask};
 ghost use Rattle.station.specs.StationSteps.{IsBeginning};
 
 use crate::work::work_all;
+use cf_base::WORKERS;
 use conform_job::{Job, Work};
 use crew_seat::{Seat, seat_all, threads_each, unseat};
 use frame_fetch::RunEnd;
@@ -111,7 +112,7 @@ fn board_of<D: Disk, N: Work>(
 ) -> Option<Board>
     requires task { IsTask N.job N.share task.now }
     requires size { length reel.now.ledger.gates ≡ frames_of N.job }
-    requires workers { (1 ≤ workers) × (workers ≤ 16) }
+    requires workers { (1 ≤ workers) × (workers ≤ WORKERS) }
     ensures board { IfSome result (λ board. board
         ≡ log_of reel.now.ledger.gates task.now.range.low task.now.range.high workers []) }
 {
@@ -128,6 +129,9 @@ fn board_of<D: Disk, N: Work>(
         Err(_) => None,
     }
 }
+
+/// How many parts a total has: one for each worker, and one that stays.
+const PARTS: u64 = WORKERS as u64 + 1;
 
 /// The totals that a crew counts, still without a count: of its stops by their cause, and of its misses.
 #[derive(Drop)]
@@ -164,7 +168,7 @@ fn make_ready<S: Scans, D: Disk, N: Work, C: Crewed>(
 ) -> Option<Ready<S, N, C>>
     requires task { IsTask N.job N.share task.now }
     requires size { length reel.now.ledger.gates ≡ frames_of N.job }
-    requires workers { (1 ≤ workers) × (workers ≤ 16) }
+    requires workers { (1 ≤ workers) × (workers ≤ WORKERS) }
     requires misses { IsCounterOf C.Misses.name C.Misses.parts misses.name misses.parts }
     ensures board { IfSome result (λ made. made.board
         ≡ log_of reel.now.ledger.gates task.now.range.low task.now.range.high workers []) }
@@ -256,7 +260,7 @@ fn run_opened<
     requires task { IsTask N.job N.share task.now }
     requires files { All (λ s. Tells N.files (S.state s).world) scans.items }
     requires infos { AreInfosOf N.job.parts N.files N.job.infos }
-    requires workers { (1 ≤ workers) × (workers ≤ vec_len scans) × (vec_len scans ≤ 16) }
+    requires workers { (1 ≤ workers) × (workers ≤ vec_len scans) × (vec_len scans ≤ WORKERS) }
     requires named { (workers ≡ W.workers) × (task.now.range.low ≡ W.low) × (task.now.range.high ≡ W.high) }
     requires beginning { IsBeginning N.job N.files N.start D.tells D.state reel
         (log_of reel.ledger.gates task.now.range.low task.now.range.high workers []) }
@@ -320,8 +324,8 @@ pub fn run_crew<
     requires task { IsTask N.job N.share task.now }
     requires files { All (λ s. Tells N.files (S.state s).world) scans.items }
     requires infos { AreInfosOf N.job.parts N.files N.job.infos }
-    requires scans { (1 ≤ vec_len scans) × (vec_len scans ≤ 16) }
-    requires workers { (1 ≤ workers) × (workers ≤ 16) }
+    requires scans { (1 ≤ vec_len scans) × (vec_len scans ≤ WORKERS) }
+    requires workers { (1 ≤ workers) × (workers ≤ WORKERS) }
     requires disk { IsFirstUse N.start N.loans N.calls D.tells (D.state disk) }
 
     // Which frames the opening kept, what the folder acknowledges now, and the steps by which it came; or why there are none.
@@ -344,11 +348,11 @@ pub fn run_crew<
     };
     let workers = workers.min(scans.len() as u16);
     let blanks = Blanks {
-        source: Blank::new(17),
-        disk: Blank::new(17),
-        memory: Blank::new(17),
-        changed: Blank::new(17),
-        misses: Blank::new(17),
+        source: Blank::new(PARTS),
+        disk: Blank::new(PARTS),
+        memory: Blank::new(PARTS),
+        changed: Blank::new(PARTS),
+        misses: Blank::new(PARTS),
     };
     match run_opened::<N, Brand, Brand, Brand, Brand, Brand, Brand, S, D, R>(
         rt, alloc, task, blanks, scans, workers, reel,

@@ -1,6 +1,7 @@
 -- What the answers of a scan say of the file at the path.
 -- * loaded, head: what an answer says of the file: its length and first bytes, or that there is none
 use Rattle.std.specs.Prelude.{◌≡◌, ℕ, ◌-◌, min, List, [], ◌++◌, length, take, replicate, Option, None, IsSomeAnd}
+use Rattle.cf_base.specs.declared.limits.TheConstants.{HEADER}
 use Rattle.scan_source.specs.declared.scans.Loaded.{Loaded}
 use Rattle.scan_source.specs.declared.scans.Loaded.TheVariants as loaded
 use Rattle.scan_source.specs.declared.scans.Head.{Head}
@@ -26,6 +27,6 @@ first_bytes count bytes = take count bytes ++ replicate (count - length bytes) 0
 
 -- where the scan tells its files: the first 2048 bytes and the length, or that there is no file
 abbrev pub IsHead : Head → Option (List ℕ) → List ℕ → Type 0
-IsHead (head.Found len) file into = IsSomeAnd file (λ bytes. (len ≡ length bytes) × (into ≡ first_bytes 2048 bytes))
+IsHead (head.Found len) file into = IsSomeAnd file (λ bytes. (len ≡ length bytes) × (into ≡ first_bytes HEADER bytes))
 IsHead head.Absent file into = file ≡ None
 IsHead head.Failed file into = Unit {0}

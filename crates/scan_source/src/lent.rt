@@ -2,7 +2,7 @@
 ghost use Rattle.scan_source.specs.State.{lent_by};
 
 use crate::{Head, Loaded, Scans};
-use cf_base::PathText;
+use cf_base::{HEADER, PathText};
 
 impl<S: Scans> Scans for &mut S {
     ghost state = { λ scan. lent_by (record { name = scan.ghost_name; place = scan.ref_ptr }) (S.state scan.now) };
@@ -11,7 +11,7 @@ impl<S: Scans> Scans for &mut S {
         (**self).load(path, most, into)
     }
 
-    fn head(&mut self, path: &PathText, into: &mut [u8; 2048]) -> Head {
+    fn head(&mut self, path: &PathText, into: &mut [u8; HEADER]) -> Head {
         (**self).head(path, into)
     }
 

@@ -6,7 +6,7 @@ ghost use Rattle.scan_source.specs.Plan.{one_more};
 ghost use Rattle.scan_source.specs.World.{file_at};
 
 use crate::{Head, Loaded, Scans, head_of};
-use cf_base::PathText;
+use cf_base::{HEADER, PathText};
 
 /// Files in memory, which the scan tells. Chosen calls fail. A look-up goes through the files in their order.
 #[derive(Drop)]
@@ -103,7 +103,7 @@ impl Scans for MemoryScans {
         }
     }
 
-    fn head(&mut self, path: &PathText, into: &mut [u8; 2048]) -> Head {
+    fn head(&mut self, path: &PathText, into: &mut [u8; HEADER]) -> Head {
         self.heads = self.heads.saturating_add(1);
         if self.fails_now() {
             return Head::Failed;

@@ -8,7 +8,7 @@ ghost use Rattle.scan_source.specs.Same.{same_of, HasLoadedSame, HasLookedSame, 
 ghost use Rattle.scan_source.specs.State.{untold};
 
 use crate::{Head, Loaded, MemoryScans, Scans};
-use cf_base::PathText;
+use cf_base::{HEADER, PathText};
 
 /// A few texts in memory, and at every other path a file with one and the same head, which can't be loaded: a job of any
 /// number of source frames can be planned over it, and takes no memory for their files. It doesn't tell its files, and
@@ -16,7 +16,7 @@ use cf_base::PathText;
 #[derive(Drop)]
 pub struct SameScans {
     texts: MemoryScans,
-    head: [u8; 2048],
+    head: [u8; HEADER],
     len: u64,
     loads: u64,
     heads: u64,
@@ -25,7 +25,7 @@ pub struct SameScans {
 impl SameScans {
     /// Calls on a path of the texts go to their scan, which counts and fails those that go to it. At any other path the
     /// head is this one, the file has `len` bytes, and a load finds none. Takes no memory.
-    pub fn new(texts: MemoryScans, head: [u8; 2048], len: u64) -> Self
+    pub fn new(texts: MemoryScans, head: [u8; HEADER], len: u64) -> Self
         ensures same { same_of result ≡ record { texts = memory_of texts; head = head; len = len } }
         ensures faults { (⟦<SameScans as Scans>⟧.state result).faults ≡ (⟦<MemoryScans as Scans>⟧.state texts).faults }
         ensures world { (⟦<SameScans as Scans>⟧.state result).world ≡ None }
@@ -66,7 +66,7 @@ impl Scans for SameScans {
         Loaded::Absent
     }
 
-    fn head(&mut self, path: &PathText, into: &mut [u8; 2048]) -> Head
+    fn head(&mut self, path: &PathText, into: &mut [u8; HEADER]) -> Head
         ensures answer { HasLookedSame (same_of self.old) path.now result into.new }
         ensures next { same_of self.new ≡ next_same path.now (same_of self.old) }
 

@@ -7,7 +7,7 @@ ghost use Rattle.scan_source.specs.Planned.{FollowsIfTold};
 ghost use Rattle.scan_source.specs.State.{ScanState};
 ghost use Rattle.scan_source.specs.World.{file_at};
 
-use cf_base::PathText;
+use cf_base::{HEADER, PathText};
 
 /// What a load answers.
 #[derive(Clone, Copy, Debug, PartialEq, Eq)]
@@ -56,7 +56,7 @@ pub trait Scans: Drop {
 
     /// Reads the first 2048 bytes of a file, with zeros behind them where it has fewer, and tells its length in bytes.
     /// After another answer than `Found` nothing is known of the bytes in `into`. Takes no memory.
-    fn head(&mut self, path: &PathText, into: &mut [u8; 2048]) -> Head
+    fn head(&mut self, path: &PathText, into: &mut [u8; HEADER]) -> Head
         ensures told { IfSome (state self.old).world (λ files. IsHead result (file_at files path.now) into.new) }
 
         ensures fault { CountsOneFault (result ≡ Head.Failed) (state self.old).faults (state self.new).faults }

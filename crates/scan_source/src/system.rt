@@ -5,14 +5,11 @@ ghost use Rattle.scan_source.specs.State.{untold};
 
 use crate::{Head, Loaded, Scans};
 use arrayvec::ArrayString;
-use cf_base::{FilePath, PathText, Tried, Trouble, again, fill, told};
+use cf_base::{FilePath, HEADER, PIECE, PathText, Tried, Trouble, again, fill, told};
 use std::fs::{self, OpenFile};
 use std::io::{ErrorKind, Read};
 use std::rt::Files;
 use std::str;
-
-/// How many bytes of a file are read at once.
-const PIECE: usize = 65536;
 
 /// Files by paths that start at the current folder. The scan tells nothing. It counts each error of the system other
 /// than "not found": a folder in a file's place, a path through a file, a file that can't be read; and at a head whatever
@@ -104,7 +101,7 @@ impl<R: Files + Drop> Scans for FileScans<R> {
         }
     }
 
-    fn head(&mut self, path: &PathText, into: &mut [u8; 2048]) -> Head {
+    fn head(&mut self, path: &PathText, into: &mut [u8; HEADER]) -> Head {
         self.heads = self.heads.saturating_add(1);
         self.last = Some(*path);
         self.is_absent = false;
@@ -171,11 +168,11 @@ fn load_file<R: Files>(
 }
 
 /// Reads the first 2048 bytes of a plain file, with zeros behind them, and tells the file's length.
-fn load_head<R: Files>(rt: &R, path: &PathText, into: &mut [u8; 2048]) -> Result<u64, Trouble> {
+fn load_head<R: Files>(rt: &R, path: &PathText, into: &mut [u8; HEADER]) -> Result<u64, Trouble> {
     let path = file_path(path)?;
     has_plain_file(rt, &path)?;
     let (mut file, len) = open(rt, &path)?;
-    *into = [0; 2048];
+    *into = [0; HEADER];
     let read = read_into(&mut file, &path, into)?;
     if read < into.len() {
         Ok(read as u64)

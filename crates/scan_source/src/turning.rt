@@ -8,7 +8,7 @@ ghost use Rattle.scan_source.specs.Turning.{turning_of, is_before, serving, next
 ghost use Rattle.scan_source.specs.State.{untold};
 
 use crate::{Head, Loaded, MemoryScans, Scans};
-use cf_base::PathText;
+use cf_base::{HEADER, PathText};
 
 /// Two scans in memory, one in place of the other from a chosen call on: what a plan finds and what is loaded afterwards
 /// need not be the same. It doesn't tell its files, and never fails by itself.
@@ -77,7 +77,7 @@ impl Scans for TurningScans {
         }
     }
 
-    fn head(&mut self, path: &PathText, into: &mut [u8; 2048]) -> Head
+    fn head(&mut self, path: &PathText, into: &mut [u8; HEADER]) -> Head
         ensures answer { HasLooked (serving (turning_of self.old)) path.now result into.new }
         ensures next { turning_of self.new ≡ next_turning (turning_of self.old) }
 

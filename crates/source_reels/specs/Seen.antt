@@ -3,6 +3,7 @@
 --     info_of_file bytes      what a file says of its pixels, or its first fault
 --     IsSeen seen file      what an answer says of the file at the path
 use Rattle.std.specs.Prelude.{◌≡◌, ℕ, List, length, Option, None, Result, Ok, Err, IsSomeAnd}
+use Rattle.cf_base.specs.declared.limits.TheConstants.{HEADER}
 use Rattle.dpx_header.specs.Frame.{IsFrame}
 use Rattle.dpx_header.specs.Reading.{info_of}
 use Rattle.dpx_header.specs.declared.fault.DpxFault.{DpxFault}
@@ -13,7 +14,7 @@ use Rattle.source_reels.specs.declared.seen.Seen.TheVariants as seen
 
 -- what a file says of its pixels, or its first fault
 abbrev pub info_of_file : List ℕ → Result FrameInfo DpxFault
-info_of_file bytes = info_of (first_bytes 2048 bytes) (length bytes)
+info_of_file bytes = info_of (first_bytes HEADER bytes) (length bytes)
 
 abbrev pub IsSeen : Seen → Option (List ℕ) → Type 0
 IsSeen (seen.Info info) file = IsSomeAnd file (λ bytes. info_of_file bytes ≡ Ok info)

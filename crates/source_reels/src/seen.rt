@@ -7,7 +7,7 @@ ghost use Rattle.source_reels.specs.Seen.{IsSeen, IsSeenFrame};
 ghost use Rattle.source_reels.specs.inside.Seen.{IsSeenIn};
 ghost use Rattle.scan_source.specs.State.{LeavesScan};
 
-use cf_base::PathText;
+use cf_base::{HEADER, PathText};
 use dpx_header::{DpxFault, FrameInfo, read_header};
 use scan_source::{Head, Scans};
 
@@ -35,7 +35,7 @@ pub fn inspect<S: Scans>(scans: &mut S, path: &PathText) -> Seen
     ensures heads { (S.state scans.new).heads ≡ one_more (S.state scans.old).heads }
     ensures loads { (S.state scans.new).loads ≡ (S.state scans.old).loads }
 {
-    let mut head = [0; 2048];
+    let mut head = [0; HEADER];
     match scans.head(path, &mut head) {
         Head::Found { len } => seen_of(&head, len),
         Head::Absent => Seen::Absent,
@@ -44,7 +44,7 @@ pub fn inspect<S: Scans>(scans: &mut S, path: &PathText) -> Seen
 }
 
 /// What a file of that many bytes with that head says.
-fn seen_of(head: &[u8; 2048], len: u64) -> Seen
+fn seen_of(head: &[u8; HEADER], len: u64) -> Seen
     ensures seen { IsSeenIn result head.now len }
     ensures frame { IsSeenFrame result }
     ensures found { result ≢ Seen.Fault }

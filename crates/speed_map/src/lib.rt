@@ -4,14 +4,14 @@
 ghost use Rattle.std.specs.Prelude.{◌≡◌, ◌≤◌, nat_abs};
 ghost use Rattle.speed_map.specs.Speeds.{source_offset_of, RoundsDown, OneFloor};
 
-use cf_base::Rate;
+use cf_base::{LONGEST, Rate};
 
 /// How many source frames on from its source in an event is after `j` record frames: `j * speed / (100 * rate)`, rounded
 /// toward minus infinity. The speed is in hundredths of a frame per second, negative where the source runs backwards; the
 /// rate is its counting base. Takes no memory.
 pub fn source_offset(rate: Rate, speed: i32, j: u32) -> i64
     requires speed { nat_abs speed ≤ 999999 }
-    requires frames { j ≤ 2592000 }
+    requires frames { j ≤ LONGEST }
     ensures { result ≡ source_offset_of rate speed j }
 {
     let per_frame = match rate {

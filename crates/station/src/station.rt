@@ -12,6 +12,7 @@ ghost use Rattle.station.specs.StationSteps.{IsBeginning, IsSurelyAcked, IsSurel
 
 use crate::crewed::Crewed;
 use crate::marks::Marks;
+use cf_base::WORKERS;
 use conform_job::Work;
 use reel_disk::{Disk, DiskFault, Start};
 use reel_writer::{Hashed, Reel};
@@ -190,7 +191,7 @@ impl<D: Disk, N: Work + Start, C: Crewed> Station<D, N, C> {
     pub fn workers(&self) -> u16
         ensures workers { result ≡ self.now.log.workers }
         ensures some { 1 ≤ result }
-        ensures most { result ≤ 16 }
+        ensures most { result ≤ WORKERS }
         ensures named { self.now.log.workers ≡ C.workers }
         ensures range { (self.now.log.low ≡ C.low) × (self.now.log.high ≡ C.high) }
         ensures ordered { (self.now.log.low ≤ self.now.log.high) × (self.now.log.high ≤ length self.now.log.start) }
@@ -203,7 +204,7 @@ impl<D: Disk, N: Work + Start, C: Crewed> Station<D, N, C> {
     /// Recalls what every station keeps whenever the lock is free. Nothing runs: it is called for what its clauses say.
     pub fn recall(&self)
         ensures some { 1 ≤ self.now.log.workers }
-        ensures most { self.now.log.workers ≤ 16 }
+        ensures most { self.now.log.workers ≤ WORKERS }
         ensures named { self.now.log.workers ≡ C.workers }
         ensures range { (self.now.log.low ≡ C.low) × (self.now.log.high ≡ C.high) }
         ensures ordered { (self.now.log.low ≤ self.now.log.high) × (self.now.log.high ≤ length self.now.log.start) }

@@ -1,7 +1,7 @@
 //! Tones that a house hands in, and contact sheets that a disk in memory fails.
 use cf_base::FileId;
-use reel_disk::{Disk, Got, MemoryDisk};
-use reel_qc::{SheetDone, SheetFault, Tone, ToneTable, make_sheet, square, square_table};
+use reel_disk::{Disk, DiskFail, Got, MemoryDisk};
+use reel_qc::{SheetDone, Tone, ToneTable, make_sheet, square, square_table};
 use resume_ledger::Ledger;
 use std::alloc::Global;
 use test_desk::{Desk, is_whole};
@@ -47,11 +47,7 @@ fn the_square_keeps_black_and_white(rt: HostRuntime) {
 }
 
 /// The contact sheet of what the folder acknowledges of the desk's job.
-fn sheet(
-    alloc: Global,
-    desk: &Desk,
-    disk: &mut MemoryDisk,
-) -> Option<Result<SheetDone, SheetFault>> {
+fn sheet(alloc: Global, desk: &Desk, disk: &mut MemoryDisk) -> Option<Result<SheetDone, DiskFail>> {
     let job = &desk.job;
     let tone = Tone::new(square_table(), square);
     match Ledger::look(alloc, disk, job.digest(), job.timeline().count()) {
@@ -84,7 +80,7 @@ fn a_sheet_fails_at_each_of_its_calls_and_leaves_the_reel(rt: HostRuntime) {
         let mut left = [1; 33];
         let read = disk.read(FileId::Sheet, 2048, &mut left);
         assert!(rt;
-            made.is_ok() == (call == 999) && made != Err(SheetFault::NoMemory),
+            made.is_ok() == (call == 999) && made != Err(DiskFail::NoMemory),
             "{call}"
         );
         assert!(rt; made.is_err() || made == Ok(SheetDone { cells: 2, peak: 12 }));

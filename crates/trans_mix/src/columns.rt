@@ -5,7 +5,8 @@ ghost use Rattle.trans_mix.specs.Wipe.{is_incoming};
 ghost use Rattle.trans_mix.specs.Columns.{AreColumns};
 ghost use Rattle.trans_mix.specs.inside.Columns.{from_left, from_right, from_middle};
 
-use crate::{LARGEST, LONGEST, passed};
+use crate::passed;
+use cf_base::{LARGEST, LONGEST};
 
 /// Columns of a line, side by side: those from `from` up to `to`, the last excluded.
 #[derive(Clone, Copy)]

@@ -16,14 +16,9 @@ ghost use Rattle.trans_mix.specs.Wipe.{has_passed, is_incoming, HaveShapes};
 mod columns;
 mod weights;
 
+use cf_base::{LARGEST, LONGEST};
 pub use columns::{Columns, incoming_columns};
 pub use weights::{LONGEST_WEIGHTED, Weights};
-
-/// The longest transition, in frames: a day at 30 frames per second.
-pub const LONGEST: u32 = 2_592_000;
-
-/// The greatest width and height, in pixels.
-pub const LARGEST: u32 = 4096;
 
 /// The code of a dissolve's frame `k` of `d`, between the old side's code `a` and the new side's `b`: at the frame's
 /// centre the new side has the weight (2k + 1) / 2d, and the code is rounded to the nearest.

@@ -1,6 +1,7 @@
 //! Dissolves of many pixels: the weights of the two sides are made once a frame, so that no code needs a division.
 ghost use Rattle.std.specs.Prelude.{◌≡◌, ◌+◌, ◌*◌, ◌/◌, ◌<◌, ◌≤◌};
 ghost use Rattle.trans_mix.specs.Mix.{mixed_code};
+ghost use Rattle.trans_mix.specs.declared.weights.TheConstants.{LONGEST_WEIGHTED, WHOLE};
 
 /// The longest dissolve whose codes these weights give exactly, in frames.
 pub const LONGEST_WEIGHTED: u32 = 2048;
@@ -23,9 +24,9 @@ pub struct Weights {
     /// The new side's weight: (2k + 1) / 2d of the whole, to the nearest.
     pub by_new: u32,
     ghost frame: { k < d },
-    ghost short: { d ≤ 2048 },
-    ghost nearest: { by_new ≡ ((2 * k + 1) * 4194304 + d) / (2 * d) },
-    ghost whole: { by_old + by_new ≡ 4194304 },
+    ghost short: { d ≤ LONGEST_WEIGHTED },
+    ghost nearest: { by_new ≡ ((2 * k + 1) * WHOLE + d) / (2 * d) },
+    ghost whole: { by_old + by_new ≡ WHOLE },
 }
 
 impl Weights {
@@ -61,8 +62,8 @@ impl Weights {
 fn weight_of_new(k: u32, d: u32) -> u32
     requires frame { k < d }
     requires short { d ≤ LONGEST_WEIGHTED }
-    ensures nearest { result ≡ ((2 * k + 1) * 4194304 + d) / (2 * d) }
-    ensures most { result ≤ 4194304 }
+    ensures nearest { result ≡ ((2 * k + 1) * WHOLE + d) / (2 * d) }
+    ensures most { result ≤ WHOLE }
 {
     let (k, d) = (u64::from(k), u64::from(d));
     (((2 * k + 1) * u64::from(WHOLE) + d) / (2 * d)) as u32

@@ -3,6 +3,7 @@
 --   words
 use Rattle.std.specs.Prelude.{◌≡◌, ℕ, List, [], ◌++◌, length, Option, None, Result, Err, IsOk, IsOkAnd, IsSomeAnd}
 use Rattle.std.specs.List.{flat_map}
+use Rattle.cf_base.specs.declared.limits.TheConstants.{HEADER}
 use Rattle.byteorder.specs.Endian.{big_bytes}
 use Rattle.dpx_header.specs.declared.info.FrameInfo.{FrameInfo}
 use Rattle.dpx_header.specs.declared.fault.DpxFault.{DpxFault}
@@ -22,7 +23,7 @@ use Rattle.command_answers.specs.Meaning.{HasReelFailed, IsThrough, LeavesReel, 
 
 -- what a file says of its pixels, or its first fault
 abbrev pub info_in : List ℕ → Result FrameInfo DpxFault
-info_in bytes = info_of (first_bytes 2048 bytes) (length bytes)
+info_in bytes = info_of (first_bytes HEADER bytes) (length bytes)
 
 -- the new header: the size, reel 0, frame 0, position 0, length 1, no timecode and an empty title
 abbrev pub frame_head : FrameInfo → OutHead

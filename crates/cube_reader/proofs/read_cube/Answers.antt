@@ -6,11 +6,11 @@ use Rattle.cube_reader.proofs.read_cube.Goals as goal
 
 pub returns-in-Some : goal.returns-in-Some
 returns-in-Some c =
-    let line : c.max.result ≡ max 1 (length (lines_in c.args.text.now)) = (let done = c.in-Ok.ensures.done in let most = c.max.ensures in omega (arith, done, most)) in
-    by_end c.args.text.now c.if-text-gt-MOST_BYTES.false c.in-Ok.reading c.in-Ok.ensures c.in-Some.kind (sym c.end_fault.ensures ∙ c.in-Some.is) c.max.result line
+    let line : c.max.result ≡ max 1 (length (lines_in c.args.text.now)) = (let done = c.in_ok-reading.ensures.done in let most = c.max.ensures in omega (arith, done, most)) in
+    by_end c.args.text.now c.if-text-gt-CUBE_BYTES.false c.in_ok-reading.reading c.in_ok-reading.ensures c.in-Some.kind (sym c.end_fault.ensures ∙ c.in-Some.is) c.max.result line
 
 pub invariant_of-result : goal.invariant_of-result
-invariant_of-result c = table_read c.args.text.now c.if-text-gt-MOST_BYTES.false c.in-Ok.reading c.in-Ok.ensures (sym c.end_fault.ensures ∙ c.in_default.is)
+invariant_of-result c = table_read c.args.text.now c.if-text-gt-CUBE_BYTES.false c.in_ok-reading.reading c.in_ok-reading.ensures (sym c.end_fault.ensures ∙ c.in_default.is)
 
 pub returns : goal.returns
-returns c = by_table c.args.text.now c.if-text-gt-MOST_BYTES.false c.in-Ok.reading c.in-Ok.ensures (sym c.end_fault.ensures ∙ c.in_default.is)
+returns c = by_table c.args.text.now c.if-text-gt-CUBE_BYTES.false c.in_ok-reading.reading c.in_ok-reading.ensures (sym c.end_fault.ensures ∙ c.in_default.is)

@@ -1,5 +1,6 @@
 -- The command `adopt`: words of private clauses.
 use Rattle.std.specs.Prelude.{◌≡◌, ◌⊎◌, ℕ, List, Option, IfSome, Result, Ok, MatchResult}
+use Rattle.scan_source.specs.State.{LeavesScan, ScanState}
 use Rattle.scan_source.specs.World.{World, file_at}
 use Rattle.conform_job.specs.Job.{JobData}
 use Rattle.reconform.specs.declared.adopting.Adopted.{Adopted}
@@ -24,3 +25,8 @@ Ends result Was = MatchResult result (λ text. Was outcome.Done) Was
 -- the job is that of a project over these source files
 abbrev pub IsJobOver : Option World → JobData → Type 0
 IsJobOver told job = IfSome told (λ world. (path : List ℕ) × ComesTo (file_at world) path (Ok job.parts))
+
+-- What is left of the scan behind the plans: no more heads are asked for.
+pub record LeavesPlanned (Failed : Type 0) (before after : ScanState) : Type 0 where
+  pub lent : LeavesScan Failed before after
+  pub heads : after.heads ≡ before.heads

@@ -6,7 +6,7 @@ ghost use Rattle.reel_qc.specs.inside.Boxes.{HasPicture, HasRoomAt, HasSums, IsB
 ghost use Rattle.reel_qc.specs.Counts.{blue_of, green_of, red_of};
 ghost use Rattle.reel_qc.specs.Sheet.{boxes_of, box_colour, cell_height, cell_width, rounded_mean};
 
-use cf_base::Rgb;
+use cf_base::{LARGEST, Rgb};
 use conform_job::Job;
 use std::alloc::{AllocError, Global};
 
@@ -28,8 +28,8 @@ impl Boxes {
         height: u32,
     ) -> Result<Boxes, AllocError>
         requires some_width { 1 ≤ width }
-        requires most_width { width ≤ 4096 }
-        requires most_height { height ≤ 4096 }
+        requires most_width { width ≤ LARGEST }
+        requires most_height { height ≤ LARGEST }
         requires whole { length words.now ≡ width * height }
         ensures { IfOk result (λ boxes. HasSums words.now width (width * height) (boxes_of width) (boxes_of height) boxes) }
     {
@@ -62,8 +62,8 @@ impl Boxes {
     /// Adds the pixels of line `y`, behind those of the lines before it.
     fn add_line(&mut self, words: &[u32], width: u32, height: u32, y: u32)
         requires some_width { 1 ≤ width }
-        requires most_width { width ≤ 4096 }
-        requires most_height { height ≤ 4096 }
+        requires most_width { width ≤ LARGEST }
+        requires most_height { height ≤ LARGEST }
         requires line { y < height }
         requires whole { length words.now ≡ width * height }
         requires sums { HasSums words.now width (y * width) (boxes_of width) (boxes_of height) self.old }
@@ -76,8 +76,8 @@ impl Boxes {
 
     /// Adds the pixels of line `y` that lie in column `u` of the boxes, behind those before them.
     fn add_run(&mut self, words: &[u32], width: u32, height: u32, u: u32, y: u32)
-        requires most_width { width ≤ 4096 }
-        requires most_height { height ≤ 4096 }
+        requires most_width { width ≤ LARGEST }
+        requires most_height { height ≤ LARGEST }
         requires column { u < boxes_of width }
         requires line { y < height }
         requires whole { length words.now ≡ width * height }
@@ -159,17 +159,17 @@ fn sums_of(words: &[u32]) -> Sums
 
 /// The column of a line's pixels at which those of column `u` of the boxes begin, and those before it end.
 fn run_start(width: u32, u: u32) -> u32
-    requires width { width ≤ 4096 }
+    requires width { width ≤ LARGEST }
     requires u { u ≤ 256 }
     ensures start { result ≡ run_start width u }
-    ensures most { result ≤ 4096 }
+    ensures most { result ≤ LARGEST }
 {
     width.min(16 * u)
 }
 
 /// How many boxes of 16 pixels a number of pixels needs.
 pub(crate) fn boxes_of(pixels: u32) -> u32
-    requires { pixels ≤ 4096 }
+    requires { pixels ≤ LARGEST }
     ensures boxes { result ≡ boxes_of pixels }
     ensures most { result ≤ 256 }
 {
@@ -178,9 +178,9 @@ pub(crate) fn boxes_of(pixels: u32) -> u32
 
 /// The place of column `x` of line `y`, where lines are so wide.
 fn place_of(width: u32, x: u32, y: u32) -> usize
-    requires width { width ≤ 4096 }
-    requires x { x ≤ 4096 }
-    requires y { y ≤ 4096 }
+    requires width { width ≤ LARGEST }
+    requires x { x ≤ LARGEST }
+    requires y { y ≤ LARGEST }
     ensures { result ≡ y * width + x }
 {
     y as usize * width as usize + x as usize

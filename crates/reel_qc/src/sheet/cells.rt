@@ -1,5 +1,5 @@
 //! The cells of the sheet: which record frames they show, and the sums over the frames' files.
-ghost use Rattle.std.specs.Prelude.{◌≡◌, ◌≢◌, ◌+◌, ◌-◌, ◌*◌, ◌<◌, ◌≤◌, All, true, length, slice_get, IfOk, IfSome, IsErrOf, Err};
+ghost use Rattle.std.specs.Prelude.{◌≡◌, ◌+◌, ◌-◌, ◌*◌, ◌<◌, ◌≤◌, All, true, length, slice_get, IfOk, IfSome, IsErrOf, Err};
 ghost use Rattle.cf_base.specs.declared.event.EventRec.{EventRec};
 ghost use Rattle.reel_disk.specs.State.{LeavesDisk, OnlyReads};
 ghost use Rattle.frame_render.specs.Frame.{pixel_count};
@@ -9,13 +9,11 @@ ghost use Rattle.reel_writer.specs.Reel.{frames_of};
 ghost use Rattle.reel_qc.specs.inside.Boxes.{HasPicture, IsCell, HasRow};
 ghost use Rattle.reel_qc.specs.Sheet.{cell_frames, cell_picture, first_frames, frames_in, most_cells, place_picture, whole_picture};
 
-use crate::sheet::SheetFault;
 use crate::sheet::boxes::{Boxes, boxes_of};
-use crate::table::QcFault;
 use crate::words::{Buffers, pixels_of, read_frame};
-use cf_base::EventRec;
+use cf_base::{EventRec, LARGEST, PIECE};
 use conform_job::Job;
-use reel_disk::Disk;
+use reel_disk::{Disk, DiskFail};
 use resume_ledger::LedgerView;
 use std::alloc::{AllocError, Global};
 
@@ -38,7 +36,7 @@ fn most_cells(job: &Job) -> usize
     ensures few { result ≤ 32768 }
 {
     job.recall();
-    8 * (4096 / boxes_of(job.height()) as usize)
+    8 * (LARGEST / boxes_of(job.height())) as usize
 }
 
 /// The first record frame of each event that has record frames.
@@ -76,27 +74,24 @@ pub(crate) fn load_row<D: Disk>(
     frames: &[u32],
     row: u32,
     buffers: &mut Buffers,
-) -> Result<Vec<Option<Boxes>>, SheetFault>
+) -> Result<Vec<Option<Boxes>>, DiskFail>
     requires size { length view.now.gates ≡ frames_of job.now }
     requires frames { frames.now ≡ cell_frames job.now }
     requires within { All (λ i. i < frames_of job.now) frames.now }
-    requires row { row ≤ 4096 }
-    requires piece { length buffers.old.piece.items ≡ 65536 }
+    requires row { row ≤ LARGEST }
+    requires piece { length buffers.old.piece.items ≡ PIECE }
     ensures cells { IfOk result (λ cells. length cells.items ≡ 8) }
     ensures pictures { IfOk result (λ cells. HasRow job.now view.now D.tells (D.state disk.old).history row cells.items) }
-    ensures piece { length buffers.new.piece.items ≡ 65536 }
+    ensures piece { length buffers.new.piece.items ≡ PIECE }
     ensures reads { OnlyReads D.tells (D.state disk.old) (D.state disk.new) }
-    ensures disk { LeavesDisk (IsErrOf result SheetFault.DiskFault) (D.state disk.old) (D.state disk.new) }
+    ensures disk { LeavesDisk (IsErrOf result DiskFail.DiskFault) (D.state disk.old) (D.state disk.new) }
 {
     let mut cells = Vec::new(alloc);
     for c in 0..8 {
         let frame = frame_at(frames, row * 8 + c);
-        let cell = match load_cell(alloc, disk, job, view, frame, buffers) {
-            Ok(cell) => cell,
-            Err(fault) => return Err(fault),
-        };
+        let cell = load_cell(alloc, disk, job, view, frame, buffers)?;
         let Ok(()) = cells.push(cell) else {
-            return Err(SheetFault::NoMemory);
+            return Err(DiskFail::NoMemory);
         };
     }
     Ok(cells)
@@ -117,15 +112,15 @@ fn load_cell<D: Disk>(
     view: &LedgerView,
     frame: Option<u32>,
     buffers: &mut Buffers,
-) -> Result<Option<Boxes>, SheetFault>
+) -> Result<Option<Boxes>, DiskFail>
     requires size { length view.now.gates ≡ frames_of job.now }
     requires within { IfSome frame (λ i. i < frames_of job.now) }
-    requires piece { length buffers.old.piece.items ≡ 65536 }
+    requires piece { length buffers.old.piece.items ≡ PIECE }
     ensures cell { IfOk result
         (IsCell job.now (D.tells ≡ true) (place_picture job.now view.now (view_of (D.state disk.old).history) frame)) }
-    ensures piece { length buffers.new.piece.items ≡ 65536 }
+    ensures piece { length buffers.new.piece.items ≡ PIECE }
     ensures reads { OnlyReads D.tells (D.state disk.old) (D.state disk.new) }
-    ensures disk { LeavesDisk (IsErrOf result SheetFault.DiskFault) (D.state disk.old) (D.state disk.new) }
+    ensures disk { LeavesDisk (IsErrOf result DiskFail.DiskFault) (D.state disk.old) (D.state disk.new) }
 {
     match frame {
         Some(i) => load_frame(alloc, disk, job, view, i, buffers),
@@ -141,26 +136,21 @@ fn load_frame<D: Disk>(
     view: &LedgerView,
     i: u32,
     buffers: &mut Buffers,
-) -> Result<Option<Boxes>, SheetFault>
+) -> Result<Option<Boxes>, DiskFail>
     requires size { length view.now.gates ≡ frames_of job.now }
     requires within { i < frames_of job.now }
-    requires piece { length buffers.old.piece.items ≡ 65536 }
+    requires piece { length buffers.old.piece.items ≡ PIECE }
     ensures cell { IfOk result (IsCell job.now (D.tells ≡ true) (cell_picture job.now view.now (view_of (D.state disk.old).history) i)) }
-    ensures piece { length buffers.new.piece.items ≡ 65536 }
+    ensures piece { length buffers.new.piece.items ≡ PIECE }
     ensures reads { OnlyReads D.tells (D.state disk.old) (D.state disk.new) }
-    ensures disk { LeavesDisk (IsErrOf result SheetFault.DiskFault) (D.state disk.old) (D.state disk.new) }
+    ensures disk { LeavesDisk (IsErrOf result DiskFail.DiskFault) (D.state disk.old) (D.state disk.new) }
 {
     if !view.is_acked(i) {
         return Ok(None);
     }
-    match read_frame(disk, job, i, buffers) {
-        Ok(()) => match sums_of(alloc, job, &buffers.words) {
-            Ok(cell) => Ok(cell),
-            Err(_) => Err(SheetFault::NoMemory),
-        },
-        Err(QcFault::DiskFault) => Err(SheetFault::DiskFault),
-        Err(QcFault::NoMemory) => Err(SheetFault::NoMemory),
-    }
+    read_frame(disk, job, i, buffers)?;
+    let cell = sums_of(alloc, job, &buffers.words)?;
+    Ok(cell)
 }
 
 /// The sums of a picture, where none of its words is missing.

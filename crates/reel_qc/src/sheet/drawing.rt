@@ -8,7 +8,7 @@ ghost use Rattle.reel_qc.specs.Sheet.{sheet_width, toned, toned_bytes};
 use crate::sheet::boxes::{Boxes, boxes_of, cell_colour};
 use crate::sheet::tone::Tone;
 use byteorder::{BigEndian, ByteOrder};
-use cf_base::Rgb;
+use cf_base::{LARGEST, Rgb};
 use conform_job::Job;
 use dpx_pack::word_of;
 use printed_text::put_bytes;
@@ -29,7 +29,7 @@ pub(crate) fn draw_cells(
     row: u32,
     drawing: &mut Drawing,
 ) -> Result<(), AllocError>
-    requires row { row ≤ 4096 }
+    requires row { row ≤ LARGEST }
     requires cells { length cells.now ≡ 8 }
     requires pictures { (pictures : List (Option (List ℕ))) × AreCells job.now pictures cells.now }
     ensures { OnOk result (DrawsCells tone.now.table job.now cells.now (λ ps. pictured_row job.now ps row) drawing.old drawing.new) }

@@ -1,5 +1,5 @@
 //! The counts of several probes over the words of a frame's file.
-ghost use Rattle.std.specs.Prelude.{◌≡◌, ◌≢◌, ◌<◌, ◌≤◌, true, length, map, OnOk, IfOk, IsErrOf, Err};
+ghost use Rattle.std.specs.Prelude.{◌≡◌, ◌<◌, ◌≤◌, true, length, map, OnOk, IfOk, IsErrOf};
 ghost use Rattle.reel_disk.specs.State.{LeavesDisk, OnlyReads};
 ghost use Rattle.conform_job.specs.Job.{file_of};
 ghost use Rattle.reel_disk.specs.Disk.{view_of};
@@ -7,13 +7,12 @@ ghost use Rattle.reel_writer.specs.Reel.{frames_of};
 ghost use Rattle.reel_qc.specs.inside.Table.{AddsCounts, HasCounted};
 ghost use Rattle.reel_qc.specs.Words.{frame_words, words_in};
 
-use crate::table::QcFault;
 use crate::table::counter::Counter;
 use crate::table::probe::Probe;
 use crate::words::{Buffers, pixels_of, read_words};
-use cf_base::FileId;
+use cf_base::{FileId, PIECE};
 use conform_job::Job;
-use reel_disk::Disk;
+use reel_disk::{Disk, DiskFail};
 use std::alloc::Global;
 
 /// What counts: the probes, how they count, and where the memory comes from.
@@ -31,24 +30,22 @@ pub(crate) fn count_frame<D: Disk, C: Counter>(
     job: &Job,
     i: u32,
     buffers: &mut Buffers,
-) -> Result<Vec<u64>, QcFault>
+) -> Result<Vec<u64>, DiskFail>
     requires ready { C.ready }
     requires within { i < frames_of job.now }
-    requires piece { length buffers.old.piece.items ≡ 65536 }
+    requires piece { length buffers.old.piece.items ≡ PIECE }
     requires room { 0 < length buffers.old.words.items }
     requires few { length buffers.old.words.items ≤ 16777216 }
     ensures counted { IfOk result (λ counts. HasCounted (map (λ p. p.kind) counting.now.probes.now) (D.tells ≡ true)
         (frame_words job.now (view_of (D.state disk.old).history (file_of job.now i))) counts.items) }
-    ensures piece { length buffers.new.piece.items ≡ 65536 }
+    ensures piece { length buffers.new.piece.items ≡ PIECE }
     ensures room { length buffers.new.words.items ≡ length buffers.old.words.items }
     ensures reads { OnlyReads D.tells (D.state disk.old) (D.state disk.new) }
-    ensures disk { LeavesDisk (IsErrOf result QcFault.DiskFault) (D.state disk.old) (D.state disk.new) }
+    ensures disk { LeavesDisk (IsErrOf result DiskFail.DiskFault) (D.state disk.old) (D.state disk.new) }
 {
-    let Ok(mut counts) = vec![in counting.alloc; 0u64; counting.probes.len()] else {
-        return Err(QcFault::NoMemory);
-    };
+    let mut counts = vec![in counting.alloc; 0u64; counting.probes.len()]?;
     let (id, most) = (job.file_of(i), pixels_of(job));
-    match count_file(
+    count_file(
         counting,
         disk,
         id,
@@ -56,10 +53,8 @@ pub(crate) fn count_frame<D: Disk, C: Counter>(
         &mut buffers.piece,
         &mut buffers.words,
         &mut counts,
-    ) {
-        Ok(()) => Ok(counts),
-        Err(fault) => Err(fault),
-    }
+    )?;
+    Ok(counts)
 }
 
 /// Adds the count of each probe over the words of a file, at most so many, to its own.
@@ -71,25 +66,22 @@ fn count_file<D: Disk, C: Counter>(
     piece: &mut [u8],
     words: &mut [u32],
     counts: &mut [u64],
-) -> Result<(), QcFault>
+) -> Result<(), DiskFail>
     requires ready { C.ready }
     requires most { most ≤ 16777216 }
-    requires piece { length piece.old ≡ 65536 }
+    requires piece { length piece.old ≡ PIECE }
     requires room { 0 < length words.old }
     requires few { length words.old ≤ 16777216 }
     requires counts { length counts.old ≡ length counting.now.probes.now }
     ensures added { OnOk result (AddsCounts (map (λ p. p.kind) counting.now.probes.now) (D.tells ≡ true)
         (words_in 0 most (view_of (D.state disk.old).history id)) most counts.old counts.new) }
     ensures reads { OnlyReads D.tells (D.state disk.old) (D.state disk.new) }
-    ensures disk { LeavesDisk (IsErrOf result QcFault.DiskFault) (D.state disk.old) (D.state disk.new) }
+    ensures disk { LeavesDisk (IsErrOf result DiskFail.DiskFault) (D.state disk.old) (D.state disk.new) }
 {
     let mut done = 0;
     while done < most {
         let room = words.len().min(most - done);
-        match count_part(counting, disk, id, done, piece, &mut words[..room], counts) {
-            Ok(()) => {}
-            Err(fault) => return Err(fault),
-        }
+        count_part(counting, disk, id, done, piece, &mut words[..room], counts)?;
         done += room;
     }
     Ok(())
@@ -104,26 +96,20 @@ fn count_part<D: Disk, C: Counter>(
     piece: &mut [u8],
     words: &mut [u32],
     counts: &mut [u64],
-) -> Result<(), QcFault>
+) -> Result<(), DiskFail>
     requires ready { C.ready }
     requires first { first ≤ 16777216 }
-    requires piece { length piece.old ≡ 65536 }
+    requires piece { length piece.old ≡ PIECE }
     requires few { length words.old ≤ 16777216 }
     requires counts { length counts.old ≡ length counting.now.probes.now }
     ensures added { OnOk result (AddsCounts (map (λ p. p.kind) counting.now.probes.now) (D.tells ≡ true)
         (words_in first (length words.old) (view_of (D.state disk.old).history id)) (length words.old) counts.old counts.new) }
     ensures reads { OnlyReads D.tells (D.state disk.old) (D.state disk.new) }
-    ensures disk { LeavesDisk (IsErrOf result QcFault.DiskFault) (D.state disk.old) (D.state disk.new) }
+    ensures disk { LeavesDisk (IsErrOf result DiskFail.DiskFault) (D.state disk.old) (D.state disk.new) }
 {
-    let found = match read_words(disk, id, first, piece, words) {
-        Ok(found) => found,
-        Err(fault) => return Err(fault),
-    };
-    match counting
+    let found = read_words(disk, id, first, piece, words)?;
+    counting
         .counter
-        .add_counts(counting.alloc, counting.probes, &words[..found], counts)
-    {
-        Ok(()) => Ok(()),
-        Err(_) => Err(QcFault::NoMemory),
-    }
+        .add_counts(counting.alloc, counting.probes, &words[..found], counts)?;
+    Ok(())
 }

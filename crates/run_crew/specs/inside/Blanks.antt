@@ -1,14 +1,15 @@
 -- The totals of a crew, still without a count: words of private clauses.
---     AreBlanks      the blanks have these names and parts, in the order of their fields: 17 parts each, one for each worker and
---                    one that stays
+--     AreBlanks      the blanks have these names and parts, in the order of their fields: one part for each worker, and one
+--                    that stays
 use Rattle.std.specs.Prelude.{◌≡◌, ℕ}
 use Rattle.frame_share.specs.Share.{IsBlankOf as IsCounterOf}
 use Rattle.station.specs.Marks.{IsBlankOf}
 use Rattle.run_crew.specs.declared.crew.Blanks.{Blanks}
+use Rattle.run_crew.specs.declared.crew.TheConstants.{PARTS}
 
 pub record AreBlanks (blanks : Blanks) (a b c d e : ℕ × ℕ) : Type 0 where
-  pub source : IsBlankOf a.0 a.1 blanks.source.name blanks.source.parts × (blanks.source.parts ≡ 17)
-  pub disk : IsBlankOf b.0 b.1 blanks.disk.name blanks.disk.parts × (blanks.disk.parts ≡ 17)
-  pub memory : IsBlankOf c.0 c.1 blanks.memory.name blanks.memory.parts × (blanks.memory.parts ≡ 17)
-  pub changed : IsBlankOf d.0 d.1 blanks.changed.name blanks.changed.parts × (blanks.changed.parts ≡ 17)
-  pub misses : IsCounterOf e.0 e.1 blanks.misses.name blanks.misses.parts × (blanks.misses.parts ≡ 17)
+  pub source : IsBlankOf a.0 a.1 blanks.source.name blanks.source.parts × (blanks.source.parts ≡ PARTS)
+  pub disk : IsBlankOf b.0 b.1 blanks.disk.name blanks.disk.parts × (blanks.disk.parts ≡ PARTS)
+  pub memory : IsBlankOf c.0 c.1 blanks.memory.name blanks.memory.parts × (blanks.memory.parts ≡ PARTS)
+  pub changed : IsBlankOf d.0 d.1 blanks.changed.name blanks.changed.parts × (blanks.changed.parts ≡ PARTS)
+  pub misses : IsCounterOf e.0 e.1 blanks.misses.name blanks.misses.parts × (blanks.misses.parts ≡ PARTS)

@@ -50,22 +50,22 @@ returns-in_default-clause-unfailed g c =
     (answered_unread _ (g.S.Scans.state c.args.scan.now) (folders_of g.D.Disk.tells (g.D.Disk.state c.args.disk.now) (g.D.Disk.state c.args.old.now)) _ _ _ c.put_line.ensures.put)
 
 pub returns-clause-no_call : goal.returns-clause-no_call
-returns-clause-no_call g c = (c.answer_found.ensures.uncalled _ c.in-Ok.ensures.command).0
+returns-clause-no_call g c = (c.answer_found.ensures.uncalled _ c.in-Ok.ensures.command).reel
 
 pub returns-clause-no_old_call : goal.returns-clause-no_old_call
-returns-clause-no_old_call g c = (c.answer_found.ensures.uncalled _ c.in-Ok.ensures.command).1
+returns-clause-no_old_call g c = (c.answer_found.ensures.uncalled _ c.in-Ok.ensures.command).old
 
 pub returns-clause-unread : goal.returns-clause-unread
 returns-clause-unread g c = c.answer_found.ensures.unread _ c.in-Ok.ensures.command
 
 pub returns-clause-untouched : goal.returns-clause-untouched
-returns-clause-untouched g c = c.answer_found.ensures.untouched.0
+returns-clause-untouched g c = c.answer_found.ensures.folders.reel
 
 pub returns-clause-old_untouched : goal.returns-clause-old_untouched
-returns-clause-old_untouched g c = c.answer_found.ensures.untouched.1
+returns-clause-old_untouched g c = c.answer_found.ensures.folders.old
 
 pub returns-clause-disk_same : goal.returns-clause-disk_same
-returns-clause-disk_same g c = c.answer_found.ensures.lent.0
+returns-clause-disk_same g c = c.answer_found.ensures.folders.reel_lent
 
 pub returns-clause-old_same : goal.returns-clause-old_same
-returns-clause-old_same g c = c.answer_found.ensures.lent.1
+returns-clause-old_same g c = c.answer_found.ensures.folders.old_lent

@@ -93,7 +93,7 @@ pub returns-in-Adopt-clause-reply : goal.returns-in-Adopt-clause-reply
 returns-in-Adopt-clause-reply g c =
     adopt_replied _ c.args.command.now _ _ (g.S.Scans.state c.args.scan.now) (g.S.Scans.state c.adopt.new.scan) g.D.Disk.tells (g.D.Disk.state c.args.old.now) (g.D.Disk.state c.adopt.new.old) (g.D.Disk.state c.args.disk.now) (g.D.Disk.state c.adopt.new.disk)
     c.adopt.result c.in-Adopt.is
-    (replied_over (commands.Adopt _ _) _ (g.S.Scans.state c.args.scan.now) (g.S.Scans.state c.adopt.new.scan) (replied_adopt c.in-Adopt.project c.in-Adopt.old_project) (λ reached output. tt) (λ reached. tt) (λ reached asked. asked) c.adopt.result c.adopt.ensures.kind c.adopt.ensures.scan)
+    (replied_over (commands.Adopt _ _) (g.S.Scans.state c.args.scan.now) (g.S.Scans.state c.adopt.new.scan) (replied_adopt c.in-Adopt.project c.in-Adopt.old_project) (λ reached output. tt) (λ reached. tt) c.adopt.result c.adopt.ensures.kind c.adopt.ensures.scan.lent c.adopt.ensures.scan.heads)
     c.adopt.ensures.folders c.adopt.ensures.disks
 
 pub returns-in-Adopt-clause-untouched : goal.returns-in-Adopt-clause-untouched

@@ -124,19 +124,19 @@ returns-in-Some-clause-no_call g c none =
     absurd (none (commands.Run c.in-Some.crew.project c.in-Some.crew.extent c.in-Some.crew.size.workers c.in-Some.crew.size.share) (found_run _ _ _ _ _ _ c.in-Ok.ensures.command c.in-Some.ensures.0) tt)
 
 pub returns-in-None-clause-no_call : goal.returns-in-None-clause-no_call
-returns-in-None-clause-no_call g c = (c.by_one.ensures.uncalled _ c.in-Ok.ensures.command).0
+returns-in-None-clause-no_call g c = (c.by_one.ensures.uncalled _ c.in-Ok.ensures.command).reel
 
 pub returns-in-None-clause-no_old_call : goal.returns-in-None-clause-no_old_call
-returns-in-None-clause-no_old_call g c = (c.by_one.ensures.uncalled _ c.in-Ok.ensures.command).1
+returns-in-None-clause-no_old_call g c = (c.by_one.ensures.uncalled _ c.in-Ok.ensures.command).old
 
 pub returns-in-None-clause-untouched : goal.returns-in-None-clause-untouched
-returns-in-None-clause-untouched g c = c.by_one.ensures.untouched.0
+returns-in-None-clause-untouched g c = c.by_one.ensures.folders.reel
 
 pub returns-in-None-clause-old_untouched : goal.returns-in-None-clause-old_untouched
-returns-in-None-clause-old_untouched g c = c.by_one.ensures.untouched.1
+returns-in-None-clause-old_untouched g c = c.by_one.ensures.folders.old
 
 pub returns-in-None-clause-disk_same : goal.returns-in-None-clause-disk_same
-returns-in-None-clause-disk_same g c = c.by_one.ensures.lent.0
+returns-in-None-clause-disk_same g c = c.by_one.ensures.folders.reel_lent
 
 pub returns-in-None-clause-old_same : goal.returns-in-None-clause-old_same
-returns-in-None-clause-old_same g c = c.by_one.ensures.lent.1
+returns-in-None-clause-old_same g c = c.by_one.ensures.folders.old_lent

@@ -1,11 +1,11 @@
 -- The project comes to its job, and the old one is looked at; or it comes to none.
 use Rattle.std.proofs.Common.{inr, refl}
-use Rattle.scan_source.proofs.Leaving.{leaves_then}
-use Rattle.project_run.proofs.Leaving.{scan_unplanned}
+use Rattle.scan_source.proofs.Leaving.{leaves_as, leaves_then}
+use Rattle.project_run.proofs.Leaving.{planned_all}
 use Rattle.project_run.proofs.Runs.{match_each, unplanned}
 use Rattle.project_adopt.proofs.Planning.{job_adopts, job_in}
 use Rattle.printed_lines.specs.Lines.{line_of}
-use Rattle.project_adopt.proofs.Leaving.{asked_onward}
+use Rattle.project_adopt.proofs.Heading.{heads_onward, new_unplanned}
 use Rattle.project_adopt.proofs.plans.adopt.Goals as goal
 
 pub returns-clause-folders : goal.returns-clause-folders
@@ -28,8 +28,14 @@ returns-clause-scan g c =
     let reply = c.adopt_onto-reply.ensures in
     record {
       lent = leaves_then (λ is. cc) planned.scan reply.scan;
-      refused_heads = asked_onward _ _ c.in-Ok.job (g.S.Scans.state c.args.scan.now).world (g.S.Scans.state c.planned.new.scan).world c.args.path.now c.args.old_path.now _ _ _ _ _ _ _ _ line_of reply.folders;
+      heads = heads_onward _ _ c.in-Ok.job (g.S.Scans.state c.args.scan.now).world (g.S.Scans.state c.planned.new.scan).world c.args.path.now c.args.old_path.now _ _ _ _ _ _ _ _ _ line_of
+          planned.scan.told (planned_all _ c.args.path.now c.in-Ok.job _ _ planned.told planned.read planned.job planned.once planned.heads) reply.folders reply.heads;
     }
 
 pub returns-in-Err-clause-scan : goal.returns-in-Err-clause-scan
-returns-in-Err-clause-scan g c = scan_unplanned c.args.path.now _ _ _ c.in-Err.ensures.scan c.in-Err.ensures.refused_heads
+returns-in-Err-clause-scan g c =
+    let planned = c.in-Err.ensures in
+    record {
+      lent = leaves_as (λ is. cc) (λ is. cc) planned.scan;
+      heads = new_unplanned c.in-Err.outcome _ c.args.path.now c.args.old_path.now _ _ planned.kind planned.refused_heads;
+    }

@@ -1,5 +1,5 @@
 -- Frames are taken over, and the rest is run.
-use Rattle.std.proofs.Common.{◌≡◌, inr, ℕ, sym, ap, subst, ◌∙◌, arith}
+use Rattle.std.proofs.Common.{◌≡◌, refl, inr, ℕ, sym, ap, subst, ◌∙◌, arith}
 use Rattle.std.specs.Prelude.{Err}
 use Rattle.cf_base.specs.Count.{HasRisen}
 use Rattle.conform_job.specs.Answers.{AreInfosOf}
@@ -72,10 +72,16 @@ returns-in-Err-clause-promise g c told =
 pub returns-in-Err-clause-kind : goal.returns-in-Err-clause-kind
 returns-in-Err-clause-kind g c = subst IsOfAdopt (sym c.outcome_of_fault.ensures) (fault_adopts c.in-Err.fault)
 
+pub returns-in-Ok-clause-scan : goal.returns-in-Ok-clause-scan
+returns-in-Ok-clause-scan g c = record { lent = c.run_rest.ensures.scan; heads = c.run_rest.ensures.heads }
+
 pub returns-in-Err-clause-scan : goal.returns-in-Err-clause-scan
-returns-in-Err-clause-scan g c =
-    leaves_still
-    (λ is. let same : c.outcome_of_fault.result ≡ outcomes.SourceFault = cc in never_source c.in-Err.fault (sym c.outcome_of_fault.ensures ∙ same))
+returns-in-Err-clause-scan g c = record {
+  lent =
+      leaves_still
+      (λ is. let same : c.outcome_of_fault.result ≡ outcomes.SourceFault = cc in never_source c.in-Err.fault (sym c.outcome_of_fault.ensures ∙ same));
+  heads = refl;
+}
 
 pub returns-in-Err-clause-disks : goal.returns-in-Err-clause-disks
 returns-in-Err-clause-disks g c =

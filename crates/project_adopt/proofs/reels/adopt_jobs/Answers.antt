@@ -32,3 +32,9 @@ returns-clause-sound g c told sound =
     let by = promised_told c.args.old_job.now (view_of (g.D.Disk.state c.args.old.now).history) c.args.job.now in
     match_each _ _ _ _ _ (c.adopt_and_run.ensures.promise told)
     (λ text promised. by _ _ _ g.D.Disk.tells (g.S.Scans.state c.args.scan.now).world told sound promised) (λ outcome promised. by _ _ _ g.D.Disk.tells (g.S.Scans.state c.args.scan.now).world told sound promised)
+
+pub returns-clause-scan : goal.returns-clause-scan
+returns-clause-scan g c = c.adopt_and_run.ensures.scan.lent
+
+pub returns-clause-heads : goal.returns-clause-heads
+returns-clause-heads g c = c.adopt_and_run.ensures.scan.heads

@@ -3,6 +3,7 @@ use Rattle.std.proofs.Common.{◌≡◌, ◌∙◌, ap, ◌<◌, ℕ, get_or, le
 use Rattle.project_crew.proofs.Crews.{all_tell, crewed, error_as, failed_before, failed_first, first_loaded, still_tell, uncrewed}
 use Rattle.frame_range.specs.Parts.{range_of}
 use Rattle.reel_disk.specs.State.{OnDisk}
+use Rattle.project_job.specs.Asked.{IsInspected}
 use Rattle.project_crew.specs.Crew.{IsJobRunByCrew, told_by}
 use Rattle.project_run.specs.Calls.{Replies}
 use Rattle.project_run.proofs.Runs.{match_each}
@@ -15,7 +16,7 @@ returns-in-Err-clause-reply g c =
     let first : get_or c.args.scans.items 0 c.index_mut.result.now ≡ c.index_mut.result.now = search rules in
     let job = c.in-Err.ensures in
     uncrewed g.S.Scans.state c.planned.new.scan c.args.path.now c.args.size.workers c.args.size.share c.args.scans.items c.index_mut.result.now _ _ _ some first
-    job.told job.read job.kind job.loads job.refused (λ other. job.scan.counts.steady (λ is. other cc)) job.scan.counts.cause.later job.scan.told job.scan.lent
+    job.told job.read job.kind job.loads job.refused job.refused_heads (λ other. job.scan.counts.steady (λ is. other cc)) job.scan.counts.cause.later job.scan.told job.scan.lent
 
 pub returns-in-Err-clause-failed : goal.returns-in-Err-clause-failed
 returns-in-Err-clause-failed g c is =
@@ -41,7 +42,10 @@ returns-clause-reply g c =
     let scans = set c.args.scans.items 0 c.planned.new.scan in
     let ran = subst (λ (n : ℕ). Replies c.run_job-ended.result.result (OnDisk g.D.Disk.tells (g.D.Disk.state c.args.disk) (g.D.Disk.state c.run_job-ended.result.disk)
     (IsJobRunByCrew g.S.Scans.state c.in-Ok.job c.args.extent c.range_of.result (told_by g.S.Scans.state scans) c.args.size.workers n scans c.run_job-ended.result.scans.items))) c.from.ensures c.run_job-ended.ensures.ran in
-    match_each _ _ _ _ _ ran (λ text ran. reply _ _ all some first job.told job.read job.scan.told texts ran) (λ outcome ran. reply _ _ all some first job.told job.read job.scan.told texts ran)
+    let inspected : IsInspected (g.S.Scans.state c.index_mut.result.now).world c.in-Ok.job (g.S.Scans.state c.index_mut.result.now).heads (g.S.Scans.state c.planned.new.scan).heads
+    = record { needed = job.job; once = job.once; heads = job.heads } in
+    match_each _ _ _ _ _ ran (λ text ran. reply _ _ all some first job.told job.read job.scan.told texts inspected ran)
+    (λ outcome ran. reply _ _ all some first job.told job.read job.scan.told texts inspected ran)
 
 pub returns-clause-failed : goal.returns-clause-failed
 returns-clause-failed g c is =

@@ -1,9 +1,10 @@
 -- The project comes to its job, which is run in the folder.
-use Rattle.std.proofs.Common.{inr, ap, ◌∙◌}
+use Rattle.std.proofs.Common.{inr, ap, ◌∙◌, subst, sym}
 use Rattle.scan_source.proofs.Leaving.{leaves_then}
 use Rattle.frame_range.specs.Parts.{range_of}
 use Rattle.project_run.proofs.Runs.{match_each, of_job, run_in, unplanned}
-use Rattle.project_run.proofs.Leaving.{disk_left, disk_unplanned, run_unrefused, scan_left, scan_unplanned}
+use Rattle.project_job.specs.Asked.{HasInspectedAll}
+use Rattle.project_run.proofs.Leaving.{disk_left, disk_unplanned, planned_all, run_unrefused, scan_left, scan_unplanned}
 use Rattle.project_run.proofs.alone.run.Goals as goal
 
 pub returns-clause-folder : goal.returns-clause-folder
@@ -17,7 +18,9 @@ pub returns-clause-scan : goal.returns-clause-scan
 returns-clause-scan g c =
     let reply = c.run_job-reply.ensures in
     scan_left c.args.path.now _ _ _ _ _
-    (leaves_then (λ is. cc) c.in-Ok.ensures.scan reply.scan) reply.ran (λ reached was. run_unrefused _ _ _ _ _ _ _ _ was)
+    (leaves_then (λ is. cc) c.in-Ok.ensures.scan reply.scan)
+    (subst (λ n. HasInspectedAll (g.S.Scans.state c.args.scan.now).world c.args.path.now (g.S.Scans.state c.args.scan.now).heads n) (sym reply.heads)
+    (let job = c.in-Ok.ensures in planned_all _ c.args.path.now c.in-Ok.job _ _ job.told job.read job.job job.once job.heads)) reply.ran (λ reached was. run_unrefused _ _ _ _ _ _ _ _ was)
 
 pub returns-clause-disk : goal.returns-clause-disk
 returns-clause-disk g c =
@@ -29,6 +32,6 @@ pub returns-in-Err : goal.returns-in-Err
 returns-in-Err g c = let job = c.in-Err.ensures in record {
   folder = inr (unplanned _ _ _ _ _ _ job.told job.read job.kind job.loads job.refused);
   kind = of_job _ job.kind;
-  scan = scan_unplanned c.args.path.now _ _ _ job.scan job.refused_heads;
+  scan = scan_unplanned c.args.path.now _ _ _ job.scan job.refused_heads job.kind;
   disk = disk_unplanned g.D.Disk.state c.in-Err.outcome c.args.disk.now job.kind;
 }

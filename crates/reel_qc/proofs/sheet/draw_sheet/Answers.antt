@@ -10,7 +10,7 @@ use Rattle.reel_qc.proofs.sheet.draw_sheet.Goals as goal
 pub loop-row-init : goal.loop-row-init
 loop-row-init g c = record {
   reads = reads_none;
-  drawn = rows_begin c.args.tone.now.table c.args.job.now (g.D.Disk.tells ≡ true) c.args.view.now (view_of (g.D.Disk.state c.args.disk.now).history) (header_of (sheet_head c.args.job.now)) _ _ c.in-Ok.ensures.header c.in-Ok.ensures.greatest;
+  drawn = rows_begin c.args.tone.now.table c.args.job.now (g.D.Disk.tells ≡ true) c.args.view.now (view_of (g.D.Disk.state c.args.disk.now).history) (header_of (sheet_head c.args.job.now)) _ _ c.in_ok-drawing.ensures.header c.in_ok-drawing.ensures.greatest;
   piece = search rules;
   same = search rules;
   faults = search rules;
@@ -22,7 +22,7 @@ loop-row-preserved g c =
     record {
       reads = reads_along before.reads c.draw_row.ensures.reads;
       drawn = rows_more c.args.tone.now.table c.args.job.now (g.D.Disk.tells ≡ true) c.args.view.now (view_of (g.D.Disk.state c.args.disk.now).history) c.loop-row.row _ _ _ _ _ _ _
-          (λ told. still_view _ _ (before.reads.still told)) before.drawn c.in-Ok-draw_row.ensures.drawn;
+          (λ told. still_view _ _ (before.reads.still told)) before.drawn c.in_ok-draw_row.ensures.drawn;
       piece = search rules;
       same = c.draw_row.ensures.disk.lent ∙ before.same;
       faults = search rules;
@@ -33,5 +33,5 @@ returns-clause-drawn g c =
     rows_whole c.args.tone.now.table c.args.job.now (g.D.Disk.tells ≡ true) c.args.view.now (view_of (g.D.Disk.state c.args.disk.now).history) c.loop-row.row _ _ _ _
     (omega (arith, c.loop-row-test.false, c.loop-row.auto.row-end) ∙ c.rows_of-rows.ensures.rows) c.loop-row.invariant.drawn
 
-pub returns-in-Err-clause-reads : goal.returns-in-Err-clause-reads
-returns-in-Err-clause-reads g c = reads_along c.loop-row.invariant.reads c.in-Err.ensures.reads
+pub returns-in_err-draw_row-clause-reads : goal.returns-in_err-draw_row-clause-reads
+returns-in_err-draw_row-clause-reads g c = reads_along c.loop-row.invariant.reads c.in_err-draw_row.ensures.reads

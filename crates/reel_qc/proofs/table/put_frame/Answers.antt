@@ -23,8 +23,8 @@ row_none kinds job Told files view i text shut = subst (λ frames. HasRows kinds
 pub returns-then-not-is_acked-clause-rows : goal.returns-then-not-is_acked-clause-rows
 returns-then-not-is_acked-clause-rows g c = row_none _ c.args.job.now _ _ c.args.view.now c.args.i _ (sym c.is_acked.ensures ∙ c.if-not-is_acked.true)
 
-pub returns-in-Ok-put_row-clause-rows : goal.returns-in-Ok-put_row-clause-rows
-returns-in-Ok-put_row-clause-rows g c =
-    let has = c.in-Ok.ensures.counted in
+pub returns-clause-rows : goal.returns-clause-rows
+returns-clause-rows g c =
+    let has = c.in_ok-counts.ensures.counted in
     row_put _ c.args.job.now _ _ c.args.view.now c.args.i has.words _ _ (sym c.is_acked.ensures ∙ c.if-not-is_acked.false) has.told
-    (row_counted _ c.args.i has.words _ _ _ (c.deref.ensures.value ∙ has.counts_are) c.in-Ok-put_row.ensures)
+    (row_counted _ c.args.i has.words _ _ _ (c.deref.ensures.value ∙ has.counts_are) c.in_ok-put_row.ensures)

@@ -26,19 +26,19 @@ loop-done-preserved g c =
     let size : length (take (c.loop-done.found + c.min-count.result - c.loop-done.found) (drop c.loop-done.found c.loop-done.words)) ≡ c.min-count.result =
     part_size c.loop-done.found c.min-count.result c.loop-done.words inside in
     record {
-      reads = reads_along inv.reads c.in-Ok.ensures.reads;
+      reads = reads_along inv.reads c.in_ok-found.ensures.reads;
       words = λ told.
-          found_more c.args.first c.loop-done.done c.min-count.result c.loop-done.found c.in-Ok.more (view_of (g.D.Disk.state c.args.disk.now).history c.args.id)
+          found_more c.args.first c.loop-done.done c.min-count.result c.loop-done.found c.in_ok-found.field-0 (view_of (g.D.Disk.state c.args.disk.now).history c.args.id)
           (view_of (g.D.Disk.state c.loop-done.disk).history c.args.id) c.loop-done.words c.read_piece.new.words
-          inside (c.in-Ok.ensures.size ∙ size) (omega (arith, c.in-Ok.ensures.few, size))
+          inside (c.in_ok-found.ensures.size ∙ size) (omega (arith, c.in_ok-found.ensures.few, size))
           (ap (λ view. view c.args.id) (still_view _ _ (inv.reads.still told))) (inv.words told)
-          (c.in-Ok.ensures.words told ∙ ap (λ n. words_in (c.args.first + c.loop-done.done) n (view_of (g.D.Disk.state c.loop-done.disk).history c.args.id)) size);
-      few = omega (arith, inv.few, c.in-Ok.ensures.few, size);
+          (c.in_ok-found.ensures.words told ∙ ap (λ n. words_in (c.args.first + c.loop-done.done) n (view_of (g.D.Disk.state c.loop-done.disk).history c.args.id)) size);
+      few = omega (arith, inv.few, c.in_ok-found.ensures.few, size);
       small = λ k. Fits-lt-pow {w = w32} (c.type_inv.words k);
       within = omega (arith, room, inv.within, c.loop-done-test.true);
-      same = c.in-Ok.ensures.disk.lent ∙ inv.same;
+      same = c.in_ok-found.ensures.disk.lent ∙ inv.same;
       faults = search rules;
     }
 
-pub returns-in-Err-clause-small : goal.returns-in-Err-clause-small
-returns-in-Err-clause-small g c = λ k. Fits-lt-pow {w = w32} (c.type_inv.words k)
+pub returns-in_err-found-clause-small : goal.returns-in_err-found-clause-small
+returns-in_err-found-clause-small g c = λ k. Fits-lt-pow {w = w32} (c.type_inv.words k)

@@ -23,14 +23,14 @@ loop-c-preserved g c =
     let exact : ℕ → Option (List ℕ) = λ k. picture_at job view files (c.args.row * 8 + k) in
     let frame = c.frame_at-frame.ensures ∙ ap (λ (l : List ℕ). slice_get l (c.args.row * 8 + c.loop-c.c)) c.requires.frames in
     let here = cell_as job (g.D.Disk.tells ≡ true) _ (exact c.loop-c.c) _
-    (λ told. ap (λ (f : Files). place_picture job view f c.frame_at-frame.result) (still_view _ _ (before.reads.still told)) ∙ ap (place_picture job view files) frame) c.in-Ok.ensures.cell in
-    let long = ap length c.in-Ok-push.ensures.items ∙ length-append c.loop-c.cells.items (c.in-Ok.cell ∷ []) in
+    (λ told. ap (λ (f : Files). place_picture job view f c.frame_at-frame.result) (still_view _ _ (before.reads.still told)) ∙ ap (place_picture job view files) frame) c.in_ok-cell.ensures.cell in
+    let long = ap length c.in-Ok.ensures.items ∙ length-append c.loop-c.cells.items (c.in_ok-cell.cell ∷ []) in
     record {
-      reads = reads_along before.reads c.in-Ok.ensures.reads;
-      pictures = pictures_more job (g.D.Disk.tells ≡ true) exact c.loop-c.cells.items _ c.in-Ok.cell c.in-Ok-push.ensures.items before.pictures
-          (subst (λ n. IsCell job (g.D.Disk.tells ≡ true) (exact n) c.in-Ok.cell) (sym before.size) here);
+      reads = reads_along before.reads c.in_ok-cell.ensures.reads;
+      pictures = pictures_more job (g.D.Disk.tells ≡ true) exact c.loop-c.cells.items _ c.in_ok-cell.cell c.in-Ok.ensures.items before.pictures
+          (subst (λ n. IsCell job (g.D.Disk.tells ≡ true) (exact n) c.in_ok-cell.cell) (sym before.size) here);
       size = omega (arith, long, before.size);
       piece = search rules;
-      same = c.in-Ok.ensures.disk.lent ∙ before.same;
+      same = c.in_ok-cell.ensures.disk.lent ∙ before.same;
       faults = search rules;
     }

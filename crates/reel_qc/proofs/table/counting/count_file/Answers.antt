@@ -27,12 +27,12 @@ loop-done-preserved g c =
     let size : length (take c.min-room.result c.loop-done.words) ≡ c.min-room.result =
     length-take-le c.min-room.result c.loop-done.words (omega (arith, c.min-room.ensures, c.loop-done.auto.words)) in
     record {
-      reads = reads_along inv.reads c.in-Ok.ensures.reads;
+      reads = reads_along inv.reads c.in_ok-count_part.ensures.reads;
       counted = counted_more kinds (g.D.Disk.tells ≡ true) (words_in 0 c.loop-done.done file) (words_in c.loop-done.done c.min-room.result later)
           (words_in 0 (c.loop-done.done + c.min-room.result) file) c.args.counts.now c.loop-done.counts c.count_part.new.counts c.loop-done.done c.min-room.result inv.counted
           (λ told. parts_read c.loop-done.done c.min-room.result file later (ap (λ view. view c.args.id) (still_view _ _ (inv.reads.still told))))
-          (subst (λ n. AddsCounts kinds (g.D.Disk.tells ≡ true) (words_in c.loop-done.done n later) n c.loop-done.counts c.count_part.new.counts) size c.in-Ok.ensures.added);
+          (subst (λ n. AddsCounts kinds (g.D.Disk.tells ≡ true) (words_in c.loop-done.done n later) n c.loop-done.counts c.count_part.new.counts) size c.in_ok-count_part.ensures.added);
       within = omega (arith, c.min-room.ensures, inv.within, c.loop-done-test.true);
-      same = c.in-Ok.ensures.disk.lent ∙ inv.same;
+      same = c.in_ok-count_part.ensures.disk.lent ∙ inv.same;
       faults = search rules;
     }
