@@ -313,6 +313,7 @@ or_no_memory command before after folders folders_after outcome output made whol
     line = λ _. refl;
     kind = tt;
     source_fault = λ same. absurd (cc);
+    last = λ same. absurd (cc);
     steady = λ _. whole.reply.steady (made_apart outcome made).0;
     later = whole.reply.later;
     loads = loads_instead command before after outcome whole.reply.loads;

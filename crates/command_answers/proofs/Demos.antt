@@ -1,6 +1,7 @@
 -- From the demonstration to the reply of its command, which leaves the scan and the disk as they are.
 use Rattle.std.proofs.Common.{◌≡◌, ◌≢◌, ℕ, List, Vec, Global, MatchResult, refl, sym, subst, arith}
 use Rattle.std.specs.Prelude.{Result, Ok, Err}
+use Rattle.scan_source.proofs.Leaving.{leaves_still}
 use Rattle.scan_source.specs.State.{ScanState}
 use Rattle.scan_source.specs.World.{file_at}
 use Rattle.demo.specs.Demo.{demo_world, IsShown, IsInstead}
@@ -30,7 +31,7 @@ untouched count scan folders reached output reply works = record {
 
 shown : (count : ℕ) (scan : ScanState) (output : List ℕ) → IsShown (file_at (demo_world count)) output → IsReplyOverScan (commands.Demo count) scan scan outcomes.Done output
 shown count scan output is =
-    reply_of (commands.Demo count) scan scan outcomes.Done output tt is (λ not_done. absurd (not_done refl)) (λ same. absurd (cc)) (λ _. refl) (omega arith) refl refl refl
+    reply_of (commands.Demo count) scan scan outcomes.Done output tt is (λ not_done. absurd (not_done refl)) (leaves_still (λ same. cc)) refl refl
 
 -- the outcomes in its place are those of a command that makes no call on the disk, and not the scan's
 instead_replied : (count : ℕ) (outcome : Outcome) (output : List ℕ) → IsInstead (file_at (demo_world count)) outcome
@@ -55,7 +56,7 @@ instead : {house : House} (count : ℕ) (scan : ScanState) (folders : Folders) (
 instead count scan folders outcome is =
     let replied = instead_replied count outcome (line_of outcome) is in
     untouched count scan folders outcome (line_of outcome)
-    (reply_of (commands.Demo count) scan scan outcome (line_of outcome) replied.0 replied.1 (λ _. refl) (λ same. absurd (replied.2 same)) (λ _. refl) (omega arith) refl refl refl)
+    (reply_of (commands.Demo count) scan scan outcome (line_of outcome) replied.0 replied.1 (λ _. refl) (leaves_still replied.2) refl refl)
     replied.3
 
 by_result : (house : House) (count : ℕ) (scan : ScanState) (folders : Folders) (result : Result (Vec ℕ Global) Outcome)

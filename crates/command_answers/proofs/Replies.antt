@@ -1,10 +1,10 @@
 -- From a load to the reply of its command.
 use Rattle.std.proofs.Common.{◌≡◌, ◌≢◌, ℕ, ◌≤◌, Global, List, length, take, Option, None, Some, IfSome, refl, subst, ap, ◌∙◌}
 use Rattle.std.specs.Prelude.{MatchResult, Result, Ok, Err, Vec}
-use Rattle.cf_base.specs.Count.{HasRisen}
 use Rattle.cf_base.specs.declared.fail.Fail.{Fail}
 use Rattle.cf_base.specs.declared.fail.Fail.TheVariants.{Fault}
 use Rattle.cf_base.specs.declared.timing.Rate.{Rate}
+use Rattle.scan_source.proofs.Leaving.{leaves_as, leaves_done}
 use Rattle.scan_source.specs.State.{LeavesScan, ScanState}
 use Rattle.scan_source.specs.World.{World}
 use Rattle.command_answers.specs.Commands.Frame.{IsFrameCase, IsFrameForm}
@@ -79,21 +79,20 @@ by_missing told path absent outcome P read gone fault memory = (read.0, read.1, 
 pub reply_of : (command : Command) (before after : ScanState) (reached : Outcome) (output : List ℕ) → IsKindOf command reached
     → (meaning_of command).IsRight reached output before after
     → (reached ≢ Done → output ≡ line_of reached)
-    → (reached ≡ SourceFault → HasRisen before.faults after.faults)
-    → (reached ≢ SourceFault → after.faults ≡ before.faults)
-    → before.faults ≤ after.faults → (meaning_of command).HasLoaded before after reached
-    → (meaning_of command).LooksAtHeads before after reached → after.world ≡ before.world
+    → LeavesScan (reached ≡ SourceFault) before after → (meaning_of command).HasLoaded before after reached
+    → (meaning_of command).LooksAtHeads before after reached
     → IsReplyOverScan command before after reached output
-reply_of command before after reached output kind right line cause steady later loads heads world = record {
+reply_of command before after reached output kind right line left loads heads = record {
   right = right;
   line = line;
   kind = kind;
-  source_fault = cause;
-  steady = steady;
-  later = later;
+  source_fault = left.counts.cause.failed;
+  last = left.ends;
+  steady = left.counts.steady;
+  later = left.counts.cause.later;
   loads = loads;
   heads = heads;
-  world = world;
+  world = left.told;
 }
 
 -- the fault that was given
@@ -251,8 +250,6 @@ module _ (kind : Command) {Kind : Outcome → Type 0} (scan scan_after : ScanSta
       → MatchResult result (λ text. (meaning_of kind).LooksAtHeads scan scan_after Done) ((meaning_of kind).LooksAtHeads scan scan_after)
       → Replies result (IsReplyOverScan kind scan scan_after)
   replied_over (Ok text) is lent heads =
-      reply_of _ _ _ _ _ tt (right Done text.items) (λ not_done. absurd (not_done refl)) (λ is_fault. absurd (cc)) (λ other. lent.counts.steady (λ is_fault. cc)) lent.counts.cause.later (loaded Done)
-      heads lent.told
+      reply_of _ _ _ _ _ tt (right Done text.items) (λ not_done. absurd (not_done refl)) (leaves_done (λ is_fault. cc) (λ is_fault. cc) lent) (loaded Done) heads
   replied_over (Err reached) is lent heads =
-      reply_of _ _ _ _ _ (kinds reached is) (right reached (line_of reached)) (λ not_done. refl) (λ is_fault. lent.counts.cause.failed (error_of _ _ is_fault))
-      (λ other. lent.counts.steady (λ is_fault. other (outcome_of _ _ is_fault))) lent.counts.cause.later (loaded reached) heads lent.told
+      reply_of _ _ _ _ _ (kinds reached is) (right reached (line_of reached)) (λ not_done. refl) (leaves_as (error_of _ _) (outcome_of _ _) lent) (loaded reached) heads

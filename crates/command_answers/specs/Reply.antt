@@ -7,7 +7,7 @@
 --     IsReplyOverFolders house      the same, with what it did to the folders, in this house
 use Rattle.std.specs.Prelude.{◌≡◌, ◌≢◌, ◌≤◌, ℕ, List}
 use Rattle.cf_base.specs.Count.{HasRisen}
-use Rattle.scan_source.specs.State.{ScanState}
+use Rattle.scan_source.specs.State.{HasFailedLast, ScanState}
 use Rattle.printed_lines.specs.Lines.{line_of}
 use Rattle.command_words.specs.declared.command.Command.{Command}
 use Rattle.outcome.specs.declared.Outcome.{Outcome}
@@ -46,6 +46,8 @@ pub record IsReplyOverScan (command : Command) (before after : ScanState) (reach
   -- causes
   pub kind : IsKindOf command reached
   pub source_fault : reached ≡ SourceFault → HasRisen before.faults after.faults
+  -- the call of the scan that failed is the last that was made
+  pub last : reached ≡ SourceFault → HasFailedLast before after
   -- the scan: it fails in no other case
   pub steady : reached ≢ SourceFault → after.faults ≡ before.faults
   pub later : before.faults ≤ after.faults

@@ -13,7 +13,7 @@ ghost use Rattle.scan_source.specs.Answers.{first_bytes};
 ghost use Rattle.dpx_header.specs.Reading.{info_of};
 ghost use Rattle.command_answers.specs.inside.Faults.{IfFault};
 
-use cf_base::{Fail, HEADER, PathText, TitleText};
+use cf_base::{Fail, HEADER, LARGEST, PathText, TitleText};
 use dpx_header::{DpxFault, FrameInfo, OutHead, read_header, write_header};
 use dpx_pack::{pack, unpack};
 use outcome::{Outcome, Refused, Which};
@@ -23,7 +23,7 @@ use std::alloc::{AllocError, Global};
 
 /// The bytes of the largest file that is taken: the greatest offset, and 4096 lines of 4096 pixels with the greatest
 /// padding after each but the last.
-const MOST: u64 = 84_914_180;
+const MOST: u64 = 1_048_576 + (4 * LARGEST as u64 * LARGEST as u64) + 4092 * (LARGEST as u64 - 1);
 
 /// The pixels of the file at a path, under a new header: the whole file that is put, or the outcome that was reached.
 pub fn frame<S: Scans>(alloc: Global, path: &PathText, scan: &mut S) -> Result<Vec<u8>, Outcome>

@@ -12,7 +12,7 @@ ghost use Rattle.run_alone.specs.Ran.{WereFinished};
 ghost use Rattle.run_alone.specs.Run.{WasRun};
 ghost use Rattle.run_alone.specs.Safe.{IsSafeRun};
 ghost use Rattle.run_alone.specs.inside.Run.{HasRunOver, HasRunThrough, IsJustOpened};
-ghost use Rattle.frame_fetch.specs.Scanned.{IsScanned};
+ghost use Rattle.frame_fetch.specs.Scanned.{IsScannedAlone};
 ghost use Rattle.run_alone.specs.Sharing.{IsDetermined};
 ghost use Rattle.run_alone.specs.Task.{IsTask};
 
@@ -51,7 +51,7 @@ fn run_shared<N: Work, L: Ledger, S: Scans, D: Disk>(
     ensures misses { result.2 ≡ misses_of result.1 }
     ensures reel { HasRunOver N.job task.now.range.low task.now.range.high N.files D.tells D.state result.0 reel.old reel.new }
     ensures changed { IsChange result.0 → 1 ≤ result.2 }
-    ensures scan { IsScanned result.2 (result.0 ≡ RunEnd.SourceFault) (S.state scan) (S.state result.3) }
+    ensures scan { IsScannedAlone result.2 (result.0 ≡ RunEnd.SourceFault) (S.state scan) (S.state result.3) }
 {
     let (mut share, units) = match Share::<N, L>::new(alloc, task.share, blank) {
         Ok(made) => made,
@@ -84,7 +84,7 @@ fn run_opened<N: Work, L: Ledger, S: Scans, D: Disk>(
     ensures frames { result.1.frames ≡ frames_of N.job }
     ensures misses { result.1.misses ≡ result.1.loads }
     ensures changed { IsChange result.0 → HasRisen (S.state scan).loads (S.state result.3).loads }
-    ensures scan { IsScanned result.1.loads (result.0 ≡ RunEnd.SourceFault) (S.state scan) (S.state result.3) }
+    ensures scan { IsScannedAlone result.1.loads (result.0 ≡ RunEnd.SourceFault) (S.state scan) (S.state result.3) }
     ensures disk { LeavesDisk (result.0 ≡ RunEnd.DiskFault) (D.state reel.disk) (D.state result.4) }
 {
     let mut reel = reel;
@@ -127,7 +127,7 @@ fn run_owned<N: Work, L: Ledger, S: Scans, D: Disk>(
     ensures misses { result.1.misses ≡ result.1.loads }
     ensures keeps { OnDisk D.tells (D.state disk) (D.state result.3) (IsSafeRun N.job task.now.range N.files result.0) }
     ensures changed { IsChange result.0 → HasRisen (S.state scan).loads (S.state result.2).loads }
-    ensures scan { IsScanned result.1.loads (result.0 ≡ RunEnd.SourceFault) (S.state scan) (S.state result.2) }
+    ensures scan { IsScannedAlone result.1.loads (result.0 ≡ RunEnd.SourceFault) (S.state scan) (S.state result.2) }
     ensures disk { LeavesDisk (result.0 ≡ RunEnd.DiskFault) (D.state disk) (D.state result.3) }
 {
     let frames = task.job.count();
@@ -185,7 +185,7 @@ pub fn run_alone<N: Work, S: Scans, D: Disk>(
     ensures keeps { OnDisk D.tells (D.state disk.old) (D.state disk.new) (IsSafeRun N.job task.now.range N.files result.0) }
 
     ensures changed { IsChange result.0 → HasRisen (S.state scan.old).loads (S.state scan.new).loads }
-    ensures scan { IsScanned result.1.loads (result.0 ≡ RunEnd.SourceFault) (S.state scan.old) (S.state scan.new) }
+    ensures scan { IsScannedAlone result.1.loads (result.0 ≡ RunEnd.SourceFault) (S.state scan.old) (S.state scan.new) }
     ensures disk { LeavesDisk (result.0 ≡ RunEnd.DiskFault) (D.state disk.old) (D.state disk.new) }
 {
     let mut log = ShareLog::empty(alloc);

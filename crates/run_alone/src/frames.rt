@@ -10,7 +10,7 @@ ghost use Rattle.run_alone.specs.inside.Ends.{IsStop};
 ghost use Rattle.run_alone.specs.Ran.{WereFinished};
 ghost use Rattle.run_alone.specs.inside.Run.{HasRunFrame, HasRunOver, IsJustOpened};
 ghost use Rattle.frame_fetch.specs.Loading.{CanLoad, HasLoadedFor};
-ghost use Rattle.frame_fetch.specs.Scanned.{IsScanned};
+ghost use Rattle.frame_fetch.specs.Scanned.{IsScannedAlone};
 ghost use Rattle.frame_fetch.specs.Sharing.{HasAsked, HasTried};
 ghost use Rattle.run_alone.specs.Task.{IsTask};
 
@@ -91,7 +91,7 @@ pub(crate) fn run_frames<N: Work, L: Ledger, S: Scans, D: Disk>(
     ensures parts { loader.new.units.parts ≡ loader.old.units.parts }
     ensures counted { loader.new.units.amount ≡ loader.new.loads }
     ensures changed { IsChange result → 1 ≤ loader.new.loads }
-    ensures scan { IsScanned loader.new.loads (result ≡ RunEnd.SourceFault) (S.state loader.old.scan) (S.state loader.new.scan) }
+    ensures scan { IsScannedAlone loader.new.loads (result ≡ RunEnd.SourceFault) (S.state loader.old.scan) (S.state loader.new.scan) }
 {
     let mut room = match FrameBuf::new(loader.alloc, task.job) {
         Ok(room) => room,

@@ -9,7 +9,7 @@ pub unreachable-requires : goal.unreachable-requires
 unreachable-requires c =
     let never : HasRisen 0 0 → ⊥ = λ rose. omega arith in
     ends_in_memory _ _ c.requires.empty c.args.job.now c.count.result c.count.ensures.count _ _ _ _ _ _ c.run_alone-end.ensures.ran refl
-    (λ same. never (c.run_alone-end.ensures.scan.failed same)) c.in_default.not-Done c.in_default.not-DiskFault c.in_default.not-NoMemory
+    (λ same. never (c.run_alone-end.ensures.scan.scanned.failed same)) c.in_default.not-Done c.in_default.not-DiskFault c.in_default.not-NoMemory
 
 pub overflow_add-result : goal.overflow_add-result
 overflow_add-result c =

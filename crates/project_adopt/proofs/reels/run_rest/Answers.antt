@@ -33,7 +33,7 @@ returns-clause-ran g c =
         log = c.run_alone-end.result.2;
         ran = subst (λ (n : ℕ). WasRun c.args.job.now 0 n (g.S.Scans.state c.args.scan.now).world share_count g.D.Disk.tells (g.D.Disk.state c.args.disk.now).history (g.D.Disk.state c.run_alone-end.new.disk).history end report c.run_alone-end.result.2) c.count.ensures.count run.ran;
         keeps = subst (λ (n : ℕ). IsSafeRun c.args.job.now (range_of Whole n) (g.S.Scans.state c.args.scan.now).world end (at c.args.disk.now) (at c.run_alone-end.new.disk)) c.count.ensures.count run.keeps;
-        loaded = run.scan.asked;
+        loaded = run.scan.scanned.asked;
         changed = run.changed;
       };
       form = reply.form;

@@ -1,6 +1,6 @@
 -- What a load leaves of the scan: a file that was got, and one that is absent, are no failure.
-use Rattle.std.proofs.Common.{◌≢◌, ℕ, Result, Err}
-use Rattle.scan_source.proofs.Leaving.{leaves_by}
+use Rattle.std.proofs.Common.{◌≢◌, ℕ, Result, Err, refl}
+use Rattle.scan_source.proofs.Leaving.{leaves_as, leaves_by, leaves_done}
 use Rattle.scan_source.specs.declared.scans.Loaded.TheVariants as loaded
 use Rattle.outcome.specs.declared.Outcome.{Outcome}
 use Rattle.outcome.specs.declared.Outcome.TheVariants as outcomes
@@ -21,12 +21,20 @@ absent_no_fault : (absent : Which) → ◌≢◌ {A = Result Front Outcome} (Err
 absent_no_fault absent is = cc
 
 pub returns-in-Got-clause-scan : goal.returns-in-Got-clause-scan
-returns-in-Got-clause-scan g c =
-    leaves_by c.in-Got.ensures.fault.counts.cause.later (λ failed. absurd (no_err _ _ failed)) (λ _. c.in-Got.ensures.fault.counts.steady (got_unfailed _)) c.in-Got.ensures.world c.in-Got.ensures.same
+returns-in-Got-clause-scan g c = leaves_done (got_unfailed _) (no_err _ _)
+    (leaves_by c.in-Got.ensures.fault c.in-Got.ensures.plan c.in-Got.ensures.world c.in-Got.ensures.same)
 
 pub returns-in-Absent-clause-scan : goal.returns-in-Absent-clause-scan
-returns-in-Absent-clause-scan g c =
-    leaves_by c.in-Absent.ensures.fault.counts.cause.later (λ failed. absurd (absent_no_fault c.args.absent failed)) (λ _. c.in-Absent.ensures.fault.counts.steady absent_unfailed) c.in-Absent.ensures.world c.in-Absent.ensures.same
+returns-in-Absent-clause-scan g c = leaves_done absent_unfailed (absent_no_fault c.args.absent)
+    (leaves_by c.in-Absent.ensures.fault c.in-Absent.ensures.plan c.in-Absent.ensures.world c.in-Absent.ensures.same)
+
+pub returns-in-Failed-clause-scan : goal.returns-in-Failed-clause-scan
+returns-in-Failed-clause-scan g c = leaves_as (λ _. refl) (λ _. refl)
+    (leaves_by c.in-Failed.ensures.fault c.in-Failed.ensures.plan c.in-Failed.ensures.world c.in-Failed.ensures.same)
+
+pub returns-in-NoMemory-clause-scan : goal.returns-in-NoMemory-clause-scan
+returns-in-NoMemory-clause-scan g c = leaves_done (λ is. cc) (λ is. cc)
+    (leaves_by c.in-NoMemory.ensures.fault c.in-NoMemory.ensures.plan c.in-NoMemory.ensures.world c.in-NoMemory.ensures.same)
 
 -- What was read is a file, also where the scan tells none.
 pub returns-in-Got-clause-read : goal.returns-in-Got-clause-read

@@ -49,4 +49,4 @@ returns-clause-ran g c =
     }
 
 pub returns-clause-changed : goal.returns-clause-changed
-returns-clause-changed g c change = rose_by _ _ _ (c.run_shared-end.ensures.changed change) c.run_shared-end.ensures.scan.asked
+returns-clause-changed g c change = rose_by _ _ _ (c.run_shared-end.ensures.changed change) c.run_shared-end.ensures.scan.scanned.asked

@@ -3,7 +3,7 @@ use Rattle.frame_share.specs.declared.step.ShareStep.{ShareStep}
 use Rattle.frame_share.specs.Share.{IsLegal, ShareView}
 use Rattle.frame_share.specs.Units.{Tally}
 use Rattle.run_alone.specs.Ran.{WereFinished}
-use Rattle.frame_fetch.specs.Scanned.{IsScanned}
+use Rattle.frame_fetch.specs.Scanned.{IsScannedAlone}
 use Rattle.frame_fetch.specs.Sharing.{IsPaired}
 use Rattle.frame_fetch.specs.declared.run_end.RunEnd.TheVariants as end
 use Rattle.run_alone.proofs.Determined.{determined}
@@ -44,9 +44,9 @@ returns-clause-reel g c = c.run_frames-end.ensures.reel
 pub returns-clause-scan : goal.returns-clause-scan
 returns-clause-scan g c =
     let parts = c.into_parts-scan.ensures in
-    subst (λ (n : ℕ). IsScanned n (c.run_frames-end.result ≡ end.SourceFault) (g.S.Scans.state c.args.scan) (g.S.Scans.state c.into_parts-scan.result.0)) (sym parts.loads)
-    (subst (λ (s : _). IsScanned c.run_frames-end.new.loader.loads (c.run_frames-end.result ≡ end.SourceFault) (g.S.Scans.state c.args.scan) (g.S.Scans.state s)) (sym parts.scan)
-    (subst (λ (s : _). IsScanned c.run_frames-end.new.loader.loads (c.run_frames-end.result ≡ end.SourceFault) (g.S.Scans.state s) (g.S.Scans.state c.run_frames-end.new.loader.scan)) c.new-loader.ensures.scan c.run_frames-end.ensures.scan))
+    subst (λ (n : ℕ). IsScannedAlone n (c.run_frames-end.result ≡ end.SourceFault) (g.S.Scans.state c.args.scan) (g.S.Scans.state c.into_parts-scan.result.0)) (sym parts.loads)
+    (subst (λ (s : _). IsScannedAlone c.run_frames-end.new.loader.loads (c.run_frames-end.result ≡ end.SourceFault) (g.S.Scans.state c.args.scan) (g.S.Scans.state s)) (sym parts.scan)
+    (subst (λ (s : _). IsScannedAlone c.run_frames-end.new.loader.loads (c.run_frames-end.result ≡ end.SourceFault) (g.S.Scans.state s) (g.S.Scans.state c.run_frames-end.new.loader.scan)) c.new-loader.ensures.scan c.run_frames-end.ensures.scan))
 
 pub returns-clause-legal : goal.returns-clause-legal
 returns-clause-legal g c =

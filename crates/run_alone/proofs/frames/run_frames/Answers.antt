@@ -19,7 +19,7 @@ use Rattle.frame_fetch.specs.declared.run_end.RunEnd.TheVariants as end
 use Rattle.frame_fetch.proofs.Logs.{asks_along, paired_along}
 use Rattle.run_alone.proofs.Running.{acked_then, acks_are, is_next, all_finished, asks_more, asks_passed, asks_first, taken, stop_end, stopped, not_begun, unbegun, gates_are, acks_then, gates_then, kept_then, not_done}
 use Rattle.frame_fetch.proofs.Counting.{err_same}
-use Rattle.frame_fetch.proofs.Scanning.{scanned_itself, scanned_as, scanned_along}
+use Rattle.frame_fetch.proofs.Scanning.{alone_along, alone_as, alone_itself}
 use Rattle.run_alone.proofs.Stepping.{past_itself, past_none, past_more, asks_if_closed, gate_still, if_still}
 use Rattle.run_alone.proofs.frames.run_frames.Goals as goal
 
@@ -40,7 +40,7 @@ loop-i-init g c = record {
   spares = λ told. spares_itself (g.D.Disk.state c.args.reel.now.disk).history (IsRangeFile g.N.Work.job c.args.task.now.range.low c.args.task.now.range.high c.args.reel.now.ledger.gates);
   own = writing_none;
   disk = disk_still (λ never. never);
-  scan = scanned_as _ _ 0 c.args.loader.now.loads ⊥ ⊥ (sym c.requires.none.0) (λ never. never) (λ never. never) (scanned_itself ⊥ (λ never. never) (g.S.Scans.state c.args.loader.now.scan));
+  scan = alone_as _ _ 0 c.args.loader.now.loads ⊥ ⊥ (sym c.requires.none.0) (λ never. never) (λ never. never) (alone_itself ⊥ (λ never. never) (g.S.Scans.state c.args.loader.now.scan));
 }
 
 -- a frame that is acknowledged is passed over
@@ -109,8 +109,8 @@ loop-i-preserved g c =
           (spares_wider _ _ (IsWrittenFile (file_of g.N.Work.job c.loop-i.i)) (IsRangeFile g.N.Work.job c.args.task.now.range.low c.args.task.now.range.high c.args.reel.now.ledger.gates) (range_file g.N.Work.job c.args.task.now.range.low c.args.task.now.range.high c.args.reel.now.ledger.gates c.loop-i.i inv.late c.loop-i-test.true (sym (gate_still c.args.task.now.range.low c.args.reel.now c.loop-i.reel c.loop-i.i inv.late inv.past) ∙ reel.fresh)) (reel.spares told));
       own = writing_then inv.own (writing_wider (frame_of_run g.N.Work.job c.args.task.now.range.low c.args.task.now.range.high c.loop-i.i inv.late c.loop-i-test.true) reel.own);
       disk = disk_then (λ never. never) inv.disk (disk_done (λ same. cc) (λ never. never) reel.disk);
-      scan = scanned_along _ _ _ c.loop-i.loader.loads (c.run_frame.new.loader.loads - c.loop-i.loader.loads) c.run_frame.new.loader.loads ⊥ ⊥ (let later = step.loaded.loaded.later in omega (arith, later)) (λ never. never) inv.scan
-          (scanned_as _ _ _ _ _ ⊥ refl (λ never. absurd never) (λ same. cc) step.loaded.scan);
+      scan = alone_along _ _ _ c.loop-i.loader.loads (c.run_frame.new.loader.loads - c.loop-i.loader.loads) c.run_frame.new.loader.loads ⊥ ⊥ (let later = step.loaded.loaded.later in omega (arith, later)) (λ never. never) inv.scan
+          (alone_as _ _ _ _ _ ⊥ refl (λ never. absurd never) (λ same. cc) (record { scanned = step.loaded.scan; ends = step.loaded.ends }));
     }
 
 -- no room for a frame
@@ -159,8 +159,9 @@ returns-in-Err-run_frame-clause-reel g c = record {
 
 pub returns-in-Err-run_frame-clause-scan : goal.returns-in-Err-run_frame-clause-scan
 returns-in-Err-run_frame-clause-scan g c =
-    scanned_along _ _ _ c.loop-i.loader.loads (c.run_frame.new.loader.loads - c.loop-i.loader.loads) c.run_frame.new.loader.loads ⊥ _ (let later = c.run_frame.ensures.loaded.loaded.later in omega (arith, later)) (λ never. never) c.loop-i.invariant.scan
-    (scanned_as _ _ _ _ _ _ refl (λ is. ap Err is) (λ is. err_same _ _ is) c.in-Err-run_frame.ensures.loaded.scan)
+    alone_along _ _ _ c.loop-i.loader.loads (c.run_frame.new.loader.loads - c.loop-i.loader.loads) c.run_frame.new.loader.loads ⊥ _ (let later = c.run_frame.ensures.loaded.loaded.later in omega (arith, later)) (λ never. never) c.loop-i.invariant.scan
+    (alone_as _ _ _ _ _ _ refl (λ is. ap Err is) (λ is. err_same _ _ is)
+    (let loaded = c.in-Err-run_frame.ensures.loaded in record { scanned = loaded.scan; ends = loaded.ends }))
 
 -- every frame is finished
 pub returns-clause-reel : goal.returns-clause-reel

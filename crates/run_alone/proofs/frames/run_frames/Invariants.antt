@@ -8,7 +8,7 @@ use Rattle.reel_writer.specs.Reel.{IsReelRun, IsRunFile}
 use Rattle.run_alone.specs.Asks.{asks_of_frames, closed_frames}
 use Rattle.run_alone.specs.inside.Ran.{ArePast}
 use Rattle.frame_fetch.specs.Loading.{CanLoad}
-use Rattle.frame_fetch.specs.Scanned.{IsScanned}
+use Rattle.frame_fetch.specs.Scanned.{IsScannedAlone}
 use Rattle.frame_fetch.specs.Sharing.{IsPaired, asks_of}
 use Rattle.run_alone.proofs.frames.run_frames.Given as goal
 
@@ -30,5 +30,5 @@ invariant-loop-i g l = record {
   spares : g.D.Disk.tells ≡ true → Spares (g.D.Disk.state l.fn.reel.disk).history (g.D.Disk.state l.reel.disk).history (IsRangeFile g.N.Work.job l.fn.task.range.low l.fn.task.range.high l.fn.reel.ledger.gates);
   own : OnlyWrites (IsRunFile g.N.Work.job l.fn.task.range.low l.fn.task.range.high) (g.D.Disk.state l.fn.reel.disk).calls (g.D.Disk.state l.reel.disk).calls;
   disk : LeavesDisk ⊥ (g.D.Disk.state l.fn.reel.disk) (g.D.Disk.state l.reel.disk);
-  scan : IsScanned l.loader.loads ⊥ (g.S.Scans.state l.fn.loader.scan) (g.S.Scans.state l.loader.scan);
+  scan : IsScannedAlone l.loader.loads ⊥ (g.S.Scans.state l.fn.loader.scan) (g.S.Scans.state l.loader.scan);
 }
