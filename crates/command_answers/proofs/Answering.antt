@@ -26,7 +26,7 @@ use Rattle.frame_range.specs.declared.range.FrameRange.{FrameRange}
 use Rattle.project_run.specs.Run.{IsJobRun, IsRunReply, IsUnplanned}
 use Rattle.project_run.specs.Status.{IsStatus}
 use Rattle.project_run.specs.Sums.{AreSums}
-use Rattle.project_run.specs.Verify.{IsChecked}
+use Rattle.project_run.specs.Verify.{IsCheckedBehindLook}
 use Rattle.conform_job.specs.Job.{JobData}
 use Rattle.cf_base.specs.declared.file.FileId.{FileId}
 use Rattle.reel_disk.specs.Call.{OnlyWrites}
@@ -161,26 +161,31 @@ status_instead job disk disk_after reached output status = record {
   reads = status.reads;
 }
 
-check_instead : (job : JobData) (view : ViewState) (disk : FolderState) (reached : Outcome) (output : List ℕ) → IsChecked job view disk reached output → IsChecked job view disk outcomes.NoMemory (line_of outcomes.NoMemory)
-check_instead job view disk reached output checked = record {
-  answer = checked.answer;
-  checked = checked.checked;
-  known = checked.known;
-  reached_is = inr refl;
-  form = λ same. absurd (cc);
-  intact = λ tells world sound frame kept found same. absurd (cc);
+check_instead : (job : JobData) (view : ViewState) (disk disk_after : FolderState) (reached : Outcome) (output : List ℕ) → IsCheckedBehindLook job view disk disk_after reached output → IsCheckedBehindLook job view disk disk_after outcomes.NoMemory (line_of outcomes.NoMemory)
+check_instead job view disk disk_after reached output was = record {
+  behind = was.behind;
+  looks = was.looks;
+  checked = let checked = was.checked in record {
+    answer = checked.answer;
+    checked = checked.checked;
+    known = checked.known;
+    read = checked.read;
+    reached_is = inr refl;
+    form = λ same. absurd (cc);
+    intact = λ tells world sound frame kept found same. absurd (cc);
+  };
 }
 
 sums_instead : (job : JobData) (view : ViewState) (output : List ℕ) → AreSums job view outcomes.NoMemory output
 sums_instead job view output = record { kind = inr refl; form = λ same. absurd (cc) }
 
-count_instead : (kinds : List ProbeKind) (job : JobData) (view : ViewState) (disk : FolderState) (output : List ℕ) → IsCounted kinds job view disk outcomes.NoMemory output
-count_instead kinds job view disk output = record { kind = tt; form = λ same. absurd (cc); sound = λ same. absurd (cc); known = λ same. absurd (cc) }
+count_instead : (kinds : List ProbeKind) (job : JobData) (view : ViewState) (disk disk_after : FolderState) (output : List ℕ) → IsCounted kinds job view disk disk_after outcomes.NoMemory output
+count_instead kinds job view disk disk_after output = record { kind = tt; form = λ same. absurd (cc); sound = λ same. absurd (cc); known = λ same. absurd (cc) }
 
 sheet_instead : (tone : List ℕ) (job : JobData) (disk disk_after : FolderState) (reached : Outcome) (output : List ℕ) → HasSheet tone job disk disk_after reached output → HasSheet tone job disk disk_after outcomes.NoMemory (line_of outcomes.NoMemory)
 unfolding found_instead
 sheet_instead tone job disk disk_after reached output made = record {
-  seen = found_instead _ _ job disk disk_after reached (λ view sheeted. record { kind = tt; sheet = λ same. absurd (cc); form = λ same. absurd (cc); known = λ same. absurd (cc) }) made.seen;
+  seen = found_instead _ _ job disk disk_after reached (λ view sheeted. (sheeted.0, sheeted.1, record { kind = tt; sheet = λ same. absurd (cc); form = λ same. absurd (cc); made = λ same. absurd (cc); known = λ same. absurd (cc) })) made.seen;
   spares = made.spares;
   sound = made.sound;
   kept = made.kept;
@@ -230,6 +235,7 @@ adopted_instead job old_job told old old_after disk disk_after loads loads_after
       spares = went.spares;
       writes = went.writes;
       own = own;
+      taken = went.taken;
       sound_has = went.sound_has;
     }
     by (Err why) answer sealed unadopted own = record {
@@ -245,6 +251,7 @@ adopted_instead job old_job told old old_after disk disk_after loads loads_after
       spares = went.spares;
       writes = went.writes;
       own = writing_wider (own_of_adoption job (Err why)) own;
+      taken = went.taken;
       sound_has = went.sound_has;
     }
 
@@ -292,11 +299,11 @@ folder_instead house (commands.Run path extent workers share) before after folde
 folder_instead house (commands.Status path) before after folders folders_after reached output uses =
     look_instead _ _ before.world path folders.reel folders_after.reel before.loads after.loads reached (λ job status. status_instead job folders.reel folders_after.reel reached output status) uses
 folder_instead house (commands.Verify path) before after folders folders_after reached output uses =
-    look_instead _ _ before.world path folders.reel folders_after.reel before.loads after.loads reached (λ job seen. seen_instead _ _ job folders.reel folders_after.reel reached (λ view checked. check_instead job view folders.reel reached output checked) seen) uses
+    look_instead _ _ before.world path folders.reel folders_after.reel before.loads after.loads reached (λ job seen. seen_instead _ _ job folders.reel folders_after.reel reached (λ view checked. check_instead job view folders.reel folders_after.reel reached output checked) seen) uses
 folder_instead house (commands.Sums path) before after folders folders_after reached output uses =
     look_instead _ _ before.world path folders.reel folders_after.reel before.loads after.loads reached (λ job seen. seen_instead _ _ job folders.reel folders_after.reel reached (λ view sums. sums_instead job view _) seen) uses
 folder_instead house (commands.Qc path) before after folders folders_after reached output uses =
-    look_instead _ _ before.world path folders.reel folders_after.reel before.loads after.loads reached (λ job seen. seen_instead _ _ job folders.reel folders_after.reel reached (λ view counted. count_instead house.kinds job view folders.reel _) seen) uses
+    look_instead _ _ before.world path folders.reel folders_after.reel before.loads after.loads reached (λ job seen. seen_instead _ _ job folders.reel folders_after.reel reached (λ view counted. (counted.0, counted.1, count_instead house.kinds job view _ folders_after.reel _)) seen) uses
 folder_instead house (commands.Sheet path) before after folders folders_after reached output uses =
     look_instead _ _ before.world path folders.reel folders_after.reel before.loads after.loads reached (λ job made. sheet_instead house.tone job folders.reel folders_after.reel reached output made) uses
 folder_instead house (commands.Adopt path old_path) before after folders folders_after reached output uses =

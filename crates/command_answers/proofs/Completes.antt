@@ -13,6 +13,7 @@ use Rattle.scan_source.specs.World.{World, file_at}
 use Rattle.conform_job.specs.Job.{JobData}
 use Rattle.conform_job.specs.declared.parts.JobParts.{JobParts}
 use Rattle.record_timeline.specs.Accepted.{frame_count}
+use Rattle.reel_disk.specs.Call.{Call}
 use Rattle.reel_disk.specs.Disk.{History, view_of}
 use Rattle.resume_ledger.specs.Attach.{IsOtherJob, IsBadLedger, IsRefused}
 use Rattle.resume_ledger.specs.Body.{digest_of}
@@ -236,8 +237,8 @@ module _ (laws : OneJob) (world : World) (path : List ℕ) (disk : FolderState) 
           (fault_complete job.parts.digest (frames_of job) disk.history disk_after.history fault (fit_for job comes) looked (λ failed. no_disk (reached_is ∙ failed))))
       by (Err fault) looked (inr memory) = through command reached (inr memory)
 
-  checked_complete : (job : JobData) (view : ViewState) (reached : Outcome) (output : List ℕ) → reached ≢ outcomes.DiskFault → IsChecked job view disk reached output → IsComplete (commands.Verify path) reached
-  checked_complete job view reached output no_disk checked = elim checked.reached_is [
+  checked_complete : (job : JobData) (view : ViewState) (looked : List Call) (disk_after : FolderState) (reached : Outcome) (output : List ℕ) → reached ≢ outcomes.DiskFault → IsChecked job view looked disk disk_after reached output → IsComplete (commands.Verify path) reached
+  checked_complete job view looked disk_after reached output no_disk checked = elim checked.reached_is [
     | inl reached_is ↦ subst (IsComplete (commands.Verify path)) (sym reached_is) (check_complete path checked.answer (λ failed. no_disk (reached_is ∙ failed)))
     | inr memory ↦ through (commands.Verify path) reached (inr memory)
   ]
@@ -245,7 +246,7 @@ module _ (laws : OneJob) (world : World) (path : List ℕ) (disk : FolderState) 
   verify_complete : (disk_after : FolderState) (loads loads_after : ℕ) (reached : Outcome) (output : List ℕ) → IsVerifyReply path told loads loads_after disk disk_after reached output
       → reached ≢ outcomes.SourceFault → reached ≢ outcomes.DiskFault → IsComplete (commands.Verify path) reached
   verify_complete disk_after loads loads_after reached output (inl has) no_source no_disk =
-      found_complete (commands.Verify path) _ has.job disk_after reached has.comes.told has.looked.seen (λ view checked. checked_complete has.job view reached output no_disk checked) no_disk
+      found_complete (commands.Verify path) _ has.job disk_after reached has.comes.told has.looked.seen (λ view was. checked_complete has.job view was.behind disk_after reached output no_disk was.checked) no_disk
   verify_complete disk_after loads loads_after reached output (inr none) no_source no_disk =
       through (commands.Verify path) reached (planned_complete laws told world path reached is (place.job, place.comes) none.why.told none.kind no_source)
 
@@ -264,13 +265,13 @@ module _ (laws : OneJob) (world : World) (path : List ℕ) (disk : FolderState) 
   qc_complete : {kinds : List ProbeKind} (disk_after : FolderState) (loads loads_after : ℕ) (reached : Outcome) (output : List ℕ) → IsQcReply kinds path told loads loads_after disk disk_after reached output
       → reached ≢ outcomes.SourceFault → reached ≢ outcomes.DiskFault → IsThrough reached
   qc_complete disk_after loads loads_after reached output (inl has) no_source no_disk =
-      found_complete (commands.Qc path) _ has.job disk_after reached has.comes.told has.looked.seen (λ view counted. behind_complete reached no_disk counted.kind) no_disk
+      found_complete (commands.Qc path) _ has.job disk_after reached has.comes.told has.looked.seen (λ view counted. behind_complete reached no_disk counted.2.kind) no_disk
   qc_complete disk_after loads loads_after reached output (inr none) no_source no_disk = planned_complete laws told world path reached is (place.job, place.comes) none.why.told none.kind no_source
 
   sheet_complete : {tone : List ℕ} (disk_after : FolderState) (loads loads_after : ℕ) (reached : Outcome) (output : List ℕ) → IsSheetReply tone path told loads loads_after disk disk_after reached output
       → reached ≢ outcomes.SourceFault → reached ≢ outcomes.DiskFault → IsThrough reached
   sheet_complete disk_after loads loads_after reached output (inl has) no_source no_disk =
-      found_complete (commands.Sheet path) _ has.job disk_after reached has.comes.told has.looked.seen (λ view sheeted. behind_complete reached no_disk sheeted.kind) no_disk
+      found_complete (commands.Sheet path) _ has.job disk_after reached has.comes.told has.looked.seen (λ view sheeted. behind_complete reached no_disk sheeted.2.kind) no_disk
   sheet_complete disk_after loads loads_after reached output (inr none) no_source no_disk = planned_complete laws told world path reached is (place.job, place.comes) none.why.told none.kind no_source
 
 -- ---- an adoption

@@ -1,8 +1,9 @@
 //! A frame whose pixels are known already, under its own header.
-ghost use Rattle.std.specs.Prelude.{◌≡◌, ◌<◌, drop, length, IfSome};
+ghost use Rattle.std.specs.Prelude.{◌≡◌, ◌<◌, ◌++◌, drop, length, IfSome};
 ghost use Rattle.record_timeline.specs.Accepted.{frame_count};
 ghost use Rattle.scan_source.specs.World.{file_at};
-ghost use Rattle.frame_render.specs.Frame.{IsFileOf, frame_file, frame_size};
+ghost use Rattle.dpx_header.specs.Writing.{header_of};
+ghost use Rattle.frame_render.specs.Frame.{IsFileOf, frame_file, frame_size, out_head};
 
 use crate::Rendered;
 use crate::file::put_header;
@@ -19,6 +20,9 @@ pub fn rehead<N: Work>(job: &Job, i: u32, file: &mut [u8])
     requires pixels { IfSome N.files (λ world. drop HEADER file.old ≡ drop HEADER (frame_file N.job (file_at world) i)) }
     ensures size { length file.new ≡ frame_size N.job }
     ensures file { IsFileOf N.job N.files i file.new }
+
+    // Over any scan, the bytes are its header and then those that were there.
+    ensures made { file.new ≡ header_of (out_head N.job i) ++ drop HEADER file.old }
 {
     put_header(job, i, file);
 }

@@ -31,6 +31,7 @@ use Rattle.run_alone.proofs.Closing.{whole_reel}
 use Rattle.outcome.specs.declared.Outcome.{Outcome}
 use Rattle.outcome.specs.declared.Outcome.TheVariants as outcome
 use Rattle.project_run.specs.Run.{IsOfRun, outcome_of_end}
+use Rattle.reconform.specs.Taken.{TakesOver}
 use Rattle.project_adopt.specs.Adopt.{IsAdoption, IsOfAdopt, IsPromised, IsRest, outcome_of_fault}
 
 -- a run that came to Done has ended so
@@ -145,7 +146,8 @@ rest_of {told = told} {done = done} {disk = disk} {disk_after = disk_after} {loa
 
 module _ (job old_job : JobData) (lent told : Option World) (tells_lent : Tells lent told) (tells : Bool) (old old_after before between after : DiskState) (sound_has : (world : World) (files : Files) → IsSoundReel job world files → HasFrameFiles job files) (reads : OnlyReads tells old old_after) (run : tells ≡ true → IsReelRun job lent before.history between.history)
     (spares : tells ≡ true → Spares before.history between.history (IsOwnFile job (view_of before.history)))
-    (writes : tells ≡ true → WritesOnly before.history between.history (MayWrite job (view_of before.history))) where
+    (writes : tells ≡ true → WritesOnly before.history between.history (MayWrite job (view_of before.history)))
+    (taken : TakesOver job old_job old.calls old_after.calls before.calls between.calls) where
   -- both folders were opened
   module _ (done : Adopted) (own : OnlyWrites (AdoptionMayWrite job (Ok done)) before.calls between.calls) (adopted : WasAdopted job old_job tells (view_of old.history) (view_of before.history) (view_of between.history) done) (two : tells ≡ true → IsInForce Two (view_of between.history))
       (loads loads_after : ℕ) (reached : Outcome) (output : List ℕ) (rest : IsRest job done told loads loads_after (folder_state tells between) (folder_state tells after) reached output) where
@@ -172,6 +174,7 @@ module _ (job old_job : JobData) (lent told : Option World) (tells_lent : Tells 
       spares = λ t. both_spare job before.history between.history after.history (two t) (kept_still t) (run t) (rest.run.keeps.run t) (spares t) (rest.run.keeps.spares t);
       writes = λ t. both_write job before.history between.history after.history (two t) (kept_still t) (run t) (rest.run.keeps.run t) (writes t) (rest.run.keeps.writes t);
       own = writing_then own (writing_wider (λ q. own_of_run job q rest.run.how) rest.run.keeps.own);
+      taken = taken;
       sound_has = sound_has;
     }
 
@@ -198,6 +201,7 @@ module _ (job old_job : JobData) (lent told : Option World) (tells_lent : Tells 
       spares = spares;
       writes = writes;
       own = own;
+      taken = taken;
       sound_has = sound_has;
     }
 

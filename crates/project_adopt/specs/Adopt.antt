@@ -23,6 +23,7 @@ use Rattle.resume_ledger.specs.Sound.{IsSound, WritesOnly}
 use Rattle.resume_ledger.specs.declared.layout.Version.TheVariants.{Two}
 use Rattle.reel_writer.specs.Reel.{frames_of, reel_of, HasFrameFiles, IsReelRun, IsSoundReel}
 use Rattle.reconform.specs.Adopt.{AdoptionMayWrite, HasAnswered, IsOfOld}
+use Rattle.reconform.specs.Taken.{TakesOver}
 use Rattle.reconform.specs.declared.adopting.Adopted.{Adopted}
 use Rattle.reconform.specs.declared.adopting.AdoptFault.{AdoptFault}
 use Rattle.reconform.specs.declared.adopting.AdoptFault.TheVariants as fault
@@ -121,6 +122,8 @@ pub record IsAdoption (job old_job : JobData) (told : Option World) (loads loads
   pub writes : disk.tells ≡ true → WritesOnly disk.history disk_after.history (MayWrite job (view_of disk.history))
   -- by its calls, also where the disk tells nothing: no file but a run's, and none where a folder was refused
   pub own : OnlyWrites (AdoptionMayWrite job adopted) disk.calls disk_after.calls
+  -- what was read of the old folder and written in the new one while frames were taken over
+  pub taken : TakesOver job old_job old.calls old_after.calls disk.calls between.calls
   -- sound files lose none
   pub sound_has : (world : World) (files : Files) → IsSoundReel job world files → HasFrameFiles job files
 

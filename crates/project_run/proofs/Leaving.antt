@@ -107,15 +107,15 @@ sums_unrefused job disk disk_after reached output summed = found_unrefused job d
 
 pub check_unrefused : (job : JobData) (disk disk_after : FolderState) (reached : Outcome) (output : List ℕ) → IsVerified job disk disk_after reached output → IsRefusal reached → ⊥
 check_unrefused job disk disk_after reached output verified = found_unrefused job disk disk_after reached _
-    (λ view checked. neither reached (outcome_of_check checked.answer) outcomes.NoMemory (no_check checked.answer) (λ no. no) checked.reached_is) verified.seen
+    (λ view was. let checked = was.checked in neither reached (outcome_of_check checked.answer) outcomes.NoMemory (no_check checked.answer) (λ no. no) checked.reached_is) verified.seen
 
 pub table_unrefused : (kinds : List ProbeKind) (job : JobData) (disk disk_after : FolderState) (reached : Outcome) (output : List ℕ) → IsTabled kinds job disk disk_after reached output
     → IsRefusal reached → ⊥
-table_unrefused kinds job disk disk_after reached output tabled = found_unrefused job disk disk_after reached _ (λ view counted. behind reached counted.kind) tabled.seen
+table_unrefused kinds job disk disk_after reached output tabled = found_unrefused job disk disk_after reached _ (λ view counted. behind reached counted.2.kind) tabled.seen
 
 pub sheet_unrefused : (tone : List ℕ) (job : JobData) (disk disk_after : FolderState) (reached : Outcome) (output : List ℕ) → HasSheet tone job disk disk_after reached output
     → IsRefusal reached → ⊥
-sheet_unrefused tone job disk disk_after reached output made = found_unrefused job disk disk_after reached _ (λ view sheeted. behind reached sheeted.kind) made.seen
+sheet_unrefused tone job disk disk_after reached output made = found_unrefused job disk disk_after reached _ (λ view sheeted. behind reached sheeted.2.kind) made.seen
 
 -- ---- so all that is said of a refusal holds
 

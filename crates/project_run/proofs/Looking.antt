@@ -13,6 +13,7 @@ use Rattle.reel_disk.specs.State.{DiskState, OnlyReads, FolderState, folder_stat
 use Rattle.reel_disk.proofs.Moments.{passes_extends}
 use Rattle.reel_disk.proofs.Sparing.{spares_along, still_spares}
 use Rattle.resume_ledger.proofs.Reading.{still_along, still_view}
+use Rattle.resume_ledger.specs.Calls.{Looks}
 use Rattle.resume_ledger.specs.Look.{ViewState, HasLooked, IsLookFor, IsViewOf}
 use Rattle.resume_ledger.specs.Peek.{HasPeeked, IsPeekFor}
 use Rattle.resume_ledger.specs.declared.attach.OpenFault.{OpenFault}
@@ -24,13 +25,13 @@ use Rattle.reel_qc.proofs.SheetLaws.{sheet_firmly, stays_acked, stays_sound}
 use Rattle.reel_qc.specs.Sheet.{WritesSheet, sheet_file, sheet_peak, cell_frames}
 use Rattle.outcome.specs.declared.Outcome.{Outcome}
 use Rattle.outcome.specs.declared.Outcome.TheVariants as outcome
-use Rattle.project_run.specs.Look.{HasFound, HasSeen, outcome_of_fault}
+use Rattle.project_run.specs.Look.{HasFound, HasSeen, IsBehind, outcome_of_fault}
 use Rattle.project_run.specs.Quality.{IsCounted, IsTabled}
 use Rattle.project_run.specs.Calls.{WasOnlyRead}
 use Rattle.project_run.specs.Sheet.{HasSheet, IsSheeted, sheet_text}
 use Rattle.project_run.specs.Status.{IsStatus, status_text}
 use Rattle.project_run.specs.Sums.{AreSums, IsSummed}
-use Rattle.project_run.specs.Verify.{IsChecked, IsVerified}
+use Rattle.project_run.specs.Verify.{IsChecked, IsCheckedBehindLook, IsVerified}
 
 -- a folder that is read, as its disk leaves it
 pub folder_read : {tells : Bool} {a b : DiskState} → OnlyReads tells a b → WasOnlyRead (folder_state tells a) (folder_state tells b)
@@ -84,21 +85,22 @@ one_line_more line i =
     ∙ ap (λ (l : List ℕ). flat_map line (range_with_len 0 i) ++ l) (append-nil (line i))
 
 -- what a look left as it was, is checked as it was before the look
-checked_before : (job : JobData) (disk mid : FolderState) (view : ViewState) → mid.tells ≡ disk.tells → (disk.tells ≡ true → IsStill disk.history mid.history)
-    → (reached : Outcome) (output : List ℕ) → IsChecked job view mid reached output → IsChecked job view disk reached output
-checked_before job disk mid view tells looked reached output was = record {
+checked_before : (job : JobData) (calls : List Call) (disk mid after : FolderState) (view : ViewState) → mid.tells ≡ disk.tells → (disk.tells ≡ true → IsStill disk.history mid.history)
+    → (reached : Outcome) (output : List ℕ) → IsChecked job view calls mid after reached output → IsChecked job view calls disk after reached output
+checked_before job calls disk mid after view tells looked reached output was = record {
   answer = was.answer;
   checked = λ t. subst (λ (files : Files). HasChecked job view files was.answer) (still_view disk.history mid.history (looked t)) (was.checked (subst (λ b. b ≡ true) (sym tells) t));
   known = was.known;
+  read = was.read;
   reached_is = was.reached_is;
   form = was.form;
   intact = λ t world sound. was.intact (subst (λ b. b ≡ true) (sym tells) t) world (subst (IsSoundReel job world) (sym (still_view disk.history mid.history (looked t))) sound);
 }
 
 -- and is counted as it was
-counted_before : (kinds : List ProbeKind) (job : JobData) (disk mid : FolderState) (view : ViewState) → mid.tells ≡ disk.tells → (disk.tells ≡ true → IsStill disk.history mid.history)
-    → (reached : Outcome) (output : List ℕ) → IsCounted kinds job view mid reached output → IsCounted kinds job view disk reached output
-counted_before kinds job disk mid view tells looked reached output was = record {
+counted_before : (kinds : List ProbeKind) (job : JobData) (disk mid after : FolderState) (view : ViewState) → mid.tells ≡ disk.tells → (disk.tells ≡ true → IsStill disk.history mid.history)
+    → (reached : Outcome) (output : List ℕ) → IsCounted kinds job view mid after reached output → IsCounted kinds job view (record disk { calls = mid.calls }) after reached output
+counted_before kinds job disk mid after view tells looked reached output was = record {
   kind = was.kind;
   form = λ done t. subst (λ (files : Files). output ≡ quality_table kinds job view files) (still_view disk.history mid.history (looked t)) (was.form done (subst (λ b. b ≡ true) (sym tells) t));
   sound = λ done t world sound. was.sound done (subst (λ b. b ≡ true) (sym tells) t) world (subst (IsSoundReel job world) (sym (still_view disk.history mid.history (looked t))) sound);
@@ -107,13 +109,14 @@ counted_before kinds job disk mid view tells looked reached output was = record 
 
 -- and a sheet is made of it as it was
 sheeted_before : (tone : List ℕ) (job : JobData) (disk mid after : FolderState) (view : ViewState) → mid.tells ≡ disk.tells → (disk.tells ≡ true → IsStill disk.history mid.history)
-    → (reached : Outcome) (output : List ℕ) → IsSheeted tone job view mid after reached output → IsSheeted tone job view disk after reached output
+    → (reached : Outcome) (output : List ℕ) → IsSheeted tone job view mid after reached output → IsSheeted tone job view (record disk { calls = mid.calls }) after reached output
 sheeted_before tone job disk mid after view tells looked reached output was = record {
   kind = was.kind;
   sheet = λ done t. sheet_firmly disk.history mid.history after.history _ _ (looked t)
       (ap (λ (files : Files). sheet_file tone job view files) (still_view disk.history mid.history (looked t))) (was.sheet done (subst (λ b. b ≡ true) (sym tells) t));
   form = λ done t. subst (λ (files : Files). output ≡ sheet_text (length (cell_frames job)) (sheet_peak tone job view files)) (still_view disk.history mid.history (looked t))
       (was.form done (subst (λ b. b ≡ true) (sym tells) t));
+  made = was.made;
   known = was.known;
 }
 
@@ -134,27 +137,35 @@ summed_by job disk after view digest count digest_is count_is looked shown size 
 module _ (job : JobData) (disk mid after : FolderState) (view : ViewState) (digest : List ℕ) (count : ℕ) where
   pub verified_by : digest ≡ job.parts.digest → count ≡ frames_of job → mid.tells ≡ disk.tells
       → WasOnlyRead disk mid → WasOnlyRead mid after
-      → (disk.tells ≡ true → IsViewOf digest count (view_of disk.history) view) → length view.gates ≡ count
-      → (reached : Outcome) (output : List ℕ) → IsChecked job view mid reached output → IsVerified job disk after reached output
-  verified_by digest_is count_is tells looked read shown size reached output was =
-      seen_by (λ v. IsChecked job v disk reached output) job disk mid after view digest count digest_is count_is tells looked read shown size reached
-      (checked_before job disk mid view tells looked.still reached output was)
+      → (disk.tells ≡ true → IsViewOf digest count (view_of disk.history) view) → length view.gates ≡ count → Looks digest count (Ok view) disk.calls mid.calls
+      → (reached : Outcome) (output : List ℕ) → IsChecked job view mid.calls mid after reached output → IsVerified job disk after reached output
+  verified_by digest_is count_is tells looked read shown size looks reached output was =
+      seen_by (λ v. IsCheckedBehindLook job v disk after reached output) job disk mid after view digest count digest_is count_is tells looked read shown size reached record {
+        behind = mid.calls;
+        looks = subst (λ d. Looks d (frames_of job) (Ok view) disk.calls mid.calls) digest_is (subst (λ n. Looks digest n (Ok view) disk.calls mid.calls) count_is looks);
+        checked = checked_before job mid.calls disk mid after view tells looked.still reached output was;
+      }
+
+  -- the calls of the look, by what it was asked for
+  looks_as : digest ≡ job.parts.digest → count ≡ frames_of job → Looks digest count (Ok view) disk.calls mid.calls → Looks job.parts.digest (frames_of job) (Ok view) disk.calls mid.calls
+  looks_as digest_is count_is calls =
+      subst (λ d. Looks d (frames_of job) (Ok view) disk.calls mid.calls) digest_is (subst (λ n. Looks digest n (Ok view) disk.calls mid.calls) count_is calls)
 
   pub tabled_by : (kinds : List ProbeKind) → digest ≡ job.parts.digest → count ≡ frames_of job → mid.tells ≡ disk.tells
       → WasOnlyRead disk mid → WasOnlyRead mid after
-      → (disk.tells ≡ true → IsViewOf digest count (view_of disk.history) view) → length view.gates ≡ count
-      → (reached : Outcome) (output : List ℕ) → IsCounted kinds job view mid reached output → IsTabled kinds job disk after reached output
-  tabled_by kinds digest_is count_is tells looked read shown size reached output was =
-      seen_by (λ v. IsCounted kinds job v disk reached output) job disk mid after view digest count digest_is count_is tells looked read shown size reached
-      (counted_before kinds job disk mid view tells looked.still reached output was)
+      → (disk.tells ≡ true → IsViewOf digest count (view_of disk.history) view) → length view.gates ≡ count → Looks digest count (Ok view) disk.calls mid.calls
+      → (reached : Outcome) (output : List ℕ) → IsCounted kinds job view mid after reached output → IsTabled kinds job disk after reached output
+  tabled_by kinds digest_is count_is tells looked read shown size calls reached output was =
+      seen_by (λ v. IsBehind job disk v (λ behind. IsCounted kinds job v behind after reached output)) job disk mid after view digest count digest_is count_is tells looked read shown size reached
+      (mid.calls, looks_as digest_is count_is calls, counted_before kinds job disk mid after view tells looked.still reached output was)
 
   pub sheet_by : (tone : List ℕ) → digest ≡ job.parts.digest → count ≡ frames_of job → mid.tells ≡ disk.tells
       → WasOnlyRead disk mid → WritesSheet (writes_in mid.calls) (writes_in after.calls) → (disk.tells ≡ true → Extends mid.history after.history) → (disk.tells ≡ true → Spares mid.history after.history (λ q. q ≡ file.Sheet))
-      → (disk.tells ≡ true → IsViewOf digest count (view_of disk.history) view) → length view.gates ≡ count
+      → (disk.tells ≡ true → IsViewOf digest count (view_of disk.history) view) → length view.gates ≡ count → Looks digest count (Ok view) disk.calls mid.calls
       → (reached : Outcome) (output : List ℕ) → IsSheeted tone job view mid after reached output → HasSheet tone job disk after reached output
-  sheet_by tone digest_is count_is tells looked written later spared shown size reached output was = record {
-    seen = found_by (λ v. IsSheeted tone job v disk after reached output) job disk after view digest count digest_is count_is shown size reached
-        (sheeted_before tone job disk mid after view tells looked.still reached output was);
+  sheet_by tone digest_is count_is tells looked written later spared shown size calls reached output was = record {
+    seen = found_by (λ v. IsBehind job disk v (λ behind. IsSheeted tone job v behind after reached output)) job disk after view digest count digest_is count_is shown size reached
+        (mid.calls, looks_as digest_is count_is calls, sheeted_before tone job disk mid after view tells looked.still reached output was);
     spares = λ t. spared_along disk.history mid.history after.history (λ q. q ≡ file.Sheet) (looked.still t) (later t) (spared t);
     sound = λ t world. stays_sound disk.history after.history (spared_along disk.history mid.history after.history (λ q. q ≡ file.Sheet) (looked.still t) (later t) (spared t)) job world;
     kept = λ t i. stays_acked disk.history after.history (spared_along disk.history mid.history after.history (λ q. q ≡ file.Sheet) (looked.still t) (later t) (spared t)) job i;

@@ -5,12 +5,15 @@
 --     IsLookReply      the project came to a job, and the folder was looked at, or it came to none
 --     HasFound      the ledger was looked at, and of what it has this was found
 --     HasSeen      the same, and the folder was never changed
+--     IsBehind      the look came to this view by its calls, and this is so of the folder behind them
 use Rattle.std.specs.Prelude.{◌≡◌, ◌⊎◌, ℕ, ◌+◌, true, List, Option, Result, Ok, MatchResult}
 use Rattle.scan_source.specs.World.{World}
+use Rattle.reel_disk.specs.Call.{Call}
 use Rattle.reel_writer.specs.Reel.{frames_of}
 use Rattle.conform_job.specs.Answers.{count_after}
 use Rattle.conform_job.specs.Job.{JobData}
 use Rattle.resume_ledger.specs.Look.{ViewState, HasLooked, IsLookFor}
+use Rattle.resume_ledger.specs.Calls.{Looks}
 use Rattle.resume_ledger.specs.declared.attach.OpenFault.{OpenFault}
 use Rattle.resume_ledger.specs.declared.attach.OpenFault.TheVariants as faults
 use Rattle.project_job.specs.Jobs.{cube_count}
@@ -46,6 +49,11 @@ pub record HasFound (job : JobData) (disk disk_after : FolderState) (reached : O
 pub record HasSeen (job : JobData) (disk disk_after : FolderState) (reached : Outcome) (Found : ViewState → Type 0) : Type 0 where
   pub seen : HasFound job disk disk_after reached Found
   pub reads : WasOnlyRead disk disk_after
+
+-- The look came to this view by its calls on the disk, whether that tells or not, and this is so of the folder behind them.
+abbrev pub IsBehind : JobData → FolderState → ViewState → (FolderState → Type 0) → Type 0
+IsBehind job disk view Made = (behind : List Call) × Looks job.parts.digest (frames_of job) (Ok view) disk.calls behind
+    × Made (record disk { calls = behind })
 
 -- The project came to this job, and its folder was looked at so.
 pub record HasLookedAt (told : Option World) (path : List ℕ) (loads loads_after : ℕ) (Looked : JobData → Type 0) : Type 0 where

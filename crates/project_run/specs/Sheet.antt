@@ -13,11 +13,12 @@ use Rattle.conform_job.specs.Job.{JobData}
 use Rattle.resume_ledger.specs.Look.{ViewState}
 use Rattle.resume_ledger.specs.Steps.{IsFirmly}
 use Rattle.reel_writer.specs.Reel.{HasAcked, IsSoundReel}
-use Rattle.reel_qc.specs.Sheet.{cell_frames, sheet_file, sheet_peak, WritesSheet}
+use Rattle.reel_qc.specs.Sheet.{cell_frames, sheet_file, sheet_peak, MakesSheet, WritesSheet}
+use Rattle.reel_qc.specs.declared.sheet.SheetDone.{SheetDone}
 use Rattle.printed_text.specs.Text.{spaced_line}
 use Rattle.outcome.specs.declared.Outcome.{Outcome}
 use Rattle.outcome.specs.declared.Outcome.TheVariants as outcome
-use Rattle.project_run.specs.Look.{HasFound, IsBehindLook, IsLookReply}
+use Rattle.project_run.specs.Look.{HasFound, IsBehind, IsBehindLook, IsLookReply}
 use Rattle.reel_disk.specs.State.{FolderState}
 use Rattle.project_run.specs.Calls.{WasOnlyRead}
 
@@ -36,12 +37,16 @@ pub record IsSheeted (tone : List ℕ) (job : JobData) (view : ViewState) (disk 
       → IsFirmly disk.history disk_after.history file.Sheet (Some (sheet_file tone job view (view_of disk.history)))
   pub form : reached ≡ outcome.Done → disk.tells ≡ true
       → output ≡ sheet_text (length (cell_frames job)) (sheet_peak tone job view (view_of disk.history))
+  -- over every disk, the files of the cells' acknowledged frames were read, no other, and the sheet of what they gave was written
+  pub made : reached ≡ outcome.Done → (done : SheetDone) × MakesSheet tone job view done disk.calls disk_after.calls
+      × (output ≡ sheet_text done.cells done.peak)
   -- how many cells it has is known over every disk
   pub known : reached ≡ outcome.Done → (peak : ℕ) × (peak ≤ 1023) × (output ≡ sheet_text (length (cell_frames job)) peak)
 
 -- The ledger was looked at, and a sheet was made of what it has, or it can't be had, and then nothing was written.
 pub record HasSheet (tone : List ℕ) (job : JobData) (disk disk_after : FolderState) (reached : Outcome) (output : List ℕ) : Type 0 where
-  pub seen : HasFound job disk disk_after reached (λ view. IsSheeted tone job view disk disk_after reached output)
+  pub seen : HasFound job disk disk_after reached
+      (λ view. IsBehind job disk view (λ behind. IsSheeted tone job view behind disk_after reached output))
   -- At every moment all other files are as they were, what was sound and fit is, and what was acknowledged is.
   pub spares : disk.tells ≡ true → Spares disk.history disk_after.history (λ q. q ≡ file.Sheet)
   pub sound : disk.tells ≡ true → (world : World) → Surely (moment_of disk.history) (IsSoundReel job world)

@@ -88,7 +88,7 @@ fn checked<D: Disk, H: Hasher>(
     requires size { length view.now.gates ≡ frames_of job.now }
     requires view { D.tells ≡ true → IsViewOf job.now.parts.digest (frames_of job.now) (view_of (D.state disk.old).history) view.now }
     ensures checked { Replies result (OnDisk D.tells (D.state disk.old) (D.state disk.new)
-        (λ was is. IsChecked job.now view.now was)) }
+        (λ was is. IsChecked job.now view.now was.calls was is)) }
     ensures reads { OnlyReads D.tells (D.state disk.old) (D.state disk.new) }
     ensures kind { MatchResult result (λ text. Unit {0}) IsOfVerify }
     ensures never { result ≢ Err Outcome.SourceFault }

@@ -90,7 +90,7 @@ fn counted<D: Disk, C: Counter>(
     requires size { length view.now.gates ≡ frames_of job.now }
     requires view { D.tells ≡ true → IsViewOf job.now.parts.digest (frames_of job.now) (view_of (D.state disk.old).history) view.now }
     ensures counted { Replies result (OnDisk D.tells (D.state disk.old) (D.state disk.new)
-        (λ was is. IsCounted (map (λ p. p.kind) probes.now) job.now view.now was)) }
+        (IsCounted (map (λ p. p.kind) probes.now) job.now view.now)) }
     ensures reads { OnlyReads D.tells (D.state disk.old) (D.state disk.new) }
     ensures kind { MatchResult result (λ text. Unit {0}) IsOfLook }
     ensures never { result ≢ Err Outcome.SourceFault }

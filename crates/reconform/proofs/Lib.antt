@@ -7,3 +7,4 @@ mod PlanOrder
 mod Planning
 mod Ranges
 mod Serving
+mod Taking

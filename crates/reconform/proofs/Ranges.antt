@@ -1,20 +1,23 @@
 -- Frames that are served in order.
 use Rattle.std.proofs.Common.{◌≡◌, inl, ℕ, ◌+◌, Bool, false, refl, sym, subst, Option}
-use Rattle.std.specs.Prelude.{Result, Ok, Err}
+use Rattle.std.specs.Prelude.{Result, Ok, Err, IsErr}
 use Rattle.reel_disk.specs.Disk.{Moment, view_of}
-use Rattle.reel_disk.specs.State.{DiskState}
+use Rattle.reel_disk.specs.State.{DiskState, LeavesDisk, OnlyReads}
 use Rattle.reel_disk.specs.declared.disk.DiskFault.{DiskFault}
 use Rattle.resume_ledger.specs.Look.{ViewState}
 use Rattle.resume_ledger.proofs.Reading.{reads_none, reads_along}
 use Rattle.scan_source.specs.World.{World}
 use Rattle.conform_job.specs.Job.{JobData}
+use Rattle.reel_writer.specs.Reads.{MakesOnly}
 use Rattle.reel_writer.specs.Reel.{frames_of}
 use Rattle.reel_writer.specs.View.{ReelView}
 use Rattle.reconform.specs.declared.adopting.AdoptFault.TheVariants as fault
 use Rattle.reconform.specs.inside.Adopt.{AreServed}
+use Rattle.reconform.specs.Taken.{IsDonorFile}
 use Rattle.reconform.specs.inside.Parts.{HasAdopted, HasServed, HasServedTo}
-use Rattle.reconform.proofs.Going.{both_behind, both_itself, part_along, part_itself}
-use Rattle.reconform.proofs.Serving.{on_ok, same_along, same_itself, served_first, served_more}
+use Rattle.reconform.proofs.Going.{both_behind, both_itself, old_asked, part_along, part_itself}
+use Rattle.reconform.proofs.Serving.{on_any, on_ok, same_along, same_itself, served_first, served_more}
+use Rattle.reconform.proofs.Taking.{taken_along, taken_none, taken_reads}
 
 module _ {D E : Type 0} (new old : JobData) (told : Option World) (tells : Bool) (state : D → DiskState) (reel_tells : Bool) (reel_state : E → DiskState) (view : ViewState) where
   abbrev pub ServedTo : {T : Type 0} → ℕ → ℕ → Result T DiskFault → D → D → ReelView E → ReelView E → Type 0
@@ -27,6 +30,7 @@ module _ {D E : Type 0} (new old : JobData) (told : Option World) (tells : Bool)
     stays = same_itself reel;
     stays_open = is_open;
     part = part_itself;
+    taken = taken_none;
     reads = reads_none;
     disks = both_itself (λ is. cc);
   }
@@ -39,6 +43,7 @@ module _ {D E : Type 0} (new old : JobData) (told : Option World) (tells : Bool)
     stays = done.stays;
     stays_open = done.stays_open;
     part = done.part;
+    taken = done.taken;
     reads = done.reads;
     disks = done.disks;
   }
@@ -53,8 +58,23 @@ module _ {D E : Type 0} (new old : JobData) (told : Option World) (tells : Bool)
     stays = same_along _ _ _ first.stays second.stays;
     stays_open = second.stays_open;
     part = part_along first.stays.grows first.part second.part;
+    taken = taken_along first.taken second.taken;
     reads = reads_along first.reads second.reads;
     disks = both_behind (λ is. is) (λ is. is) (first.disks.old_steady (λ is. cc)) (first.disks.steady (λ is. cc)) first.disks.old_lent first.disks.lent second.disks;
+  }
+
+  -- donors' files are read then
+  pub served_then_read : {T U : Type 0} (from to : ℕ) (x : T) (result : Result U DiskFault) (disk mid after : D) (reel reel_after : ReelView E) → ServedTo from to (Ok x) disk mid reel reel_after
+      → OnlyReads tells (state mid) (state after) → MakesOnly (IsDonorFile new old view) (state mid).calls (state after).calls → LeavesDisk (IsErr result) (state mid) (state after)
+      → ServedTo from to result disk after reel reel_after
+  served_then_read from to x result disk mid after reel reel_after done reads on leaves = record {
+    served = on_any result _ done.served;
+    stays = done.stays;
+    stays_open = on_any result _ done.stays_open;
+    part = done.part;
+    taken = taken_along done.taken (taken_reads on);
+    reads = reads_along done.reads reads;
+    disks = both_behind (λ is. is) (λ is. is) (done.disks.old_steady (λ is. cc)) (done.disks.steady (λ is. cc)) done.disks.old_lent done.disks.lent (old_asked leaves);
   }
 
   -- a disk failed before
@@ -65,6 +85,7 @@ module _ {D E : Type 0} (new old : JobData) (told : Option World) (tells : Bool)
     stays = done.stays;
     stays_open = tt;
     part = done.part;
+    taken = done.taken;
     reads = done.reads;
     disks = both_behind (λ is. cc) (λ is. cc) refl refl refl refl done.disks;
   }
@@ -77,6 +98,7 @@ module _ {D E : Type 0} (new old : JobData) (told : Option World) (tells : Bool)
     stays = done.stays;
     stays_open = done.stays_open;
     part = done.part;
+    taken = done.taken;
     reads = done.reads;
     disks = both_behind (λ is. cc) (λ is. cc) refl refl refl refl done.disks;
   }
@@ -90,6 +112,7 @@ module _ {D E : Type 0} (new old : JobData) (told : Option World) (tells : Bool)
     stays_open = done.stays_open;
     end = tt;
     part = done.part;
+    taken = done.taken;
     reads = done.reads;
   }
 
@@ -102,5 +125,6 @@ module _ {D E : Type 0} (new old : JobData) (told : Option World) (tells : Bool)
     stays_open = tt;
     end = inl refl;
     part = done.part;
+    taken = done.taken;
     reads = done.reads;
   }

@@ -24,6 +24,7 @@ use Rattle.reconform.specs.inside.Parts.{HasAdopted, HasServed}
 use Rattle.reconform.specs.Plan.{AreAlike, plan_at}
 use Rattle.reconform.proofs.Going.{both_itself, part_itself}
 use Rattle.reconform.proofs.Painting.{equal_plans}
+use Rattle.reconform.proofs.Taking.{taken_none}
 
 -- where the old folder is sound, the pixels of a donor are those of the frame
 pub served_pixels : (new old : JobData) (told : Option World) (tells : Bool) (files : Files) (view : ViewState) (i j : ℕ) (bytes : List ℕ)
@@ -143,9 +144,17 @@ pub if_ok : {A E : Type 0} (r : Result A E) (P Q : A → Type 0) → ((a : A) �
 if_ok (Ok a) P Q f p = f a p
 if_ok (Err e) P Q f p = tt
 
+pub if_ok_both : {A E : Type 0} (r : Result A E) (P Q R : A → Type 0) → ((a : A) → P a → Q a → R a) → IfOk r P → IfOk r Q → IfOk r R
+if_ok_both (Ok a) P Q R f p q = f a p q
+if_ok_both (Err e) P Q R f p q = tt
+
 pub on_ok : {A E : Type 0} (r : Result A E) (P Q : Type 0) → (P → Q) → OnOk r P → OnOk r Q
 on_ok (Ok a) P Q f p = f p
 on_ok (Err e) P Q f p = tt
+
+pub on_any : {A E : Type 0} (r : Result A E) (P : Type 0) → P → OnOk r P
+on_any (Ok a) P p = p
+on_any (Err e) P p = tt
 
 module _ {D : Type 0} (old : ReelView D) (i : ℕ) (disk : D) (new : ReelView D) where
   pub same_finish : get_or old.ledger.gates i false ≡ false → new ≡ after_finish old i disk → IsSameReel old new
@@ -180,6 +189,7 @@ adopted_none new old told tells state reel_tells reel_state view disk reel = rec
   stays_open = tt;
   end = inr refl;
   part = part_itself;
+  taken = taken_none;
   reads = reads_none;
 }
 
@@ -193,6 +203,7 @@ nothing_done new old told tells state reel_tells reel_state view i disk reel is_
   stays = same_itself reel;
   stays_open = is_open;
   part = part_itself;
+  taken = taken_none;
   reads = reads_none;
   disks = both_itself (λ is. cc);
 }

@@ -5,6 +5,7 @@ ghost use Rattle.reel_disk.specs.State.{OnlyReads};
 ghost use Rattle.resume_ledger.specs.Ledger.{IsInForce};
 ghost use Rattle.reel_writer.specs.Reel.{frames_of};
 ghost use Rattle.reconform.specs.Adopt.{CanServe, HasAnswered, IsOfOld, IsSafeAdoption, LeavesBoth};
+ghost use Rattle.reconform.specs.Taken.{TakesOnly, TakesOver};
 ghost use Rattle.reconform.specs.inside.Adopt.{AsOpenedFor, by_new, by_old};
 ghost use Rattle.reconform.specs.inside.Parts.{IsPart, WasLookedAt};
 
@@ -82,6 +83,11 @@ pub fn adopt<N: Work, O: Work, D: Disk, H: Hasher>(
     // What the old folder holds stays as it is, at every moment and whatever the answer is.
     ensures reads { OnlyReads D.tells (D.state old.old) (D.state old.new) }
 
+    // Over every disk, of the old folder it looks at the ledger and then reads files of donors alone. Each frame's file that it writes
+    // is the frame's header before the pixels of its donor's file, as a read gave it.
+    ensures taken { TakesOver N.job O.job (D.state old.old).calls (D.state old.new).calls
+        (D.state disk.old).calls (D.state disk.new).calls }
+
     // Both disks are lent as they were. The count of one of them rose where a disk failed, and else both stay.
     ensures disks { LeavesBoth (IsErrOf result AdoptFault.DiskFault) (D.state old.old) (D.state old.new) (D.state disk.old)
         (D.state disk.new) }
@@ -109,6 +115,7 @@ fn adopt_into<N: Work, O: Work, D: Disk, E: Disk, H: Hasher>(
     ensures untouched { IfErr result.0 (λ fault. IsOfOld fault → result.1 ≡ disk) }
     ensures safe { IsSafeAdoption N.job N.files E.tells result.0 (E.state disk) (E.state result.1) }
     ensures sealed { IfOk result.0 (λ done. E.tells ≡ true → IsInForce Version.Two (view_of (E.state result.1).history)) }
+    ensures taken { TakesOver N.job O.job (D.state old.old).calls (D.state old.new).calls (E.state disk).calls (E.state result.1).calls }
     ensures reads { OnlyReads D.tells (D.state old.old) (D.state old.new) }
     ensures disks { LeavesBoth (IsErrOf result.0 AdoptFault.DiskFault) (D.state old.old) (D.state old.new) (E.state disk)
         (E.state result.1) }
@@ -140,6 +147,8 @@ fn adopt_owned<N: Work, O: Work, D: Disk, E: Disk, H: Hasher>(
     ensures not_old { IfErr result.0 (λ fault. IsOfOld fault → ⊥) }
     ensures safe { IsSafeAdoption N.job N.files E.tells result.0 (E.state disk) (E.state result.1) }
     ensures sealed { IfOk result.0 (λ done. E.tells ≡ true → IsInForce Version.Two (view_of (E.state result.1).history)) }
+    ensures taken { TakesOnly N.job O.job view.now (D.state old.old).calls (D.state old.new).calls
+        (E.state disk).calls (E.state result.1).calls }
     ensures reads { OnlyReads D.tells (D.state old.old) (D.state old.new) }
     ensures disks { LeavesBoth (IsErrOf result.0 AdoptFault.DiskFault) (D.state old.old) (D.state old.new) (E.state disk)
         (E.state result.1) }
@@ -193,6 +202,8 @@ fn adopt_opened<N: Work, O: Work, D: Disk, E: Disk, H: Hasher>(
     ensures answer { AsOpenedFor N.job O.job D.tells view.now (D.state old.old).history E.tells E.state reel result }
     ensures part { IsPart N.job N.files E.tells reel.ledger.gates (E.state reel.disk) (E.state result.1) }
     ensures sealed { IfOk result.0 (λ done. E.tells ≡ true → IsInForce Version.Two (view_of (E.state result.1).history)) }
+    ensures taken { TakesOnly N.job O.job view.now (D.state old.old).calls (D.state old.new).calls
+        (E.state reel.disk).calls (E.state result.1).calls }
     ensures reads { OnlyReads D.tells (D.state old.old) (D.state old.new) }
     ensures disks { LeavesBoth (IsErrOf result.0 AdoptFault.DiskFault)
         (D.state old.old) (D.state old.new) (E.state reel.disk) (E.state result.1) }

@@ -5,11 +5,13 @@ ghost use Rattle.frame_hash.specs.declared.Room.{Room};
 ghost use Rattle.frame_render.specs.Frame.{frame_size};
 ghost use Rattle.reel_disk.specs.Disk.{view_of};
 ghost use Rattle.reel_disk.specs.State.{LeavesDisk, OnlyReads};
+ghost use Rattle.reel_writer.specs.Reads.{MakesOnly};
 ghost use Rattle.reel_writer.specs.Reel.{frames_of};
 ghost use Rattle.reconform.specs.inside.Ahead.{AreReady, CanFinish, HoldsDonor, IsKept};
 ghost use Rattle.reconform.specs.inside.Donor.{donor_in};
 ghost use Rattle.reconform.specs.inside.Parts.{CanTake, HasDonors};
 ghost use Rattle.reconform.specs.Plan.{plan_at};
+ghost use Rattle.reconform.specs.Taken.{IsDonorFile};
 
 use crate::plan::plan_at;
 use crate::takeover::Takeover;
@@ -34,9 +36,10 @@ impl Takeover<'_, '_, '_, '_> {
         requires donors { HasDonors N.job O.job self.now.view.now.gates self.now.donors.now.by_plan }
         requires size { All (λ room. length room.bytes.items ≡ frame_size N.job) rooms.old }
         requires from { from ≤ frames_of N.job }
-        ensures read { OnOk result (All (HoldsDonor N.job O.job D.tells (view_of (D.state old.old).history) self.now.donors.now.by_plan)
+        ensures read { OnOk result (All (HoldsDonor N.job O.job D.tells (D.state old.new) self.now.donors.now.by_plan)
             rooms.new) }
         ensures next { IfOk result (λ next. (from ≤ next) × (next ≤ frames_of N.job)) }
+        ensures on { MakesOnly (IsDonorFile N.job O.job self.now.view.now) (D.state old.old).calls (D.state old.new).calls }
         ensures reads { OnlyReads D.tells (D.state old.old) (D.state old.new) }
         ensures disk { LeavesDisk (IsErr result) (D.state old.old) (D.state old.new) }
     {
@@ -62,8 +65,9 @@ impl Takeover<'_, '_, '_, '_> {
         requires size { length room.old.bytes.items ≡ frame_size N.job }
         requires from { from ≤ frames_of N.job }
         ensures read { OnOk result
-            (HoldsDonor N.job O.job D.tells (view_of (D.state old.old).history) self.now.donors.now.by_plan room.new) }
+            (HoldsDonor N.job O.job D.tells (D.state old.new) self.now.donors.now.by_plan room.new) }
         ensures next { IfOk result (λ next. (from ≤ next) × (next ≤ frames_of N.job)) }
+        ensures on { MakesOnly (IsDonorFile N.job O.job self.now.view.now) (D.state old.old).calls (D.state old.new).calls }
         ensures reads { OnlyReads D.tells (D.state old.old) (D.state old.new) }
         ensures disk { LeavesDisk (IsErr result) (D.state old.old) (D.state old.new) }
     {
@@ -108,8 +112,8 @@ impl Takeover<'_, '_, '_, '_> {
     pub(crate) fn dress_all<N: Work, O: Work, D: Disk>(&self, _old: &D, rooms: &mut [Room])
         requires can { CanTake N.job O.job N.files D.tells (view_of (D.state _old.now).history)
             self.now.new_job.now self.now.old_job.now self.now.view.now self.now.donors.now.by_plan }
-        requires read { All (HoldsDonor N.job O.job D.tells (view_of (D.state _old.now).history) self.now.donors.now.by_plan) rooms.old }
-        ensures frames { AreReady N.job O.job N.files D.tells self.now.view.now (view_of (D.state _old.now).history) rooms.new }
+        requires read { All (HoldsDonor N.job O.job D.tells (D.state _old.now) self.now.donors.now.by_plan) rooms.old }
+        ensures frames { AreReady N.job O.job N.files D.tells self.now.view.now (D.state _old.now) rooms.new }
     {
         for n in 0..rooms.len() {
             self.dress::<N, O, D>(_old, &mut rooms[n]);
@@ -120,8 +124,8 @@ impl Takeover<'_, '_, '_, '_> {
     fn dress<N: Work, O: Work, D: Disk>(&self, _old: &D, room: &mut Room)
         requires can { CanTake N.job O.job N.files D.tells (view_of (D.state _old.now).history)
             self.now.new_job.now self.now.old_job.now self.now.view.now self.now.donors.now.by_plan }
-        requires read { HoldsDonor N.job O.job D.tells (view_of (D.state _old.now).history) self.now.donors.now.by_plan room.old }
-        ensures frame { CanFinish N.job O.job N.files D.tells self.now.view.now (view_of (D.state _old.now).history) room.new }
+        requires read { HoldsDonor N.job O.job D.tells (D.state _old.now) self.now.donors.now.by_plan room.old }
+        ensures frame { CanFinish N.job O.job N.files D.tells self.now.view.now (D.state _old.now) room.new }
     {
         if let Some(i) = room.frame {
             let digest = room.digest();

@@ -5,11 +5,13 @@ ghost use Rattle.frame_render.specs.Frame.{IsFileOf, frame_file, frame_size};
 ghost use Rattle.scan_source.specs.World.{file_at};
 ghost use Rattle.reel_disk.specs.Disk.{view_of};
 ghost use Rattle.reel_disk.specs.State.{LeavesDisk, OnlyReads};
+ghost use Rattle.reel_writer.specs.Reads.{MakesOnly};
 ghost use Rattle.reel_writer.specs.Reel.{frames_of};
 ghost use Rattle.reconform.specs.inside.Adopt.{IsSameReel};
 ghost use Rattle.reconform.specs.inside.Ahead.{AreReady};
 ghost use Rattle.reconform.specs.Donor.{HasIntactDonor};
-ghost use Rattle.reconform.specs.inside.Parts.{CanTake, HasServed, HasServedTo, IsPart};
+ghost use Rattle.reconform.specs.Taken.{IsDonorFile, WasDonorRead};
+ghost use Rattle.reconform.specs.inside.Parts.{CanTake, HasServed, HasServedTo, IsFinish};
 
 use crate::ahead::{free_place, place_of};
 use crate::intact::read_intact;
@@ -41,6 +43,9 @@ impl Takeover<'_, '_, '_, '_> {
         ensures pixels { IfOk result (λ is. is ≡ true → IfSome N.files (λ world.
             drop HEADER file.new ≡ drop HEADER (frame_file N.job (file_at world) i))) }
         ensures file { length file.new ≡ frame_size O.job }
+        ensures read { IfOk result (λ is. is ≡ true
+            → WasDonorRead N.job O.job self.now.view.now (D.state old.new).calls i file.new) }
+        ensures on { MakesOnly (IsDonorFile N.job O.job self.now.view.now) (D.state old.old).calls (D.state old.new).calls }
         ensures reads { OnlyReads D.tells (D.state old.old) (D.state old.new) }
         ensures disk { LeavesDisk (IsErr result) (D.state old.old) (D.state old.new) }
     {
@@ -67,7 +72,8 @@ impl Takeover<'_, '_, '_, '_> {
         ensures free { OnOk result (IsFree (frame_size N.job) room.new) }
         ensures finished { OnOk result ((reel.new.ledger.gates ≡ set reel.old.ledger.gates i true) × (reel.new.ledger.closed ≡ false)) }
         ensures stays { IsSameReel reel.old reel.new }
-        ensures part { IsPart N.job N.files E.tells reel.old.ledger.gates (E.state reel.old.disk) (E.state reel.new.disk) }
+        ensures part { IsFinish N.job N.files E.tells reel.old.ledger.gates i room.old.bytes.items
+            (E.state reel.old.disk) (E.state reel.new.disk) }
         ensures disk { LeavesDisk (IsErr result) (E.state reel.old.disk) (E.state reel.new.disk) }
     {
         let digest = room.digest();
@@ -126,12 +132,12 @@ impl Takeover<'_, '_, '_, '_> {
         requires can { CanTake N.job O.job N.files D.tells (view_of (D.state old.old).history)
             self.now.new_job.now self.now.old_job.now self.now.view.now self.now.donors.now.by_plan }
         requires index { i < frames_of N.job }
-        requires rooms { AreReady N.job O.job N.files D.tells self.now.view.now (view_of (D.state old.old).history) rooms.old }
+        requires rooms { AreReady N.job O.job N.files D.tells self.now.view.now (D.state old.old) rooms.old }
         requires some { 0 < length rooms.old }
         requires is_open { reel.old.ledger.closed ≡ false }
         requires flags { length reel.old.ledger.gates ≡ frames_of N.job }
         requires fresh { slice_index_or reel.old.ledger.gates i false ≡ false }
-        ensures rooms { OnOk result (AreReady N.job O.job N.files D.tells self.now.view.now (view_of (D.state old.old).history) rooms.new) }
+        ensures rooms { OnOk result (AreReady N.job O.job N.files D.tells self.now.view.now (D.state old.new) rooms.new) }
         ensures done { HasServed N.job O.job N.files D.tells D.state E.tells E.state
             self.now.view.now i result old.old old.new reel.old reel.new }
     {
@@ -155,12 +161,12 @@ impl Takeover<'_, '_, '_, '_> {
         requires can { CanTake N.job O.job N.files D.tells (view_of (D.state old.old).history)
             self.now.new_job.now self.now.old_job.now self.now.view.now self.now.donors.now.by_plan }
         requires index { i < frames_of N.job }
-        requires rooms { AreReady N.job O.job N.files D.tells self.now.view.now (view_of (D.state old.old).history) rooms.old }
+        requires rooms { AreReady N.job O.job N.files D.tells self.now.view.now (D.state old.old) rooms.old }
         requires some { 0 < length rooms.old }
         requires is_open { reel.old.ledger.closed ≡ false }
         requires size { length reel.old.ledger.gates ≡ frames_of N.job }
 
-        ensures rooms { OnOk result (AreReady N.job O.job N.files D.tells self.now.view.now (view_of (D.state old.old).history) rooms.new) }
+        ensures rooms { OnOk result (AreReady N.job O.job N.files D.tells self.now.view.now (D.state old.new) rooms.new) }
         ensures done { HasServed N.job O.job N.files D.tells D.state E.tells E.state
             self.now.view.now i result old.old old.new reel.old reel.new }
     {
@@ -186,12 +192,12 @@ impl Takeover<'_, '_, '_, '_> {
             self.now.new_job.now self.now.old_job.now self.now.view.now self.now.donors.now.by_plan }
         requires order { from ≤ to }
         requires within { to ≤ frames_of N.job }
-        requires rooms { AreReady N.job O.job N.files D.tells self.now.view.now (view_of (D.state old.old).history) rooms.old }
+        requires rooms { AreReady N.job O.job N.files D.tells self.now.view.now (D.state old.old) rooms.old }
         requires some { 0 < length rooms.old }
         requires is_open { reel.old.ledger.closed ≡ false }
         requires size { length reel.old.ledger.gates ≡ frames_of N.job }
 
-        ensures rooms { OnOk result (AreReady N.job O.job N.files D.tells self.now.view.now (view_of (D.state old.old).history) rooms.new) }
+        ensures rooms { OnOk result (AreReady N.job O.job N.files D.tells self.now.view.now (D.state old.new) rooms.new) }
         ensures done { HasServedTo N.job O.job N.files D.tells D.state E.tells E.state
             self.now.view.now from to result old.old old.new reel.old reel.new }
     {

@@ -4,6 +4,8 @@ ghost use Rattle.reel_disk.specs.State.{LeavesDisk, OnlyReads};
 ghost use Rattle.conform_job.specs.Job.{file_of};
 ghost use Rattle.frame_render.specs.Frame.{frame_size};
 ghost use Rattle.reel_disk.specs.Disk.{view_of};
+ghost use Rattle.resume_ledger.specs.Look.{hash_at};
+ghost use Rattle.reel_writer.specs.Reads.{MakesOnly, ReadsWhole};
 ghost use Rattle.reel_writer.specs.Reel.{frames_of};
 ghost use Rattle.reconform.specs.Donor.{IsIntact, IsOfHash};
 
@@ -30,6 +32,12 @@ pub(crate) fn read_intact<D: Disk>(
     ensures bytes { IfOk result (λ is. is ≡ true → D.tells ≡ true
         → view_of (D.state disk.old).history (file_of job.now j) ≡ Some into.new) }
     ensures room { length into.new ≡ frame_size job.now }
+
+    // Over every disk, where it is so its bytes are what a read gave, with the SHA-256 that is kept. No other file is read.
+    ensures calls { IfOk result (λ is. is ≡ true
+        → ReadsWhole (file_of job.now j) into.new (D.state disk.old).calls (D.state disk.new).calls) }
+    ensures hash { IfOk result (λ is. is ≡ true → IsOfHash (hash_at view.now j) into.new) }
+    ensures on { MakesOnly (λ q. q ≡ file_of job.now j) (D.state disk.old).calls (D.state disk.new).calls }
     ensures reads { OnlyReads D.tells (D.state disk.old) (D.state disk.new) }
     ensures disk { LeavesDisk (IsErr result) (D.state disk.old) (D.state disk.new) }
 {

@@ -46,15 +46,15 @@ impl Takeover<'_, '_, '_, '_> {
         requires can { CanTake N.job O.job N.files D.tells (view_of (D.state old.old).history)
             self.now.new_job.now self.now.old_job.now self.now.view.now self.now.donors.now.by_plan }
         requires at { IsInOrder (frames_of N.job) at }
-        requires made { AreReady N.job O.job N.files D.tells self.now.view.now (view_of (D.state old.old).history) made.old }
+        requires made { AreReady N.job O.job N.files D.tells self.now.view.now (D.state old.old) made.old }
         requires some { 0 < length made.old }
-        requires read { All (HoldsDonor N.job O.job D.tells (view_of (D.state old.old).history) self.now.donors.now.by_plan) read.old }
+        requires read { All (HoldsDonor N.job O.job D.tells (D.state old.old) self.now.donors.now.by_plan) read.old }
         requires is_open { reel.old.ledger.closed ≡ false }
         requires size { length reel.old.ledger.gates ≡ frames_of N.job }
 
         ensures at { IfOk result (λ to. to ≡ record { adopted = middle_of at; made = at.made; read = at.read }) }
-        ensures made { OnOk result (AreReady N.job O.job N.files D.tells self.now.view.now (view_of (D.state old.old).history) made.new) }
-        ensures read { OnOk result (AreReady N.job O.job N.files D.tells self.now.view.now (view_of (D.state old.old).history) read.new) }
+        ensures made { OnOk result (AreReady N.job O.job N.files D.tells self.now.view.now (D.state old.new) made.new) }
+        ensures read { OnOk result (AreReady N.job O.job N.files D.tells self.now.view.now (D.state old.new) read.new) }
         ensures done { HasServedTo N.job O.job N.files D.tells D.state E.tells E.state
             self.now.view.now at.adopted (middle_of at) result old.old old.new reel.old reel.new }
     {
@@ -62,12 +62,12 @@ impl Takeover<'_, '_, '_, '_> {
             requires { CanTake N.job O.job N.files D.tells (view_of (D.state old.now).history)
                 self.now.new_job.now self.now.old_job.now self.now.view.now self.now.donors.now.by_plan
                 × IsInOrder (frames_of N.job) at
-                × AreReady N.job O.job N.files D.tells self.now.view.now (view_of (D.state old.now).history) made.now
+                × AreReady N.job O.job N.files D.tells self.now.view.now (D.state old.now) made.now
                 × (0 < length made.now)
                 × (reel.now.ledger.closed ≡ false)
                 × (length reel.now.ledger.gates ≡ frames_of N.job) }
             ensures rooms { OnOk result (AreReady N.job O.job N.files D.tells self.entry.now.view.now
-                (view_of (D.state old.entry.now).history) made.exit.now) }
+                (D.state old.exit.now) made.exit.now) }
             ensures at { IfOk result (λ to. to ≡ record { adopted = middle_of at; made = at.made; read = at.read }) }
             ensures done { HasServedTo N.job O.job N.files D.tells D.state E.tells E.state
                 self.entry.now.view.now at.adopted (middle_of at) result old.entry.now old.exit.now reel.entry.now reel.exit.now }
@@ -92,13 +92,13 @@ impl Takeover<'_, '_, '_, '_> {
         requires can { CanTake N.job O.job N.files D.tells (view_of (D.state old.old).history)
             self.now.new_job.now self.now.old_job.now self.now.view.now self.now.donors.now.by_plan }
         requires at { IsInOrder (frames_of N.job) at }
-        requires rooms { AreReady N.job O.job N.files D.tells self.now.view.now (view_of (D.state old.old).history) rooms.old }
+        requires rooms { AreReady N.job O.job N.files D.tells self.now.view.now (D.state old.old) rooms.old }
         requires some { 0 < length rooms.old }
         requires is_open { reel.old.ledger.closed ≡ false }
         requires size { length reel.old.ledger.gates ≡ frames_of N.job }
 
         ensures at { IfOk result (λ to. to ≡ record { adopted = middle_of at; made = at.made; read = at.read }) }
-        ensures rooms { OnOk result (AreReady N.job O.job N.files D.tells self.now.view.now (view_of (D.state old.old).history) rooms.new) }
+        ensures rooms { OnOk result (AreReady N.job O.job N.files D.tells self.now.view.now (D.state old.new) rooms.new) }
         ensures done { HasServedTo N.job O.job N.files D.tells D.state E.tells E.state
             self.now.view.now at.adopted (middle_of at) result old.old old.new reel.old reel.new }
     {
@@ -126,16 +126,16 @@ impl Takeover<'_, '_, '_, '_> {
         requires can { CanTake N.job O.job N.files D.tells (view_of (D.state old.old).history)
             self.now.new_job.now self.now.old_job.now self.now.view.now self.now.donors.now.by_plan }
         requires at { IsInOrder (frames_of N.job) at }
-        requires made { AreReady N.job O.job N.files D.tells self.now.view.now (view_of (D.state old.old).history) made.old }
+        requires made { AreReady N.job O.job N.files D.tells self.now.view.now (D.state old.old) made.old }
         requires some { 0 < length made.old }
-        requires read { AreReady N.job O.job N.files D.tells self.now.view.now (view_of (D.state old.old).history) read.old }
+        requires read { AreReady N.job O.job N.files D.tells self.now.view.now (D.state old.old) read.old }
         requires is_open { reel.old.ledger.closed ≡ false }
         requires size { length reel.old.ledger.gates ≡ frames_of N.job }
 
         ensures at { IfOk result (λ to. IsInOrder (frames_of N.job) to × (to.adopted ≡ at.made) × (to.made ≡ at.read)) }
-        ensures made { OnOk result (All (HoldsDonor N.job O.job D.tells (view_of (D.state old.old).history) self.now.donors.now.by_plan)
+        ensures made { OnOk result (All (HoldsDonor N.job O.job D.tells (D.state old.new) self.now.donors.now.by_plan)
             made.new) }
-        ensures read { OnOk result (AreReady N.job O.job N.files D.tells self.now.view.now (view_of (D.state old.old).history) read.new) }
+        ensures read { OnOk result (AreReady N.job O.job N.files D.tells self.now.view.now (D.state old.new) read.new) }
         ensures done { HasServedTo N.job O.job N.files D.tells D.state E.tells E.state
             self.now.view.now at.adopted at.made result old.old old.new reel.old reel.new }
     {
@@ -143,11 +143,11 @@ impl Takeover<'_, '_, '_, '_> {
             requires { CanTake N.job O.job N.files D.tells (view_of (D.state old.now).history)
                 self.now.new_job.now self.now.old_job.now self.now.view.now self.now.donors.now.by_plan
                 × IsInOrder (frames_of N.job) at
-                × AreReady N.job O.job N.files D.tells self.now.view.now (view_of (D.state old.now).history) made.now
+                × AreReady N.job O.job N.files D.tells self.now.view.now (D.state old.now) made.now
                 × (0 < length made.now)
                 × (reel.now.ledger.closed ≡ false)
                 × (length reel.now.ledger.gates ≡ frames_of N.job) }
-            ensures rooms { OnOk result (All (HoldsDonor N.job O.job D.tells (view_of (D.state old.entry.now).history)
+            ensures rooms { OnOk result (All (HoldsDonor N.job O.job D.tells (D.state old.exit.now)
                 self.entry.now.donors.now.by_plan) made.exit.now) }
             ensures next { IfOk result (λ next. (at.read ≤ next) × (next ≤ frames_of N.job)) }
             ensures done { HasServedTo N.job O.job N.files D.tells D.state E.tells E.state
@@ -175,12 +175,12 @@ impl Takeover<'_, '_, '_, '_> {
         requires can { CanTake N.job O.job N.files D.tells (view_of (D.state old.old).history)
             self.now.new_job.now self.now.old_job.now self.now.view.now self.now.donors.now.by_plan }
         requires at { IsInOrder (frames_of N.job) at }
-        requires rooms { AreReady N.job O.job N.files D.tells self.now.view.now (view_of (D.state old.old).history) rooms.old }
+        requires rooms { AreReady N.job O.job N.files D.tells self.now.view.now (D.state old.old) rooms.old }
         requires some { 0 < length rooms.old }
         requires is_open { reel.old.ledger.closed ≡ false }
         requires size { length reel.old.ledger.gates ≡ frames_of N.job }
 
-        ensures rooms { OnOk result (All (HoldsDonor N.job O.job D.tells (view_of (D.state old.old).history) self.now.donors.now.by_plan)
+        ensures rooms { OnOk result (All (HoldsDonor N.job O.job D.tells (D.state old.new) self.now.donors.now.by_plan)
             rooms.new) }
         ensures next { IfOk result (λ next. (at.read ≤ next) × (next ≤ frames_of N.job)) }
         ensures done { HasServedTo N.job O.job N.files D.tells D.state E.tells E.state
@@ -207,16 +207,16 @@ impl Takeover<'_, '_, '_, '_> {
         requires can { CanTake N.job O.job N.files D.tells (view_of (D.state old.old).history)
             self.now.new_job.now self.now.old_job.now self.now.view.now self.now.donors.now.by_plan }
         requires at { IsInOrder (frames_of N.job) at }
-        requires made { AreReady N.job O.job N.files D.tells self.now.view.now (view_of (D.state old.old).history) made.old }
+        requires made { AreReady N.job O.job N.files D.tells self.now.view.now (D.state old.old) made.old }
         requires some { 0 < length made.old }
-        requires read { All (HoldsDonor N.job O.job D.tells (view_of (D.state old.old).history) self.now.donors.now.by_plan) read.old }
+        requires read { All (HoldsDonor N.job O.job D.tells (D.state old.old) self.now.donors.now.by_plan) read.old }
         requires is_open { reel.old.ledger.closed ≡ false }
         requires size { length reel.old.ledger.gates ≡ frames_of N.job }
 
         ensures at { IfOk result (λ to. IsInOrder (frames_of N.job) to × (to.adopted ≡ at.made) × (to.made ≡ at.read)) }
-        ensures read { OnOk result (All (HoldsDonor N.job O.job D.tells (view_of (D.state old.old).history) self.now.donors.now.by_plan)
+        ensures read { OnOk result (All (HoldsDonor N.job O.job D.tells (D.state old.new) self.now.donors.now.by_plan)
             made.new) }
-        ensures made { OnOk result (AreReady N.job O.job N.files D.tells self.now.view.now (view_of (D.state old.old).history) read.new) }
+        ensures made { OnOk result (AreReady N.job O.job N.files D.tells self.now.view.now (D.state old.new) read.new) }
         ensures done { HasServedTo N.job O.job N.files D.tells D.state E.tells E.state
             self.now.view.now at.adopted at.made result old.old old.new reel.old reel.new }
     {
@@ -240,15 +240,15 @@ impl Takeover<'_, '_, '_, '_> {
         requires can { CanTake N.job O.job N.files D.tells (view_of (D.state old.old).history)
             self.now.new_job.now self.now.old_job.now self.now.view.now self.now.donors.now.by_plan }
         requires at { IsInOrder (frames_of N.job) at }
-        requires made { AreReady N.job O.job N.files D.tells self.now.view.now (view_of (D.state old.old).history) made.old }
-        requires read { All (HoldsDonor N.job O.job D.tells (view_of (D.state old.old).history) self.now.donors.now.by_plan) read.old }
+        requires made { AreReady N.job O.job N.files D.tells self.now.view.now (D.state old.old) made.old }
+        requires read { All (HoldsDonor N.job O.job D.tells (D.state old.old) self.now.donors.now.by_plan) read.old }
         requires some { (0 < length made.old) × (0 < length read.old) }
         requires is_open { reel.old.ledger.closed ≡ false }
         requires size { length reel.old.ledger.gates ≡ frames_of N.job }
 
         ensures at { IfOk result (λ to. IsInOrder (frames_of N.job) to × (to.adopted ≡ at.read)) }
-        ensures made { OnOk result (AreReady N.job O.job N.files D.tells self.now.view.now (view_of (D.state old.old).history) made.new) }
-        ensures read { OnOk result (All (HoldsDonor N.job O.job D.tells (view_of (D.state old.old).history) self.now.donors.now.by_plan)
+        ensures made { OnOk result (AreReady N.job O.job N.files D.tells self.now.view.now (D.state old.new) made.new) }
+        ensures read { OnOk result (All (HoldsDonor N.job O.job D.tells (D.state old.new) self.now.donors.now.by_plan)
             read.new) }
         ensures done { HasServedTo N.job O.job N.files D.tells D.state E.tells E.state
             self.now.view.now at.adopted at.read result old.old old.new reel.old reel.new }

@@ -169,21 +169,24 @@ counts_small (kind ∷ kinds) words small short zero = count_small kind words sm
 counts_small (kind ∷ kinds) words small short (suc k) = counts_small kinds words small short k
 
 -- no counts yet
-pub none_counted : (kinds : List ProbeKind) (Told : Type 0) (exact counts : List ℕ) → (Told → [] ≡ exact) → ((k : ℕ) → Fits w64 (get_or counts k 0)) → AddsCounts kinds Told exact 0 counts counts
-none_counted kinds Told exact counts told fit = record {
+pub none_counted : (kinds : List ProbeKind) (Told : Type 0) (exact : List ℕ) (Reads : List ℕ → Type 0) (counts : List ℕ) → (Told → [] ≡ exact) → Reads [] → ((k : ℕ) → Fits w64 (get_or counts k 0)) → AddsCounts kinds Told exact Reads 0 counts counts
+none_counted kinds Told exact Reads counts told read fit = record {
   words = [];
   told = told;
+  read = read;
   few = omega arith;
   small = λ k. omega arith;
   added = nothing_added kinds counts fit;
 }
 
 -- more words are counted
-pub counted_more : (kinds : List ProbeKind) (Told : Type 0) (exact more whole : List ℕ) (old mid new : List ℕ) (done room : ℕ)
-    → AddsCounts kinds Told exact done old mid → (Told → whole ≡ exact ++ more) → AddsCounts kinds Told more room mid new → AddsCounts kinds Told whole (done + room) old new
-counted_more kinds Told exact more whole old mid new done room first is second = record {
+pub counted_more : (kinds : List ProbeKind) (Told : Type 0) (exact more whole : List ℕ) (First Second Reads : List ℕ → Type 0) (old mid new : List ℕ) (done room : ℕ)
+    → AddsCounts kinds Told exact First done old mid → (Told → whole ≡ exact ++ more) → ((a b : List ℕ) → First a → Second b → Reads (a ++ b)) → AddsCounts kinds Told more Second room mid new
+    → AddsCounts kinds Told whole Reads (done + room) old new
+counted_more kinds Told exact more whole First Second Reads old mid new done room first is both second = record {
   words = first.words ++ second.words;
   told = λ t. (λ i. first.told t i ++ second.told t i) ∙ sym (is t);
+  read = both first.words second.words first.read second.read;
   few = let sum = length-append first.words second.words in omega (arith, sum, first.few, second.few);
   small = all_small;
   added = words_added kinds first.words second.words old mid new first.added second.added;
@@ -196,11 +199,12 @@ counted_more kinds Told exact more whole old mid new done room first is second =
     ]
 
 -- counts that began at 0 are those of the words
-pub whole_counted : (kinds : List ProbeKind) (Told : Type 0) (exact old new : List ℕ) (most : ℕ) → most ≤ 16777216 → old ≡ replicate (length kinds) 0
-    → AddsCounts kinds Told exact most old new → HasCounted kinds Told exact new
-whole_counted kinds Told exact old new most few zeros has = record {
+pub whole_counted : (kinds : List ProbeKind) (Told : Type 0) (exact : List ℕ) (Reads : List ℕ → Type 0) (old new : List ℕ) (most : ℕ) → most ≤ 16777216 → old ≡ replicate (length kinds) 0
+    → AddsCounts kinds Told exact Reads most old new → HasCounted kinds Told exact Reads new
+whole_counted kinds Told exact Reads old new most few zeros has = record {
   words = has.words;
   told = has.told;
+  read = has.read;
   counts_are = same_lists new (counts_of kinds has.words) long each;
 }
   where
@@ -217,6 +221,16 @@ whole_counted kinds Told exact old new most few zeros has = record {
         let fits = counts_small kinds has.words has.small (omega (arith, has.few, few)) k in
         let same : get_or new k 0 ≡ get_or (counts_of kinds has.words) k 0 = omega (arith, step, zero_before, fits) in
         get_or_default new k d 0 lt ∙ same ∙ get_or_default (counts_of kinds has.words) k 0 d (omega (arith, lt, long))
+
+-- the same, by what the words were and how they were read
+pub counted_as : (kinds : List ProbeKind) (Told : Type 0) (exact same : List ℕ) (Reads Other : List ℕ → Type 0) (counts new : List ℕ) → exact ≡ same → ((words : List ℕ) → Reads words → Other words) → new ≡ counts
+    → HasCounted kinds Told exact Reads counts → HasCounted kinds Told same Other new
+counted_as kinds Told exact same Reads Other counts new is other are has = record {
+  words = has.words;
+  told = λ told. has.told told ∙ is;
+  read = other has.words has.read;
+  counts_are = are ∙ has.counts_are;
+}
 
 -- the words of a front have 32 bits
 pub front_small : (n : ℕ) (words : List ℕ) → ((k : ℕ) → get_or words k 0 < 2 ^ 32) → (k : ℕ) → get_or (take n words) k 0 < 2 ^ 32

@@ -1,5 +1,6 @@
 mod Adding
 mod Adds
+mod Asking
 mod Begins
 mod Cutting
 mod Drawn

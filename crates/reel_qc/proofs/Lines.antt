@@ -7,16 +7,19 @@ use Rattle.std.proofs.lemmas.List.Concat.{flat_map-append}
 use Rattle.std.proofs.lemmas.List.Elements.{filter-append}
 use Rattle.cf_base.proofs.RangeLaws.{range_more}
 use Rattle.conform_job.specs.Job.{JobData}
+use Rattle.reel_disk.specs.Call.{Call}
 use Rattle.reel_disk.specs.Disk.{Files}
 use Rattle.scan_source.specs.World.{World}
 use Rattle.reel_writer.specs.Reel.{frames_of, IsSoundReel}
 use Rattle.resume_ledger.specs.Look.{ViewState, IsViewOf}
+use Rattle.reel_qc.specs.Reads.{ReadsFrame}
 use Rattle.reel_qc.specs.Words.{frame_words}
 use Rattle.printed_text.specs.Text.{spaced_line}
 use Rattle.reel_qc.specs.Counts.{count_of, counts_of}
 use Rattle.reel_qc.specs.Table.{acked_frames, acked_of, defined_row, defined_table, kind_word, quality_table, row_line, row_of, table_of}
 use Rattle.reel_qc.specs.inside.Table.{HasRows}
 use Rattle.reel_qc.specs.declared.table.probe.ProbeKind.{ProbeKind}
+use Rattle.reel_qc.proofs.Asking.{asks_rows}
 
 joined : (word : List ℕ) (words : List (List ℕ)) → join_with_byte 32 (word ∷ words) ≡ word ++ flat_map (λ w. 32 ∷ w) words
 joined word [] = sym (append-nil word)
@@ -60,32 +63,37 @@ row_counted kinds frame words counts old new counted is =
     ∙ ap (λ l. old ++ spaced_line (decimal frame ∷ l)) (map_twice decimal (λ kind. count_of kind words) kinds)
 
 module _ (kinds : List ProbeKind) (job : JobData) (Told : Type 0) (files : Files) where
-  one_row : (i : ℕ) (words old new : List ℕ) → (Told → words ≡ (row_of job files i).words) → new ≡ old ++ row_line kinds (record { frame = i; words = words }) → HasRows kinds job Told files (i ∷ []) old new 1
-  one_row i words old new told text = record {
+  one_row : (i : ℕ) (before after : List Call) (words old new : List ℕ) → (Told → words ≡ (row_of job files i).words) → ReadsFrame job i words before after → new ≡ old ++ row_line kinds (record { frame = i; words = words })
+      → HasRows kinds job Told files (i ∷ []) before after old new 1
+  one_row i before after words old new told read text = record {
     rows = record { frame = i; words = words } ∷ [];
     frames_are = refl;
     rows_are = λ t. ap (λ ws. record { frame = i; words = ws } ∷ []) (told t);
+    read = (after, read, refl);
     text = text ∙ ap (λ l. old ++ l) (sym (append-nil _));
     number_is = refl;
   }
 
-  pub rows_along : (first second : List ℕ) (old mid new : List ℕ) (a b : ℕ) → HasRows kinds job Told files first old mid a → HasRows kinds job Told files second mid new b
-      → HasRows kinds job Told files (first ++ second) old new (a + b)
-  rows_along first second old mid new a b one two = record {
+  pub rows_along : (first second : List ℕ) (before between after : List Call) (old mid new : List ℕ) (a b : ℕ) → HasRows kinds job Told files first before between old mid a
+      → HasRows kinds job Told files second between after mid new b → HasRows kinds job Told files (first ++ second) before after old new (a + b)
+  rows_along first second before between after old mid new a b one two = record {
     rows = one.rows ++ two.rows;
     frames_are = map-append _ one.rows two.rows ∙ (λ t. one.frames_are t ++ two.frames_are t);
     rows_are = λ told. (λ t. one.rows_are told t ++ two.rows_are told t) ∙ sym (map-append (row_of job files) first second);
+    read = asks_rows job one.rows two.rows before between after one.read two.read;
     text = two.text ∙ ap (λ l. l ++ flat_map (row_line kinds) two.rows) one.text
         ∙ append_assoc old _ _ ∙ ap (λ l. old ++ l) (sym (flat_map-append (row_line kinds) one.rows two.rows));
     number_is = omega (arith, one.number_is, two.number_is, length-append one.rows two.rows);
   }
 
   -- the same over other files that were told to be these
-  pub rows_as : (other : Files) (frames : List ℕ) (old new : List ℕ) (number : ℕ) → (Told → other ≡ files) → HasRows kinds job Told other frames old new number → HasRows kinds job Told files frames old new number
-  rows_as other frames old new number same has = record {
+  pub rows_as : (other : Files) (frames : List ℕ) (before after : List Call) (old new : List ℕ) (number : ℕ) → (Told → other ≡ files) → HasRows kinds job Told other frames before after old new number
+      → HasRows kinds job Told files frames before after old new number
+  rows_as other frames before after old new number same has = record {
     rows = has.rows;
     frames_are = has.frames_are;
     rows_are = λ told. subst (λ (f : Files). has.rows ≡ map (row_of job f) frames) (same told) (has.rows_are told);
+    read = has.read;
     text = has.text;
     number_is = has.number_is;
   }
@@ -97,25 +105,26 @@ acked_more view i = ap (acked_of view) (range_more i) ∙ filter-append (λ k. s
 acked_one : (view : ViewState) (i : ℕ) → slice_index_or view.gates i false ≡ true → acked_of view (i ∷ []) ≡ i ∷ []
 acked_one view i open_gate = ap (λ b. cond b (i ∷ []) []) open_gate
 
-pub row_put : (kinds : List ProbeKind) (job : JobData) (Told : Type 0) (files : Files) (view : ViewState) (i : ℕ) (words old new : List ℕ) → slice_index_or view.gates i false ≡ true
-    → (Told → words ≡ (row_of job files i).words) → new ≡ old ++ row_line kinds (record { frame = i; words = words }) → HasRows kinds job Told files (acked_of view (i ∷ [])) old new 1
-row_put kinds job Told files view i words old new acked told text =
-    subst (λ frames. HasRows kinds job Told files frames old new 1) (sym (acked_one view i acked)) (one_row kinds job Told files i words old new told text)
+pub row_put : (kinds : List ProbeKind) (job : JobData) (Told : Type 0) (files : Files) (view : ViewState) (i : ℕ) (before after : List Call) (words old new : List ℕ) → slice_index_or view.gates i false ≡ true
+    → (Told → words ≡ (row_of job files i).words) → ReadsFrame job i words before after → new ≡ old ++ row_line kinds (record { frame = i; words = words })
+    → HasRows kinds job Told files (acked_of view (i ∷ [])) before after old new 1
+row_put kinds job Told files view i before after words old new acked told read text =
+    subst (λ frames. HasRows kinds job Told files frames before after old new 1) (sym (acked_one view i acked)) (one_row kinds job Told files i before after words old new told read text)
 
 -- the three parts make up the table
-pub table_made : (kinds : List ProbeKind) (view : ViewState) (job : JobData) (Told : Type 0) (files : Files) (old mid new last : List ℕ) (number : ℕ)
-    → old ≡ [] → mid ≡ old ++ spaced_line (codes "qc" ∷ map kind_word kinds) → (has : HasRows kinds job Told files (acked_frames view) mid new number)
+pub table_made : (kinds : List ProbeKind) (view : ViewState) (job : JobData) (Told : Type 0) (files : Files) (before after : List Call) (old mid new last : List ℕ) (number : ℕ)
+    → old ≡ [] → mid ≡ old ++ spaced_line (codes "qc" ∷ map kind_word kinds) → (has : HasRows kinds job Told files (acked_frames view) before after mid new number)
     → last ≡ new ++ spaced_line (codes "frames" ∷ decimal number ∷ []) → last ≡ table_of kinds has.rows
 unfolding table_of
-table_made kinds view job Told files old mid new last number empty first has end =
+table_made kinds view job Told files before after old mid new last number empty first has end =
     let front = first ∙ ap (λ l. l ++ spaced_line (codes "qc" ∷ map kind_word kinds)) empty in
     end ∙ ap (λ l. l ++ spaced_line (codes "frames" ∷ decimal number ∷ [])) (has.text ∙ ap (λ l. l ++ flat_map (row_line kinds) has.rows) front)
     ∙ ap (λ n. spaced_line (codes "qc" ∷ map kind_word kinds) ++ flat_map (row_line kinds) has.rows ++ spaced_line (codes "frames" ∷ decimal n ∷ [])) has.number_is
 
 -- which is that of the files that were told
-pub table_told : (kinds : List ProbeKind) (view : ViewState) (job : JobData) (Told : Type 0) (files : Files) (old new text : List ℕ) (number : ℕ) (has : HasRows kinds job Told files (acked_frames view) old new number)
+pub table_told : (kinds : List ProbeKind) (view : ViewState) (job : JobData) (Told : Type 0) (files : Files) (before after : List Call) (old new text : List ℕ) (number : ℕ) (has : HasRows kinds job Told files (acked_frames view) before after old new number)
     → text ≡ table_of kinds has.rows → Told → text ≡ quality_table kinds job view files
-table_told kinds view job Told files old new text number has is told = is ∙ ap (table_of kinds) (has.rows_are told)
+table_told kinds view job Told files before after old new text number has is told = is ∙ ap (table_of kinds) (has.rows_are told)
 
 -- a sound folder has the files of the definition
 module _ (job : JobData) (view : ViewState) (files : Files) (world : World) (of : IsViewOf job.parts.digest (frames_of job) files view) (sound : IsSoundReel job world files) where

@@ -87,14 +87,20 @@ part_size at count words within =
     let size : at + count - at ≡ count = omega arith in
     ap (λ n. length (take n (drop at words))) size ∙ length-take-le count (drop at words) (omega (arith, length-drop at words, within))
 
+-- the words of one read more lie behind those before
+pub found_joined : (count found more : ℕ) (words room : List ℕ) → found + count ≤ length words → length room ≡ count → more ≤ count
+    → take (found + more) (put_mid found (found + count - found) words room) ≡ take found words ++ take more room
+found_joined count found more words room within size few =
+    let whole : found + (found + count - found) ≡ found + count = omega arith in
+    ap (λ l. take (found + more) (take found words ++ (room ++ l))) (drop-drop (found + count - found) found words ∙ ap (λ n. drop n words) whole)
+    ∙ found_behind found more count words room within size few
+
 -- one read more
 pub found_more : (first done count found more : ℕ) (content later : Option (List ℕ)) (words room : List ℕ) → found + count ≤ length words → length room ≡ count → more ≤ count
     → later ≡ content → take found words ≡ words_in first done content → take more room ≡ words_in (first + done) count later
     → take (found + more) (put_mid found (found + count - found) words room) ≡ words_in first (done + count) content
 found_more first done count found more content later words room within size few same so_far read =
-    let whole : found + (found + count - found) ≡ found + count = omega arith in
-    ap (λ l. take (found + more) (take found words ++ (room ++ l))) (drop-drop (found + count - found) found words ∙ ap (λ n. drop n words) whole)
-    ∙ found_behind found more count words room within size few
+    found_joined count found more words room within size few
     ∙ (λ i. so_far i ++ read i)
     ∙ ap (λ file. words_in first done content ++ words_in (first + done) count file) same
     ∙ sym (words_more first done count content)

@@ -1,11 +1,10 @@
 -- The sheet's rows, its peak, and what the writing of its file leaves as it was.
-use Rattle.std.proofs.Common.{◌≡◌, ◌≢◌, ℕ, zero, suc, ◌+◌, ◌*◌, ◌/◌, ◌%◌, ◌<◌, ◌≤◌, max, inl, inr, List, [], ◌∷◌, ◌++◌, length, map, get_or, flat_map, Option, Some, None, refl, sym, ap, subst, ◌∙◌, arith}
+use Rattle.std.proofs.Common.{◌≡◌, ◌≢◌, ℕ, zero, suc, ◌+◌, ◌-◌, ◌*◌, ◌/◌, ◌%◌, ◌<◌, ◌≤◌, max, inl, inr, Bool, true, drop, take, List, [], ◌∷◌, ◌++◌, length, map, get_or, flat_map, Option, Some, None, refl, sym, ap, subst, ◌∙◌, arith}
 use Rattle.std.specs.List.{All, fold, range_with_len}
 use Rattle.std.proofs.Math.Nat.{mul-le-mul}
-use Rattle.std.proofs.lemmas.List.{map-append}
+use Rattle.std.proofs.lemmas.List.{get_or-append_right, get_or_append_left, length-take-le, map-append, take_all}
 use Rattle.std.proofs.lemmas.List.Concat.{flat_map-append}
 use Rattle.std.proofs.lemmas.List.Elements.{All-head, All-tail}
-use Rattle.std.proofs.lemmas.List.FromFn.{get_or-map-range_with_len}
 use Rattle.std.proofs.lemmas.Nat.{div-mul-add, div_below}
 use Rattle.cf_base.specs.declared.file.FileId.{FileId}
 use Rattle.cf_base.specs.declared.file.FileId.TheVariants.{Sheet, Seal2, Body2}
@@ -29,11 +28,14 @@ use Rattle.resume_ledger.specs.Ledger.{IsLedgerFile}
 use Rattle.resume_ledger.specs.Look.{ViewState}
 use Rattle.resume_ledger.proofs.Versions.{acks_as, fit_as}
 use Rattle.reel_writer.specs.Reel.{HasAcked, IsSoundReel, frames_of}
-use Rattle.reel_qc.specs.inside.Boxes.{AreCells, HasDrawn, HasPictures, IsDrawn, pictured_line}
-use Rattle.reel_qc.specs.Sheet.{WritesSheet, box_colour, cell_frames, cell_height, cell_width, line_colours, picture_at, sheet_colours, sheet_height, sheet_rows, sheet_width, toned, toned_bytes}
+use Rattle.reel_disk.specs.State.{DiskState, OnlyReads}
+use Rattle.dpx_header.specs.Writing.{header_of}
+use Rattle.reel_qc.specs.inside.Boxes.{HasDrawn, HasSheetOf, HasShown, IsDrawn, pictured_colour, pictured_line, pictured_row, row_frames}
+use Rattle.reel_qc.specs.Sheet.{MakesSheet, WritesSheet, box_colour, cell_frames, cell_height, cell_width, line_colours, pictures_file, pictures_peak, sheet_colour, sheet_colours, sheet_file, sheet_head, sheet_height, sheet_peak, sheet_rows, sheet_width, toned}
+use Rattle.reel_qc.proofs.Pictures.{pictures_size, shown_along, shown_none}
 use Rattle.reel_qc.specs.Tones.{IsToneTable}
-use Rattle.reel_qc.specs.declared.sheet.boxes.Boxes.{Boxes}
-use Rattle.reel_qc.proofs.Drawn.{drawn_along, drawn_none}
+use Rattle.reel_qc.specs.declared.sheet.SheetDone.{SheetDone}
+use Rattle.reel_qc.proofs.Drawn.{drawn_along, drawn_as, drawn_none}
 use Rattle.reel_qc.proofs.Peaks.{peak_is}
 
 -- lists by their places
@@ -58,16 +60,44 @@ range_two a (suc m) n =
     let at : a + 1 + m ≡ a + suc m = omega arith in
     ap (range_with_len a) long ∙ ap (λ l. a ∷ l) (range_two (a + 1) m n ∙ ap (λ k. range_with_len (a + 1) m ++ range_with_len k n) at)
 
-module _ (tone : List ℕ) (job : JobData) (Told : Type 0) (view : ViewState) (files : Files) where
-  abbrev exact_lines : ℕ → ℕ → List (List ℕ)
-  exact_lines first n = flat_map (line_colours job view files) (range_with_len first n)
+take_two : (m n : ℕ) (l : List ℕ) → take (m + n) l ≡ take m l ++ take n (drop m l)
+take_two zero n l = let same : 0 + n ≡ n = omega arith in ap (λ k. take k l) same
+take_two (suc m) n [] = take_all (suc m + n) [] (omega arith) ∙ sym (take_all n [] (omega arith))
+take_two (suc m) n (x ∷ l) = let next : suc m + n ≡ suc (m + n) = omega arith in ap (λ k. take k (x ∷ l)) next ∙ ap (λ r. x ∷ r) (take_two m n l)
 
-  -- a row's lines are those of its pictures
-  row_exact : (row : ℕ) (pictures : List (Option (List ℕ))) → 0 < cell_width job → pictures ≡ map (λ c. picture_at job view files (row * 8 + c)) (range_with_len 0 8)
-      → flat_map (pictured_line job pictures) (range_with_len (row * cell_height job) (cell_height job)) ≡ exact_lines (row * cell_height job) (cell_height job)
-  row_exact row pictures some are = same_flat (pictured_line job pictures) (line_colours job view files) (row * cell_height job) (cell_height job) line
+-- a line above so many rows is in one of them
+div_under : (v height rows : ℕ) → v < rows * height → v / height < rows
+div_under v zero rows lt = absurd (omega (arith, lt))
+div_under v (suc h) rows lt = div_below v (suc h) rows (omega arith) lt
+
+module _ (tone : List ℕ) (job : JobData) (some : 0 < cell_width job) where
+  abbrev lines_of : List (Option (List ℕ)) → ℕ → ℕ → List (List ℕ)
+  lines_of pictures first n = flat_map (line_colours job pictures) (range_with_len first n)
+
+  column : (k : ℕ) → k < sheet_width job → (0 + k) / cell_width job < 8
+  column k wide = div_below (0 + k) (cell_width job) 8 some (omega (arith, wide))
+
+  -- the lines above a row show nothing of the pictures behind
+  lines_above : (row : ℕ) (pictures more : List (Option (List ℕ))) → length pictures ≡ row * 8 → lines_of pictures 0 (row * cell_height job) ≡ lines_of (pictures ++ more) 0 (row * cell_height job)
+  lines_above row pictures more full = same_flat (line_colours job pictures) (line_colours job (pictures ++ more)) 0 (row * cell_height job) line
     where
-      line : (v : ℕ) → v < cell_height job → pictured_line job pictures (row * cell_height job + v) ≡ line_colours job view files (row * cell_height job + v)
+      line : (v : ℕ) → v < row * cell_height job → line_colours job pictures (0 + v) ≡ line_colours job (pictures ++ more) (0 + v)
+      line v lt = same_map _ _ 0 (sheet_width job) pixel
+        where
+          above : (0 + v) / cell_height job < row
+          above = div_under (0 + v) (cell_height job) row (omega (arith, lt))
+
+          pixel : (k : ℕ) → k < sheet_width job → sheet_colour job pictures (0 + k) (0 + v) ≡ sheet_colour job (pictures ++ more) (0 + k) (0 + v)
+          pixel k wide =
+              let place = get_or_append_left pictures more None ((0 + v) / cell_height job * 8 + (0 + k) / cell_width job) (omega (arith, above, column k wide, full)) in
+              ap (λ (p : Option (List ℕ)). box_colour job p ((0 + k) % cell_width job) ((0 + v) % cell_height job)) (sym place)
+
+  -- and a row's lines are those of its pictures
+  lines_row : (row : ℕ) (before pictures : List (Option (List ℕ))) → length before ≡ row * 8
+      → flat_map (pictured_line job pictures) (range_with_len (row * cell_height job) (cell_height job)) ≡ lines_of (before ++ pictures) (row * cell_height job) (cell_height job)
+  lines_row row before pictures full = same_flat (pictured_line job pictures) (line_colours job (before ++ pictures)) (row * cell_height job) (cell_height job) line
+    where
+      line : (v : ℕ) → v < cell_height job → pictured_line job pictures (row * cell_height job + v) ≡ line_colours job (before ++ pictures) (row * cell_height job + v)
       line v lt = same_map _ _ 0 (sheet_width job) pixel
         where
           y : ℕ
@@ -76,59 +106,69 @@ module _ (tone : List ℕ) (job : JobData) (Told : Type 0) (view : ViewState) (f
           row_is : y / cell_height job ≡ row
           row_is = div-mul-add row (cell_height job) v lt
 
-          pixel : (k : ℕ) → k < sheet_width job
-              → box_colour job (get_or pictures ((0 + k) / cell_width job) None) ((0 + k) % cell_width job) (y % cell_height job)
-              ≡ box_colour job (picture_at job view files (y / cell_height job * 8 + (0 + k) / cell_width job)) ((0 + k) % cell_width job) (y % cell_height job)
+          pixel : (k : ℕ) → k < sheet_width job → pictured_colour job pictures (0 + k) y ≡ sheet_colour job (before ++ pictures) (0 + k) y
           pixel k wide =
-              let column : (0 + k) / cell_width job < 8 = div_below (0 + k) (cell_width job) 8 some (omega (arith, wide)) in
-              let there = ap (λ (l : List (Option (List ℕ))). get_or l ((0 + k) / cell_width job) None) are
-              ∙ get_or-map-range_with_len (λ c. picture_at job view files (row * 8 + c)) 0 8 ((0 + k) / cell_width job) ((0 + k) / cell_width job) None column (omega arith)
-              ∙ ap (λ n. picture_at job view files (n * 8 + (0 + k) / cell_width job)) (sym row_is) in
-              ap (λ (p : Option (List ℕ)). box_colour job p ((0 + k) % cell_width job) (y % cell_height job)) there
+              let here : row * 8 + (0 + k) / cell_width job - length before ≡ (0 + k) / cell_width job = omega (arith, full) in
+              let there = ap (λ n. get_or (before ++ pictures) (n * 8 + (0 + k) / cell_width job) None) row_is
+              ∙ get_or-append_right before pictures (length before) (row * 8 + (0 + k) / cell_width job) None refl (omega (arith, full))
+              ∙ ap (λ n. get_or pictures n None) here in
+              ap (λ (p : Option (List ℕ)). box_colour job p ((0 + k) % cell_width job) (y % cell_height job)) (sym there)
 
-  pub row_drawn : (row : ℕ) (cells : List (Option Boxes)) (old new : List ℕ) (before after : ℕ) → 0 < cell_width job → length cells ≡ 8
-      → HasPictures job Told (λ c. picture_at job view files (row * 8 + c)) cells
-      → ((pictures : List (Option (List ℕ))) → AreCells job pictures cells
-      → IsDrawn tone (flat_map (pictured_line job pictures) (range_with_len (row * cell_height job) (cell_height job))) old new before after)
-      → HasDrawn tone Told (exact_lines (row * cell_height job) (cell_height job)) old new before after
-  row_drawn row cells old new before after some eight has drawn = record {
-    colours = flat_map (pictured_line job has.pictures) (range_with_len (row * cell_height job) (cell_height job));
-    told = λ told. row_exact row has.pictures some (has.told told ∙ ap (λ n. map (λ c. picture_at job view files (row * 8 + c)) (range_with_len 0 n)) eight);
-    drawn = drawn has.pictures has.are;
-  }
+  rows_along : (row : ℕ) (before pictures : List (Option (List ℕ))) → length before ≡ row * 8
+      → lines_of before 0 (row * cell_height job) ++ flat_map (pictured_line job pictures) (range_with_len (row * cell_height job) (cell_height job))
+      ≡ lines_of (before ++ pictures) 0 ((row + 1) * cell_height job)
+  rows_along row before pictures full =
+      let all : (row + 1) * cell_height job ≡ row * cell_height job + cell_height job = omega arith in
+      let first : 0 + row * cell_height job ≡ row * cell_height job = omega arith in
+      let whole = before ++ pictures in
+      (λ t. lines_above row before pictures full t ++ lines_row row before pictures full t)
+      ∙ sym (ap (lines_of whole 0) all ∙ ap (flat_map (line_colours job whole)) (range_two 0 (row * cell_height job) (cell_height job))
+      ∙ flat_map-append (line_colours job whole) (range_with_len 0 (row * cell_height job)) (range_with_len (0 + row * cell_height job) (cell_height job))
+      ∙ ap (λ n. lines_of whole 0 (row * cell_height job) ++ lines_of whole n (cell_height job)) first)
 
-  pub no_rows : (bytes : List ℕ) (greatest : ℕ) → HasDrawn tone Told (exact_lines 0 (0 * cell_height job)) bytes bytes greatest greatest
-  no_rows bytes greatest = record {
-    colours = [];
-    told = λ told. let none : 0 ≡ 0 * cell_height job = omega arith in ap (exact_lines 0) none;
-    drawn = drawn_none tone bytes greatest;
-  }
+  module _ (view : ViewState) (tells : Bool) where
+    -- the rows above a row are drawn
+    abbrev pub DrawsRows : (row : ℕ) → (before after : DiskState) → (old new : List ℕ) → (least greatest : ℕ) → Type 0
+    DrawsRows row before after old new least greatest =
+        HasDrawn tone job view tells (take (row * 8) (cell_frames job)) (λ pictures. lines_of pictures 0 (row * cell_height job)) before after old new least greatest
 
-  pub rows_begin : (header bytes : List ℕ) (greatest : ℕ) → bytes ≡ header → greatest ≡ 0 → HasDrawn tone Told (exact_lines 0 (0 * cell_height job)) header bytes 0 greatest
-  rows_begin header bytes greatest is none =
-      subst (λ l. HasDrawn tone Told (exact_lines 0 (0 * cell_height job)) header l 0 greatest) (sym is)
-      (subst (λ n. HasDrawn tone Told (exact_lines 0 (0 * cell_height job)) header header 0 n) (sym none) (no_rows header 0))
+    pub rows_begin : (disk : DiskState) (header bytes : List ℕ) (greatest : ℕ) → bytes ≡ header → greatest ≡ 0 → DrawsRows 0 disk disk header bytes 0 greatest
+    rows_begin disk header bytes greatest is none =
+        subst (λ l. DrawsRows 0 disk disk header l 0 greatest) (sym is) (subst (λ n. DrawsRows 0 disk disk header header 0 n) (sym none) start)
+      where
+        start : DrawsRows 0 disk disk header header 0 0
+        start = record {
+          pictures = [];
+          shown = subst (λ n. HasShown job view tells (take n (cell_frames job)) disk disk []) (let zeros : 0 ≡ 0 * 8 = omega arith in zeros) (shown_none job view tells disk);
+          drawn = subst (λ n. IsDrawn tone (lines_of [] 0 n) header header 0 0) (let zeros : 0 ≡ 0 * cell_height job = omega arith in zeros) (drawn_none tone header 0);
+        }
 
-  -- a row more, over files that are told to be these
-  pub rows_more : (row : ℕ) (other : Files) (old mid new : List ℕ) (before between after : ℕ) → (Told → other ≡ files) → HasDrawn tone Told (exact_lines 0 (row * cell_height job)) old mid before between
-      → HasDrawn tone Told (flat_map (line_colours job view other) (range_with_len (row * cell_height job) (cell_height job))) mid new between after
-      → HasDrawn tone Told (exact_lines 0 ((row + 1) * cell_height job)) old new before after
-  rows_more row other old mid new before between after same one two = record {
-    colours = one.colours ++ two.colours;
-    told = λ told.
-        let here = two.told told ∙ ap (λ (f : Files). flat_map (line_colours job view f) (range_with_len (row * cell_height job) (cell_height job))) (same told) in
-        let all : (row + 1) * cell_height job ≡ row * cell_height job + cell_height job = omega arith in
-        let first : 0 + row * cell_height job ≡ row * cell_height job = omega arith in
-        (λ t. one.told told t ++ here t)
-        ∙ sym (ap (exact_lines 0) all ∙ ap (flat_map (line_colours job view files)) (range_two 0 (row * cell_height job) (cell_height job))
-        ∙ flat_map-append (line_colours job view files) (range_with_len 0 (row * cell_height job)) (range_with_len (0 + row * cell_height job) (cell_height job))
-        ∙ ap (λ n. exact_lines 0 (row * cell_height job) ++ exact_lines n (cell_height job)) first);
-    drawn = drawn_along tone one.colours two.colours old mid new before between after one.drawn two.drawn;
-  }
+    -- a row more
+    pub rows_more : (row : ℕ) (before between after : DiskState) (old mid new : List ℕ) (least most greatest : ℕ) → row < sheet_rows job → OnlyReads tells before between → DrawsRows row before between old mid least most
+        → HasDrawn tone job view tells (row_frames job row) (λ pictures. pictured_row job pictures row) between after mid new most greatest → DrawsRows (row + 1) before after old new least greatest
+    rows_more row before between after old mid new least most greatest lt reads one two = record {
+      pictures = one.pictures ++ two.pictures;
+      shown = subst (λ (frames : List ℕ). HasShown job view tells frames before after (one.pictures ++ two.pictures)) (sym split)
+          (shown_along job view tells (take (row * 8) (cell_frames job)) (row_frames job row) one.pictures two.pictures before between after reads one.shown two.shown);
+      drawn = drawn_as tone _ _ old new least greatest (rows_along row one.pictures two.pictures full)
+          (drawn_along tone _ _ old mid new least most greatest one.drawn two.drawn);
+    }
+      where
+        full : length one.pictures ≡ row * 8
+        full = pictures_size job view _ one.pictures _ _ one.shown.read ∙ length-take-le (row * 8) (cell_frames job) (omega (arith, lt))
 
-  pub rows_whole : (row : ℕ) (old new : List ℕ) (before after : ℕ) → row ≡ sheet_rows job → HasDrawn tone Told (exact_lines 0 (row * cell_height job)) old new before after
-      → HasDrawn tone Told (sheet_colours job view files) old new before after
-  rows_whole row old new before after is has = subst (λ n. HasDrawn tone Told (exact_lines 0 (n * cell_height job)) old new before after) is has
+        split : take ((row + 1) * 8) (cell_frames job) ≡ take (row * 8) (cell_frames job) ++ take 8 (drop (row * 8) (cell_frames job))
+        split =
+            let more : (row + 1) * 8 ≡ row * 8 + 8 = omega arith in
+            ap (λ n. take n (cell_frames job)) more ∙ take_two (row * 8) 8 (cell_frames job)
+
+    pub rows_whole : (row : ℕ) (before after : DiskState) (old new : List ℕ) (least greatest : ℕ) → row ≡ sheet_rows job → DrawsRows row before after old new least greatest
+        → HasDrawn tone job view tells (cell_frames job) (sheet_colours job) before after old new least greatest
+    rows_whole row before after old new least greatest is has = record {
+      pictures = has.pictures;
+      shown = subst (λ (frames : List ℕ). HasShown job view tells frames before after has.pictures) (take_all (row * 8) (cell_frames job) (omega (arith, is))) has.shown;
+      drawn = subst (λ n. IsDrawn tone (lines_of has.pictures 0 (n * cell_height job)) old new least greatest) is has.drawn;
+    }
 
 -- the greatest code under the tone is that of the greatest mean
 toned_codes : (tone : List ℕ) (colours : List (List ℕ)) → flat_map (toned tone) colours ≡ map (λ code. get_or tone code 0) (flat_map (λ colour. colour) colours)
@@ -142,43 +182,67 @@ most_of (code ∷ codes) n le all =
     let here = All-head (λ k. k ≤ 1023) code codes all in
     most_of codes (max n code) (omega (arith, le, here)) (All-tail (λ k. k ≤ 1023) code codes all)
 
-pub greatest_small : (tone : List ℕ) (Told : Type 0) (exact : List (List ℕ)) (old new : List ℕ) (after : ℕ) → HasDrawn tone Told exact old new 0 after → after ≤ 1023
-greatest_small tone Told exact old new after has =
-    let most = most_of (flat_map (λ colour. colour) has.colours) 0 (omega arith) has.drawn.codes in
-    omega (arith, most, has.drawn.greatest)
+pub greatest_small : (tone : List ℕ) (colours : List (List ℕ)) (old new : List ℕ) (after : ℕ) → IsDrawn tone colours old new 0 after → after ≤ 1023
+greatest_small tone colours old new after drawn =
+    let most = most_of (flat_map (λ colour. colour) colours) 0 (omega arith) drawn.codes in
+    omega (arith, most, drawn.greatest)
 
-pub peak_drawn : (tone : List ℕ) (Told : Type 0) (exact : List (List ℕ)) (old new : List ℕ) (after peak : ℕ) → IsToneTable tone → 0 < length (flat_map (λ colour. colour) exact) → HasDrawn tone Told exact old new 0 after
-    → peak ≡ get_or tone after 0 → Told → peak ≡ fold max 0 (flat_map (toned tone) exact)
-peak_drawn tone Told exact old new after peak table some has is told =
-    let same = has.told told in
-    let codes = subst (λ (l : List (List ℕ)). All (λ code. code ≤ 1023) (flat_map (λ colour. colour) l)) same has.drawn.codes in
-    is ∙ ap (λ n. get_or tone n 0) (has.drawn.greatest ∙ ap (λ (l : List (List ℕ)). fold max 0 (flat_map (λ colour. colour) l)) same)
-    ∙ sym (peak_is tone table (flat_map (λ colour. colour) exact) some codes)
-    ∙ ap (fold max 0) (sym (toned_codes tone exact))
-
-pub bytes_drawn : (tone : List ℕ) (Told : Type 0) (exact : List (List ℕ)) (old new : List ℕ) (before after : ℕ) → HasDrawn tone Told exact old new before after
-    → Told → new ≡ old ++ flat_map (toned_bytes tone) exact
-bytes_drawn tone Told exact old new before after has told = has.drawn.bytes ∙ ap (λ (l : List (List ℕ)). old ++ flat_map (toned_bytes tone) l) (has.told told)
+peak_drawn : (tone : List ℕ) (colours : List (List ℕ)) (old new : List ℕ) (after peak : ℕ) → IsToneTable tone → 0 < length (flat_map (λ colour. colour) colours) → IsDrawn tone colours old new 0 after
+    → peak ≡ get_or tone after 0 → peak ≡ fold max 0 (flat_map (toned tone) colours)
+peak_drawn tone colours old new after peak table some drawn is =
+    is ∙ ap (λ n. get_or tone n 0) drawn.greatest
+    ∙ sym (peak_is tone table (flat_map (λ colour. colour) colours) some drawn.codes)
+    ∙ ap (fold max 0) (sym (toned_codes tone colours))
 
 -- a sheet has a pixel
-pub some_codes : (job : JobData) (view : ViewState) (files : Files) → 0 < sheet_width job → 0 < sheet_height job → 0 < length (flat_map (λ colour. colour) (sheet_colours job view files))
-some_codes job view files wide high = in_lines (sheet_height job) high
+some_codes : (job : JobData) (pictures : List (Option (List ℕ))) → 0 < sheet_width job → 0 < sheet_height job → 0 < length (flat_map (λ colour. colour) (sheet_colours job pictures))
+some_codes job pictures wide high = in_lines (sheet_height job) high
   where
     in_colour : (p : Option (List ℕ)) (u v : ℕ) (rest : List (List ℕ)) → 0 < length (flat_map (λ colour. colour) (box_colour job p u v ∷ rest))
     in_colour None u v rest = omega arith
     in_colour (Some words) u v rest = omega arith
 
     pixel : (y x : ℕ) → List ℕ
-    pixel y x = box_colour job (picture_at job view files (y / cell_height job * 8 + x / cell_width job)) (x % cell_width job) (y % cell_height job)
+    pixel y x = sheet_colour job pictures x y
 
     in_line : (y n : ℕ) (rest : List (List ℕ)) → 0 < n → 0 < length (flat_map (λ colour. colour) (map (pixel y) (range_with_len 0 n) ++ rest))
     in_line y zero rest lt = absurd (omega (arith, lt))
     in_line y (suc n) rest lt =
-        in_colour (picture_at job view files (y / cell_height job * 8 + 0 / cell_width job)) (0 % cell_width job) (y % cell_height job) (map (pixel y) (range_with_len (0 + 1) n) ++ rest)
+        in_colour (get_or pictures (y / cell_height job * 8 + 0 / cell_width job) None) (0 % cell_width job) (y % cell_height job) (map (pixel y) (range_with_len (0 + 1) n) ++ rest)
 
-    in_lines : (n : ℕ) → 0 < n → 0 < length (flat_map (λ colour. colour) (flat_map (line_colours job view files) (range_with_len 0 n)))
+    in_lines : (n : ℕ) → 0 < n → 0 < length (flat_map (λ colour. colour) (flat_map (line_colours job pictures) (range_with_len 0 n)))
     in_lines zero lt = absurd (omega (arith, lt))
-    in_lines (suc n) lt = in_line 0 (sheet_width job) (flat_map (line_colours job view files) (range_with_len (0 + 1) n)) wide
+    in_lines (suc n) lt = in_line 0 (sheet_width job) (flat_map (line_colours job pictures) (range_with_len (0 + 1) n)) wide
+
+-- what was drawn is the sheet of the pictures that were read
+pub sheet_drawn : (tone : List ℕ) (job : JobData) (view : ViewState) (tells : Bool) (before after : DiskState) (bytes : List ℕ) (greatest peak : ℕ) → IsToneTable tone → 0 < sheet_width job → 0 < sheet_height job
+    → HasDrawn tone job view tells (cell_frames job) (sheet_colours job) before after (header_of (sheet_head job)) bytes 0 greatest → peak ≡ get_or tone greatest 0 → HasSheetOf tone job view tells before after bytes peak
+sheet_drawn tone job view tells before after bytes greatest peak table wide high has is = record {
+  pictures = has.pictures;
+  shown = has.shown;
+  bytes_are = has.drawn.bytes;
+  peak_is = peak_drawn tone (sheet_colours job has.pictures) _ bytes greatest peak table (some_codes job has.pictures wide high) has.drawn is;
+}
+
+pub sheet_bytes : (tone : List ℕ) (job : JobData) (view : ViewState) (tells : Bool) (before after : DiskState) (bytes : List ℕ) (peak : ℕ) → HasSheetOf tone job view tells before after bytes peak
+    → tells ≡ true → bytes ≡ sheet_file tone job view (view_of before.history)
+sheet_bytes tone job view tells before after bytes peak has told = has.bytes_are ∙ ap (pictures_file tone job) (has.shown.told told)
+
+pub sheet_code : (tone : List ℕ) (job : JobData) (view : ViewState) (tells : Bool) (before after : DiskState) (bytes : List ℕ) (peak : ℕ) → HasSheetOf tone job view tells before after bytes peak
+    → tells ≡ true → peak ≡ sheet_peak tone job view (view_of before.history)
+sheet_code tone job view tells before after bytes peak has told = has.peak_is ∙ ap (pictures_peak tone job) (has.shown.told told)
+
+-- and then it was written
+pub sheet_made : (tone : List ℕ) (job : JobData) (view : ViewState) (tells : Bool) (before behind : DiskState) (bytes same : List ℕ) (done : SheetDone) (after : List Call) → HasSheetOf tone job view tells before behind bytes done.peak
+    → done.cells ≡ length (cell_frames job) → same ≡ bytes → after ≡ Synced Sheet Done ∷ Wrote Sheet same Done ∷ behind.calls → MakesSheet tone job view done before.calls after
+sheet_made tone job view tells before behind bytes same done after has cells is calls = record {
+  pictures = has.pictures;
+  behind = behind.calls;
+  read = has.shown.read;
+  written = calls ∙ ap (λ (l : List ℕ). Synced Sheet Done ∷ Wrote Sheet l Done ∷ behind.calls) (is ∙ has.bytes_are);
+  cells_are = cells;
+  peak_is = has.peak_is;
+}
 
 pub product_some : (a b : ℕ) → 1 ≤ a → 1 ≤ b → 1 ≤ a * b
 product_some a b la lb = let p : 1 * 1 ≤ a * b = mul-le-mul la lb in omega (arith, p)

@@ -1,4 +1,5 @@
 pub mod Counts
+pub mod Reads
 pub mod Sheet
 pub mod Table
 pub mod Tones

@@ -3,13 +3,19 @@
 --   box of 16 by 16 of the event's first frame, with the rounded mean of each channel, and the tone's code for it; black where
 --   that frame isn't acknowledged or its file is short, and in a place without a cell; its file, and the greatest code of it
 --     cell_frames job      the record frame of each cell, in list order
---     sheet_colour job view files x y      the mean colour at column x and line y, before the tone
---     sheet_file tone job view files      the file: its header (SMPTE 268M), then its words
---     sheet_peak tone job view files      the greatest code of the sheet
+--     sheet_pictures job view files      what each cell shows, over these files
+--     sheet_colour job pictures x y      the mean colour at column x and line y, before the tone
+--     pictures_file tone job pictures      the file of these pictures: its header (SMPTE 268M), then its words
+--     pictures_peak tone job pictures      the greatest code of their sheet
+--     sheet_file, sheet_peak tone job view files      the same, over files
 --     HasWrittenSheet tone job view old new      the file is written, of what the folder held before
 --     WritesSheet old new      which writes a sheet makes, whatever the disk tells: none, or the sheet's file, and then its sync
+--     ReadsPictures job view frames pictures before after      the files of the acknowledged ones of some frames were read one after
+--         another, and gave these pictures
+--     MakesSheet tone job view done before after      the cells' frames were read so, and the sheet of what that gave was written;
+--         it is known over every disk
 -- Colours are lists of codes by channel: red, green, blue. A cell has one pixel for each box of 16 by 16 of its frame.
-use Rattle.std.specs.Prelude.{◌≡◌, ◌⊎◌, ℕ, ◌+◌, ◌-◌, ◌*◌, ◌/◌, ◌%◌, ◌&&◌, ◌==◌, max, false, nat_lt, if◌then◌else◌, List, [], ◌∷◌, ◌++◌, length, map, take, slice_index, slice_index_or, slice_get, Option, Some, None}
+use Rattle.std.specs.Prelude.{◌≡◌, ◌⊎◌, ℕ, ◌+◌, ◌-◌, ◌*◌, ◌/◌, ◌%◌, ◌&&◌, ◌==◌, max, false, true, nat_lt, if◌then◌else◌, List, [], ◌∷◌, ◌++◌, length, map, take, slice_index, slice_index_or, Option, Some, None}
 use Rattle.std.specs.List.{filter, flat_map, fold, range_with_len, sum_by}
 use Rattle.cf_base.specs.declared.limits.TheConstants.{LARGEST}
 use Rattle.byteorder.specs.Endian.{big_bytes}
@@ -29,7 +35,9 @@ use Rattle.resume_ledger.specs.Look.{ViewState}
 use Rattle.resume_ledger.specs.Steps.{IsFirmly}
 use Rattle.cf_base.specs.declared.file.FileId.TheVariants as file
 use Rattle.reel_qc.specs.Counts.{blue_of, green_of, red_of}
+use Rattle.reel_qc.specs.Reads.{ReadsFrame}
 use Rattle.reel_qc.specs.Words.{frame_words}
+use Rattle.reel_qc.specs.declared.sheet.SheetDone.{SheetDone}
 
 -- how many boxes of 16 pixels a number of pixels needs
 abbrev pub boxes_of : ℕ → ℕ
@@ -92,25 +100,22 @@ abbrev pub cell_picture : JobData → ViewState → Files → ℕ → Option (Li
 cell_picture job view files i =
     if slice_index_or view.gates i false then whole_picture job (frame_words job (files (file_of job i))) else None
 
-abbrev pub place_picture : JobData → ViewState → Files → Option ℕ → Option (List ℕ)
-place_picture job view files None = None
-place_picture job view files (Some i) = cell_picture job view files i
+-- those of all cells, in list order
+abbrev pub sheet_pictures : JobData → ViewState → Files → List (Option (List ℕ))
+sheet_pictures job view files = map (cell_picture job view files) (cell_frames job)
 
--- the picture of a place, counted from 0 along the rows of eight
-abbrev pub picture_at : JobData → ViewState → Files → ℕ → Option (List ℕ)
-picture_at job view files place = place_picture job view files (slice_get (cell_frames job) place)
-
-abbrev pub sheet_colour : JobData → ViewState → Files → (x y : ℕ) → List ℕ
-sheet_colour job view files x y =
-    box_colour job (picture_at job view files (y / cell_height job * 8 + x / cell_width job))
+-- Places are counted from 0 along the rows of eight; one without a cell has no picture.
+abbrev pub sheet_colour : JobData → List (Option (List ℕ)) → (x y : ℕ) → List ℕ
+sheet_colour job pictures x y =
+    box_colour job (slice_index_or pictures (y / cell_height job * 8 + x / cell_width job) None)
     (x % cell_width job) (y % cell_height job)
 
--- a line from the left, those of a row of cells, and all lines from the top
-abbrev pub line_colours : JobData → ViewState → Files → ℕ → List (List ℕ)
-line_colours job view files y = map (λ x. sheet_colour job view files x y) (range_with_len 0 (sheet_width job))
+-- a line from the left, and all lines from the top
+abbrev pub line_colours : JobData → List (Option (List ℕ)) → ℕ → List (List ℕ)
+line_colours job pictures y = map (λ x. sheet_colour job pictures x y) (range_with_len 0 (sheet_width job))
 
-abbrev pub sheet_colours : JobData → ViewState → Files → List (List ℕ)
-sheet_colours job view files = flat_map (line_colours job view files) (range_with_len 0 (sheet_height job))
+abbrev pub sheet_colours : JobData → List (Option (List ℕ)) → List (List ℕ)
+sheet_colours job pictures = flat_map (line_colours job pictures) (range_with_len 0 (sheet_height job))
 
 -- a colour with each code replaced by the tone's
 abbrev pub toned : List ℕ → List ℕ → List ℕ
@@ -131,11 +136,17 @@ sheet_head job = record {
   title = job.parts.project.title;
 }
 
+abbrev pub pictures_file : List ℕ → JobData → List (Option (List ℕ)) → List ℕ
+pictures_file tone job pictures = header_of (sheet_head job) ++ flat_map (toned_bytes tone) (sheet_colours job pictures)
+
+abbrev pub pictures_peak : List ℕ → JobData → List (Option (List ℕ)) → ℕ
+pictures_peak tone job pictures = fold max 0 (flat_map (toned tone) (sheet_colours job pictures))
+
 abbrev pub sheet_file : List ℕ → JobData → ViewState → Files → List ℕ
-sheet_file tone job view files = header_of (sheet_head job) ++ flat_map (toned_bytes tone) (sheet_colours job view files)
+sheet_file tone job view files = pictures_file tone job (sheet_pictures job view files)
 
 abbrev pub sheet_peak : List ℕ → JobData → ViewState → Files → ℕ
-sheet_peak tone job view files = fold max 0 (flat_map (toned tone) (sheet_colours job view files))
+sheet_peak tone job view files = pictures_peak tone job (sheet_pictures job view files)
 
 -- The sheet is on the disk, and a crash keeps it so.
 abbrev pub HasWrittenSheet : List ℕ → JobData → ViewState → History → History → Type 0
@@ -146,3 +157,26 @@ abbrev pub WritesSheet : (old new : List Call) → Type 0
 WritesSheet old new = (new ≡ old)
     ⊎ ((bytes : List ℕ) × ((new ≡ Wrote file.Sheet bytes Failed ∷ old)
     ⊎ ((did : Did) × (new ≡ Synced file.Sheet did ∷ Wrote file.Sheet bytes Done ∷ old))))
+
+-- An acknowledged frame's file was read, and the picture is what the reads gave; of any other frame nothing was read.
+abbrev pub ReadsPicture : JobData → ViewState → ℕ → Option (List ℕ) → (before after : List Call) → Type 0
+ReadsPicture job view i picture before after =
+    ((slice_index_or view.gates i false ≡ true)
+    × (words : List ℕ) × ReadsFrame job i words before after × (picture ≡ whole_picture job words))
+    ⊎ ((slice_index_or view.gates i false ≡ false) × (picture ≡ None) × (after ≡ before))
+
+-- a picture for each of some frames, one after another
+abbrev pub ReadsPictures : JobData → ViewState → List ℕ → List (Option (List ℕ)) → (before after : List Call) → Type 0
+ReadsPictures job view [] [] before after = after ≡ before
+ReadsPictures job view (i ∷ frames) (picture ∷ pictures) before after =
+    (mid : List Call) × ReadsPicture job view i picture before mid × ReadsPictures job view frames pictures mid after
+ReadsPictures job view frames pictures before after = ⊥
+
+-- Over every disk, the calls were these: the reads of the cells' pictures, one write of the file of what they gave, and its sync.
+pub record MakesSheet (tone : List ℕ) (job : JobData) (view : ViewState) (done : SheetDone) (before after : List Call) : Type 0 where
+  pub pictures : List (Option (List ℕ))
+  pub behind : List Call
+  pub read : ReadsPictures job view (cell_frames job) pictures before behind
+  pub written : after ≡ Synced file.Sheet Done ∷ Wrote file.Sheet (pictures_file tone job pictures) Done ∷ behind
+  pub cells_are : done.cells ≡ length (cell_frames job)
+  pub peak_is : done.peak ≡ pictures_peak tone job pictures

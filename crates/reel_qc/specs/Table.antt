@@ -3,17 +3,21 @@
 --   file; how many lines these are
 --     quality_table kinds job view files      the table of what a view acknowledges, over these files
 --     defined_table kinds job world view      the same over the definition's files
---     IsTable kinds view text      a table of some words for each of these frames: what is known over a disk that doesn't tell
+--     ReadsRows job rows before after      the files of some frames were read one after another, and gave these words
+--     IsTable kinds job view before after text      the table of the words that reads gave: each acknowledged frame's file was
+--         read, each once and no other; it is known over every disk
 use Rattle.std.specs.Prelude.{◌≡◌, ℕ, false, List, [], ◌∷◌, ◌++◌, length, map, filter, slice_index_or, codes, decimal, Some}
 use Rattle.std.specs.List.{flat_map, range_with_len}
 use Rattle.conform_job.specs.Job.{JobData, file_of}
 use Rattle.printed_text.specs.Text.{spaced_line}
+use Rattle.reel_disk.specs.Call.{Call}
 use Rattle.reel_disk.specs.Disk.{Files}
 use Rattle.scan_source.specs.World.{World, file_at}
 use Rattle.frame_render.specs.Frame.{frame_file}
 use Rattle.resume_ledger.specs.Look.{ViewState, IsViewOf}
 use Rattle.reel_writer.specs.Reel.{frames_of, IsSoundReel}
 use Rattle.reel_qc.specs.Counts.{count_of}
+use Rattle.reel_qc.specs.Reads.{ReadsFrame}
 use Rattle.reel_qc.specs.Words.{frame_words}
 use Rattle.reel_qc.specs.declared.table.probe.ProbeKind.{ProbeKind}
 use Rattle.reel_qc.specs.declared.table.probe.ProbeKind.TheVariants.{High, Low, Sum}
@@ -64,9 +68,17 @@ abbrev pub IsDefinedWhereSound : List ProbeKind → JobData → ViewState → Fi
 IsDefinedWhereSound kinds job view files text = (world : World) → IsViewOf job.parts.digest (frames_of job) files view
     → IsSoundReel job world files → text ≡ defined_table kinds job world view
 
-pub record IsTable (kinds : List ProbeKind) (view : ViewState) (text : List ℕ) : Type 0 where
+-- The files of some frames were read one after another, and gave the words of these rows.
+abbrev pub ReadsRows : JobData → List Row → (before after : List Call) → Type 0
+ReadsRows job [] before after = after ≡ before
+ReadsRows job (row ∷ rows) before after =
+    (mid : List Call) × ReadsFrame job row.frame row.words before mid × ReadsRows job rows mid after
+
+-- The files of the acknowledged frames were read, in order and with no other call, and the text is the table of what they gave.
+pub record IsTable (kinds : List ProbeKind) (job : JobData) (view : ViewState) (before after : List Call) (text : List ℕ) : Type 0 where
   pub rows : List Row
   pub frames : map (λ (row : Row). row.frame) rows ≡ acked_frames view
+  pub read : ReadsRows job rows before after
   pub form : text ≡ table_of kinds rows
 
 -- The rest is said of a part of the table.

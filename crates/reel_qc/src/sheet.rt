@@ -8,8 +8,8 @@ ghost use Rattle.reel_disk.specs.Disk.{view_of};
 ghost use Rattle.reel_disk.specs.Runs.{Extends, Spares, StaysSo};
 ghost use Rattle.reel_writer.specs.Reel.{frames_of, HasAcked, IsSoundReel};
 ghost use Rattle.scan_source.specs.World.{World};
-ghost use Rattle.reel_qc.specs.inside.Boxes.{DrawsRow, DrawsSheet};
-ghost use Rattle.reel_qc.specs.Sheet.{cell_frames, cell_height, sheet_file, sheet_head, sheet_peak, sheet_rows, HasWrittenSheet, WritesSheet};
+ghost use Rattle.reel_qc.specs.inside.Boxes.{DrawsRow, DrawsSheet, HasSheetOf};
+ghost use Rattle.reel_qc.specs.Sheet.{cell_frames, cell_height, cell_width, sheet_file, sheet_head, sheet_peak, sheet_rows, HasWrittenSheet, MakesSheet, WritesSheet};
 
 mod boxes;
 mod cells;
@@ -60,7 +60,6 @@ pub fn make_sheet<D: Disk>(
     // The sheet is there, and a crash keeps it so.
     ensures sheet { OnOk result (D.tells ≡ true
         → HasWrittenSheet tone.now.table job.now view.now (D.state disk.old).history (D.state disk.new).history) }
-    ensures cells { IfOk result (λ done. done.cells ≡ length (cell_frames job.now)) }
     ensures peak { IfOk result (λ done. D.tells ≡ true
         → done.peak ≡ sheet_peak tone.now.table job.now view.now (view_of (D.state disk.old).history)) }
     ensures code { IfOk result (λ done. done.peak ≤ 1023) }
@@ -71,6 +70,10 @@ pub fn make_sheet<D: Disk>(
     ensures sound { D.tells ≡ true → (world : World)
         → StaysSo (D.state disk.old).history (D.state disk.new).history (IsSoundReel job.now world) }
     ensures kept { D.tells ≡ true → (i : ℕ) → StaysSo (D.state disk.old).history (D.state disk.new).history (HasAcked job.now i) }
+
+    // Over every disk, it has so many cells, reads the files of their acknowledged frames alone, and is of what these gave.
+    ensures made { IfOk result (λ done. MakesSheet tone.now.table job.now view.now done
+        (D.state disk.old).calls (D.state disk.new).calls) }
 
     // Whatever the disk tells, nothing but the sheet is written and synced, and where memory was missing nothing is.
     ensures writes { WritesSheet (writes_in (D.state disk.old).calls) (writes_in (D.state disk.new).calls) }
@@ -100,6 +103,8 @@ fn sheet_of<D: Disk>(
     tone: &Tone,
 ) -> Result<SheetFile, DiskFail>
     requires size { length view.now.gates ≡ frames_of job.now }
+    ensures drawn { IfOk result (λ sheet. HasSheetOf tone.now.table job.now view.now D.tells (D.state disk.old) (D.state disk.new)
+        sheet.bytes.items sheet.done.peak) }
     ensures bytes { IfOk result (λ sheet. D.tells ≡ true
         → sheet.bytes.items ≡ sheet_file tone.now.table job.now view.now (view_of (D.state disk.old).history)) }
     ensures cells { IfOk result (λ sheet. sheet.done.cells ≡ length (cell_frames job.now)) }
@@ -135,7 +140,8 @@ fn draw_sheet<D: Disk>(
     requires frames { frames.now ≡ cell_frames job.now }
     requires within { All (λ i. i < frames_of job.now) frames.now }
     requires some { 0 < length frames.now }
-    ensures drawn { IfOk result (λ drawing. DrawsSheet tone.now.table job.now view.now D.tells (D.state disk.old).history drawing) }
+    ensures drawn { IfOk result (λ drawing. DrawsSheet tone.now.table job.now view.now D.tells
+        (D.state disk.old) (D.state disk.new) drawing) }
     ensures reads { OnlyReads D.tells (D.state disk.old) (D.state disk.new) }
     ensures disk { LeavesDisk (IsErrOf result DiskFail.DiskFault) (D.state disk.old) (D.state disk.new) }
 {
@@ -161,6 +167,7 @@ fn rows_of(job: &Job, frames: &[u32]) -> u32
     requires some { 0 < length frames.now }
     ensures rows { result ≡ sheet_rows job.now }
     ensures some { 1 ≤ result }
+    ensures wide { 0 < cell_width job.now }
     ensures fit { result * cell_height job.now ≤ LARGEST }
 {
     job.recall();
@@ -242,7 +249,7 @@ fn draw_row<D: Disk>(
     requires row { row ≤ LARGEST }
     requires piece { length buffers.old.piece.items ≡ PIECE }
     ensures drawn { OnOk result (DrawsRow shown.now.tone.now.table shown.now.job.now shown.now.view.now
-        D.tells (D.state disk.old).history row drawing.old drawing.new) }
+        D.tells row (D.state disk.old) (D.state disk.new) drawing.old drawing.new) }
     ensures piece { length buffers.new.piece.items ≡ PIECE }
     ensures reads { OnlyReads D.tells (D.state disk.old) (D.state disk.new) }
     ensures disk { LeavesDisk (IsErrOf result DiskFail.DiskFault) (D.state disk.old) (D.state disk.new) }

@@ -49,8 +49,9 @@ pub fn quality_table<D: Disk, C: Counter>(
     ensures sound { IfOk result (λ text. D.tells ≡ true
         → IsDefinedWhereSound (map (λ p. p.kind) probes.now) job.now view.now (view_of (D.state disk.old).history) text.items) }
 
-    // Which frames have a line is known over every disk.
-    ensures known { IfOk result (λ text. IsTable (map (λ p. p.kind) probes.now) view.now text.items) }
+    // Over every disk, it reads the files of the acknowledged frames alone, each once, and counts the words that they gave.
+    ensures known { IfOk result (λ text. IsTable (map (λ p. p.kind) probes.now) job.now view.now
+        (D.state disk.old).calls (D.state disk.new).calls text.items) }
 
     // It only reads: what the disk tells stays at every moment, and no write and no sync is made, whatever the answer is.
     ensures reads { OnlyReads D.tells (D.state disk.old) (D.state disk.new) }
@@ -135,7 +136,8 @@ fn put_rows<D: Disk, C: Counter>(
     requires room { 0 < length buffers.old.words.items }
     requires few { length buffers.old.words.items ≤ 16777216 }
     ensures rows { IfOk result
-        (AddsRows (map (λ p. p.kind) counting.now.probes.now) job.now view.now D.tells (D.state disk.old).history text.old text.new) }
+        (AddsRows (map (λ p. p.kind) counting.now.probes.now) job.now view.now D.tells (D.state disk.old) (D.state disk.new)
+        text.old text.new) }
     ensures reads { OnlyReads D.tells (D.state disk.old) (D.state disk.new) }
     ensures disk { LeavesDisk (IsErrOf result DiskFail.DiskFault) (D.state disk.old) (D.state disk.new) }
 {
@@ -163,7 +165,8 @@ fn put_frame<D: Disk, C: Counter>(
     requires room { 0 < length buffers.old.words.items }
     requires few { length buffers.old.words.items ≤ 16777216 }
     ensures rows { IfOk result
-        (AddsRow (map (λ p. p.kind) counting.now.probes.now) job.now view.now i D.tells (D.state disk.old).history text.old text.new) }
+        (AddsRow (map (λ p. p.kind) counting.now.probes.now) job.now view.now i D.tells (D.state disk.old) (D.state disk.new)
+        text.old text.new) }
     ensures few { IfOk result (λ more. more ≤ 1) }
     ensures piece { length buffers.new.piece.items ≡ PIECE }
     ensures room { length buffers.new.words.items ≡ length buffers.old.words.items }

@@ -5,6 +5,7 @@ ghost use Rattle.conform_job.specs.Job.{file_of};
 ghost use Rattle.reel_disk.specs.Disk.{view_of};
 ghost use Rattle.reel_writer.specs.Reel.{frames_of};
 ghost use Rattle.frame_render.specs.Frame.{pixel_count};
+ghost use Rattle.reel_qc.specs.Reads.{ReadsFrame, ReadsWords};
 ghost use Rattle.reel_qc.specs.Words.{frame_words, words_in, words_from};
 
 use byteorder::{BigEndian, ByteOrder};
@@ -90,6 +91,7 @@ pub(crate) fn read_frame<D: Disk>(
     requires piece { length buffers.old.piece.items ≡ PIECE }
     ensures words { OnOk result (D.tells ≡ true
         → buffers.new.words.items ≡ frame_words job.now (view_of (D.state disk.old).history (file_of job.now i))) }
+    ensures calls { OnOk result (ReadsFrame job.now i buffers.new.words.items (D.state disk.old).calls (D.state disk.new).calls) }
     ensures size { OnOk result (length buffers.new.words.items ≤ 16777216) }
     ensures most { OnOk result (length buffers.new.words.items ≤ pixel_count job.now) }
     ensures piece { length buffers.new.piece.items ≡ PIECE }
@@ -122,6 +124,8 @@ pub(crate) fn read_words<D: Disk>(
     requires piece { length piece.old ≡ PIECE }
     ensures words { IfOk result (λ count. D.tells ≡ true
         → take count words.new ≡ words_in first (length words.old) (view_of (D.state disk.old).history id)) }
+    ensures calls { IfOk result (λ count. ReadsWords id first (length words.old) (take count words.new)
+        (D.state disk.old).calls (D.state disk.new).calls) }
     ensures few { IfOk result (λ count. count ≤ length words.old) }
     ensures small { (k : ℕ) → slice_index words.new k < 2 ^ 32 }
     ensures size { length words.new ≡ length words.old }
@@ -151,9 +155,12 @@ fn read_piece<D: Disk>(
     words: &mut [u32],
 ) -> Result<usize, DiskFail>
     requires first { first ≤ 33554432 }
+    requires some { 0 < length words.old }
     requires bytes { length bytes.old ≡ 4 * length words.old }
     ensures words { IfOk result (λ count. D.tells ≡ true
         → take count words.new ≡ words_in first (length words.old) (view_of (D.state disk.old).history id)) }
+    ensures calls { IfOk result (λ count. ReadsWords id first (length words.old) (take count words.new)
+        (D.state disk.old).calls (D.state disk.new).calls) }
     ensures few { IfOk result (λ count. count ≤ length words.old) }
     ensures size { length words.new ≡ length words.old }
     ensures bytes { length bytes.new ≡ length bytes.old }

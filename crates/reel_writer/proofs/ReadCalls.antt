@@ -1,5 +1,6 @@
 -- Calls that read files of a folder, one behind another.
 use Rattle.std.proofs.Common.{◌≡◌, inl, inr, ℕ, List, [], ◌∷◌, ◌++◌, append_assoc, length, get_or, refl, sym, ◌∙◌, ap, subst}
+use Rattle.std.specs.Prelude.{Result, Ok, Err, IfOk, OnErr}
 use Rattle.std.proofs.lemmas.List.Elements.{All-nil, All-cons, All-append}
 use Rattle.cf_base.specs.declared.file.FileId.{FileId}
 use Rattle.reel_disk.specs.declared.disk.Got.TheVariants.{Bytes, Failed}
@@ -60,17 +61,22 @@ module _ (id : FileId) where
   pub measured_made : (len : l.Length) (old new : List Call) → MakesOnly (λ q. q ≡ id) (Measured id len ∷ old) new → MakesOnly (λ q. q ≡ id) old new
   measured_made len old new = made_along (λ q. q ≡ id) old (Measured id len ∷ old) new (made_one (λ q. q ≡ id) (Measured id len) old (Measured id len ∷ old) refl refl)
 
-  pub digest_made : (digest : List ℕ) (old new : List Call) → Digests id digest old new → MakesOnly (λ q. q ≡ id) old new
+  digest_made : (digest : List ℕ) (old new : List Call) → Digests id digest old new → MakesOnly (λ q. q ≡ id) old new
   digest_made digest old new (inl (len, (pieces, long, is, made, are))) =
       measured_made (l.TheVariants.There len) old new (subst (MakesOnly (λ q. q ≡ id) (Measured id (l.TheVariants.There len) ∷ old)) (sym made) (reads_made pieces (Measured id (l.TheVariants.There len) ∷ old)))
   digest_made digest old new (inr (none, inl made)) = made_one (λ q. q ≡ id) (Measured id l.TheVariants.Absent) old new refl made
   digest_made digest old new (inr (none, inr (len, (pieces, into, got, well, made, are)))) =
       measured_made (l.TheVariants.There len) old new (read_made pieces (Read id (length (bytes_of pieces)) into got) (Measured id (l.TheVariants.There len) ∷ old) new refl made)
 
-  pub failed_made : (old new : List Call) → FailsDigest id old new → MakesOnly (λ q. q ≡ id) old new
+  failed_made : (old new : List Call) → FailsDigest id old new → MakesOnly (λ q. q ≡ id) old new
   failed_made old new (len, inl made) = made_one (λ q. q ≡ id) (Measured id l.TheVariants.Failed) old new refl made
   failed_made old new (len, inr (pieces, into, made, are)) =
       measured_made (l.TheVariants.There len) old new (read_made pieces (Read id (length (bytes_of pieces)) into Failed) (Measured id (l.TheVariants.There len) ∷ old) new refl made)
+
+  -- its digest, or a fault
+  pub digested_made : {E : Type 0} (result : Result (List ℕ) E) (old new : List Call) → IfOk result (λ digest. Digests id digest old new) → OnErr result (FailsDigest id old new) → MakesOnly (λ q. q ≡ id) old new
+  digested_made (Ok digest) old new is failed = digest_made digest old new is
+  digested_made (Err fault) old new is failed = failed_made old new failed
 
 -- what was made just now
 pub was_now : (Made : (before after : List Call) → Type 0) (before after : List Call) → Made before after → WasMade Made after

@@ -1,15 +1,21 @@
 -- Damage: a frame whose file has another SHA-256 than the ledger keeps of it. All of it is this
 -- project's own rule.
--- * damage: a frame whose file has another SHA-256 than its record; the first one
+-- * damage: a frame whose file has another SHA-256 than its record; the first one; which files a check reads, and that it answers by
+--   what these reads gave
 --     IsDamaged      a frame that is damaged
 --     HasChecked      what a check of the reel's files finds
-use Rattle.std.specs.Prelude.{◌≡◌, ◌≢◌, ℕ, ◌<◌, List, length, map, count_by, is_some, Some, Result, Ok, Err}
+--     ReadsReel job view result before after      over every disk, which files the calls of a check are on, and that each digest
+--       which its answer goes by is that of bytes which reads of that frame's file gave
+use Rattle.std.specs.Prelude.{◌≡◌, ◌≢◌, ℕ, ◌<◌, true, List, length, map, count_by, is_some, Some, IfSome, Result, Ok, Err}
 use Rattle.std.specs.List.{range_with_len}
+use Rattle.cf_base.specs.declared.file.FileId.{FileId}
 use Rattle.scan_source.specs.World.{World}
 use Rattle.conform_job.specs.Job.{JobData, file_of}
+use Rattle.reel_disk.specs.Call.{Call}
 use Rattle.reel_disk.specs.Disk.{Files}
 use Rattle.resume_ledger.specs.Hash.{digest_of_file}
 use Rattle.resume_ledger.specs.Look.{ViewState, IsViewOf, hash_at}
+use Rattle.reel_writer.specs.Reads.{MakesOnly, WasHashed}
 use Rattle.reel_writer.specs.Reel.{frames_of, IsSoundReel}
 use Rattle.reel_writer.specs.declared.damage.CheckFault.{CheckFault}
 use Rattle.reel_writer.specs.declared.damage.CheckFault.TheVariants.{Damaged, DiskFault, NoMemory}
@@ -53,4 +59,26 @@ IsCheckFor job view (Err (Damaged frame kept found)) =
 IsCheckFor job view (Err DiskFault) = Unit {0}
 IsCheckFor job view (Err NoMemory) = Unit {0}
 
--- The rest is said of one frame, which has one record or none.
+-- a frame of the job that has a record
+abbrev pub IsRecorded : JobData → ViewState → ℕ → Type 0
+IsRecorded job view i = (i < frames_of job) × (is_some (hash_at view i) ≡ true)
+
+-- the file of such a frame
+abbrev pub IsRecordedFile : JobData → ViewState → FileId → Type 0
+IsRecordedFile job view file = (i : ℕ) × IsRecorded job view i × (file ≡ file_of job i)
+
+-- Each of the first so many frames that has a record has it of what reads of its file gave.
+abbrev pub AreAsKept : JobData → ViewState → ℕ → List Call → Type 0
+AreAsKept job view count calls = (i : ℕ) → i < count → IfSome (hash_at view i) (λ kept. WasHashed (file_of job i) kept calls)
+
+-- what a check answers is of what it read
+abbrev pub IsCheckOf : JobData → ViewState → Result ℕ CheckFault → List Call → Type 0
+IsCheckOf job view (Ok records) calls = AreAsKept job view (frames_of job) calls
+IsCheckOf job view (Err (Damaged frame kept found)) calls = AreAsKept job view frame calls × WasHashed (file_of job frame) found calls
+IsCheckOf job view (Err DiskFault) calls = Unit {0}
+IsCheckOf job view (Err NoMemory) calls = Unit {0}
+
+-- The calls since those before are on files of frames with a record alone, and the answer is of what they gave.
+pub record ReadsReel (job : JobData) (view : ViewState) (result : Result ℕ CheckFault) (before after : List Call) : Type 0 where
+  pub on : MakesOnly (IsRecordedFile job view) before after
+  pub says : IsCheckOf job view result after

@@ -1,10 +1,12 @@
 //! Files of a reel's frames that are read ahead of a check: while one is read, those before it are hashed side by side.
-ghost use Rattle.std.specs.Prelude.{◌≡◌, ◌<◌, true, length, OnOk, IfOk, IfSome, IsErr};
+ghost use Rattle.std.specs.Prelude.{◌≡◌, ◌<◌, Bool, true, length, OnOk, IfOk, IfSome, IsErr};
 ghost use Rattle.conform_job.specs.Job.{JobData, file_of};
-ghost use Rattle.reel_disk.specs.Disk.{Files, view_of};
+ghost use Rattle.reel_disk.specs.Disk.{view_of};
 ghost use Rattle.resume_ledger.specs.Hash.{digest_of_file};
+ghost use Rattle.reel_writer.specs.Damage.{IsRecorded, IsRecordedFile};
+ghost use Rattle.reel_writer.specs.Reads.{MakesOnly, WasHashed};
 ghost use Rattle.reel_writer.specs.inside.Ahead.{AreRead, IsRead};
-ghost use Rattle.reel_disk.specs.State.{LeavesDisk, OnlyReads};
+ghost use Rattle.reel_disk.specs.State.{DiskState, LeavesDisk, OnlyReads};
 ghost use Rattle.reel_writer.specs.Reel.{frames_of};
 
 use crate::whole::read_whole;
@@ -26,7 +28,7 @@ pub(crate) struct Ahead {
 impl Ahead {
     /// So many rooms for files of one size, or as many as memory is left for.
     pub(crate) fn new(alloc: Global, count: usize, size: usize) -> Ahead
-        ensures free { (job : JobData) (files : Files) → AreRead job files result.rooms.items }
+        ensures free { (job : JobData) (tells : Bool) (disk : DiskState) → AreRead job tells disk result.rooms.items }
     {
         Ahead {
             rooms: rooms_of(alloc, count, size),
@@ -45,12 +47,14 @@ impl Ahead {
     ) -> Result<Option<[u8; 32]>, DiskFault>
         requires can_hash { H.can_hash }
         requires size { length view.now.gates ≡ frames_of job.now }
-        requires rooms { D.tells ≡ true → AreRead job.now (view_of (D.state disk.old).history) self.old.rooms.items }
+        requires rooms { AreRead job.now D.tells (D.state disk.old) self.old.rooms.items }
         ensures digest { IfOk result (λ found. IfSome found (λ digest. D.tells ≡ true
             → digest ≡ digest_of_file (view_of (D.state disk.old).history (file_of job.now i)))) }
-        ensures rooms { OnOk result (D.tells ≡ true
-            → AreRead job.now (view_of (D.state disk.old).history) self.new.rooms.items) }
+        ensures hashed { IfOk result (λ found. IfSome found (λ digest.
+            WasHashed (file_of job.now i) digest (D.state disk.new).calls)) }
+        ensures rooms { OnOk result (AreRead job.now D.tells (D.state disk.new) self.new.rooms.items) }
         ensures reads { OnlyReads D.tells (D.state disk.old) (D.state disk.new) }
+        ensures on { MakesOnly (IsRecordedFile job.now view.now) (D.state disk.old).calls (D.state disk.new).calls }
         ensures disk { LeavesDisk (IsErr result) (D.state disk.old) (D.state disk.new) }
     {
         // One room after the other gets a file, and then each step hashes a part of it.
@@ -66,9 +70,12 @@ impl Ahead {
 
 /// The digest of the file of frame `i`, if it lies in a room and all of it is hashed. The room is free then.
 fn take_digest(rooms: &mut [Room], i: u32) -> Option<[u8; 32]>
-    ensures digest { (job : JobData) (files : Files) → AreRead job files rooms.old
-        → IfSome result (λ digest. digest ≡ digest_of_file (files (file_of job i))) }
-    ensures rooms { (job : JobData) (files : Files) → AreRead job files rooms.old → AreRead job files rooms.new }
+    ensures digest { (job : JobData) (tells : Bool) (disk : DiskState) → AreRead job tells disk rooms.old
+        → IfSome result (λ digest. tells ≡ true → digest ≡ digest_of_file (view_of disk.history (file_of job i))) }
+    ensures hashed { (job : JobData) (tells : Bool) (disk : DiskState) → AreRead job tells disk rooms.old
+        → IfSome result (λ digest. WasHashed (file_of job i) digest disk.calls) }
+    ensures rooms { (job : JobData) (tells : Bool) (disk : DiskState) → AreRead job tells disk rooms.old
+        → AreRead job tells disk rooms.new }
 {
     for n in 0..rooms.len() {
         if rooms[n].frame == Some(i) && rooms[n].is_hashed() {
@@ -91,9 +98,10 @@ fn read_beside<D: Disk, H: Hasher>(
 ) -> Result<u32, DiskFault>
     requires can_hash { H.can_hash }
     requires size { length view.now.gates ≡ frames_of job.now }
-    requires rooms { D.tells ≡ true → AreRead job.now (view_of (D.state disk.old).history) rooms.old }
-    ensures rooms { OnOk result (D.tells ≡ true → AreRead job.now (view_of (D.state disk.old).history) rooms.new) }
+    requires rooms { AreRead job.now D.tells (D.state disk.old) rooms.old }
+    ensures rooms { OnOk result (AreRead job.now D.tells (D.state disk.new) rooms.new) }
     ensures reads { OnlyReads D.tells (D.state disk.old) (D.state disk.new) }
+    ensures on { MakesOnly (IsRecordedFile job.now view.now) (D.state disk.old).calls (D.state disk.new).calls }
     ensures disk { LeavesDisk (IsErr result) (D.state disk.old) (D.state disk.new) }
 {
     match rooms.split_first_mut() {
@@ -114,23 +122,25 @@ fn read_into<D: Disk, H: Hasher>(
 ) -> Result<u32, DiskFault>
     requires can_hash { H.can_hash }
     requires size { length view.now.gates ≡ frames_of job.now }
-    requires first { D.tells ≡ true → IsRead job.now (view_of (D.state disk.old).history) first.old }
-    requires others { D.tells ≡ true → AreRead job.now (view_of (D.state disk.old).history) others.old }
-    ensures first { OnOk result (D.tells ≡ true → IsRead job.now (view_of (D.state disk.old).history) first.new) }
-    ensures others { D.tells ≡ true → AreRead job.now (view_of (D.state disk.old).history) others.new }
+    requires first { IsRead job.now D.tells (D.state disk.old) first.old }
+    requires others { AreRead job.now D.tells (D.state disk.old) others.old }
+    ensures first { OnOk result (IsRead job.now D.tells (D.state disk.new) first.new) }
+    ensures others { AreRead job.now D.tells (D.state disk.new) others.new }
     ensures count { length others.new ≡ length others.old }
     ensures reads { OnlyReads D.tells (D.state disk.old) (D.state disk.new) }
+    ensures on { MakesOnly (IsRecordedFile job.now view.now) (D.state disk.old).calls (D.state disk.new).calls }
     ensures disk { LeavesDisk (IsErr result) (D.state disk.old) (D.state disk.new) }
 {
     make_way(first, others);
-    // Threads that begin are late by about as much as a read takes, so each has the same part of a file to hash.
+    // Threads that begin are late by about as much as two reads take, so each has the same part of a file to hash.
     let part = first.bytes.len().div_ceil(others.len().saturating_add(1));
     let mut read = || -> Result<u32, DiskFault>
         requires { (length view.now.gates ≡ frames_of job.now)
-            × (D.tells ≡ true → IsRead job.now (view_of (D.state disk.now).history) first.now) }
-        ensures room { OnOk result (D.tells ≡ true
-            → IsRead job.entry.now (view_of (D.state disk.entry.now).history) first.exit.now) }
+            × IsRead job.now D.tells (D.state disk.now) first.now }
+        ensures room { OnOk result (IsRead job.entry.now D.tells (D.state disk.exit.now) first.exit.now) }
         ensures reads { OnlyReads D.tells (D.state disk.entry.now) (D.state disk.exit.now) }
+        ensures on { MakesOnly (IsRecordedFile job.entry.now view.entry.now)
+            (D.state disk.entry.now).calls (D.state disk.exit.now).calls }
         ensures disk { LeavesDisk (IsErr result) (D.state disk.entry.now) (D.state disk.exit.now) }
     { read_on(disk, job, view, from, first, part) };
     hasher.hash_beside(others, part, &mut read)
@@ -138,10 +148,10 @@ fn read_into<D: Disk, H: Hasher>(
 
 /// If a file lies in the first room, it goes to one that is free, if there is one.
 fn make_way(first: &mut Room, others: &mut [Room])
-    ensures first { (job : JobData) (files : Files) → IsRead job files first.old → AreRead job files others.old
-        → IsRead job files first.new }
-    ensures others { (job : JobData) (files : Files) → IsRead job files first.old → AreRead job files others.old
-        → AreRead job files others.new }
+    ensures first { (job : JobData) (tells : Bool) (disk : DiskState) → IsRead job tells disk first.old
+        → AreRead job tells disk others.old → IsRead job tells disk first.new }
+    ensures others { (job : JobData) (tells : Bool) (disk : DiskState) → IsRead job tells disk first.old
+        → AreRead job tells disk others.old → AreRead job tells disk others.new }
     ensures count { length others.new ≡ length others.old }
 {
     if first.frame.is_none() {
@@ -166,9 +176,10 @@ fn read_on<D: Disk>(
     size: usize,
 ) -> Result<u32, DiskFault>
     requires size { length view.now.gates ≡ frames_of job.now }
-    requires room { D.tells ≡ true → IsRead job.now (view_of (D.state disk.old).history) room.old }
-    ensures room { OnOk result (D.tells ≡ true → IsRead job.now (view_of (D.state disk.old).history) room.new) }
+    requires room { IsRead job.now D.tells (D.state disk.old) room.old }
+    ensures room { OnOk result (IsRead job.now D.tells (D.state disk.new) room.new) }
     ensures reads { OnlyReads D.tells (D.state disk.old) (D.state disk.new) }
+    ensures on { MakesOnly (IsRecordedFile job.now view.now) (D.state disk.old).calls (D.state disk.new).calls }
     ensures disk { LeavesDisk (IsErr result) (D.state disk.old) (D.state disk.new) }
 {
     let mut next = from;
@@ -189,9 +200,9 @@ fn read_next<D: Disk>(
     room: &mut Room,
 ) -> Result<u32, DiskFault>
     requires size { length view.now.gates ≡ frames_of job.now }
-    ensures room { OnOk result (D.tells ≡ true
-        → IsRead job.now (view_of (D.state disk.old).history) room.new) }
+    ensures room { OnOk result (IsRead job.now D.tells (D.state disk.new) room.new) }
     ensures reads { OnlyReads D.tells (D.state disk.old) (D.state disk.new) }
+    ensures on { MakesOnly (IsRecordedFile job.now view.now) (D.state disk.old).calls (D.state disk.new).calls }
     ensures disk { LeavesDisk (IsErr result) (D.state disk.old) (D.state disk.new) }
 {
     room.frame = None;
@@ -213,7 +224,7 @@ fn read_next<D: Disk>(
 /// The first frame from `from` on that has a record.
 fn next_recorded(job: &Job, view: &LedgerView, from: u32) -> Option<u32>
     requires size { length view.now.gates ≡ frames_of job.now }
-    ensures within { IfSome result (λ i. i < frames_of job.now) }
+    ensures recorded { IfSome result (IsRecorded job.now view.now) }
 {
     for i in from..job.count() {
         if view.hash_of(i).is_some() {

@@ -6,8 +6,9 @@ ghost use Rattle.resume_ledger.specs.Hash.{digest_of_file};
 ghost use Rattle.reel_writer.specs.inside.Ahead.{AreRead};
 ghost use Rattle.reel_disk.specs.State.{LeavesDisk, OnlyReads};
 ghost use Rattle.reel_writer.specs.Reel.{frames_of};
-ghost use Rattle.reel_writer.specs.Damage.{HasChecked, IsCheckFor, IsIntactWhereSound};
-ghost use Rattle.reel_writer.specs.inside.Damage.{HasCheckedOne, IsCheckOneFor};
+ghost use Rattle.reel_writer.specs.Damage.{HasChecked, IsCheckFor, IsIntactWhereSound, IsRecorded, IsRecordedFile, ReadsReel};
+ghost use Rattle.reel_writer.specs.Reads.{MakesOnly, WasHashed};
+ghost use Rattle.reel_writer.specs.inside.Damage.{HasCheckedOne, IsCheckOneFor, ReadsFrame};
 
 use crate::ahead::Ahead;
 use crate::files::frame_len;
@@ -61,6 +62,9 @@ pub fn check<D: Disk, H: Hasher>(
 
     // The number of records, and which frame is damaged, are known over every disk.
     ensures known { IsCheckFor job.now view.now result }
+
+    // Over every disk it reads the files of frames with a record alone, and each digest is of what reads of that file gave.
+    ensures read { ReadsReel job.now view.now result (D.state disk.old).calls (D.state disk.new).calls }
     ensures disk { LeavesDisk (result ≡ Err CheckFault.DiskFault) (D.state disk.old) (D.state disk.new) }
 {
     let Ok(mut piece) = vec![in alloc; 0u8; PIECE] else {
@@ -85,12 +89,13 @@ fn check_all<D: Disk, H: Hasher>(
 ) -> Result<u32, CheckFault>
     requires can_hash { H.can_hash }
     requires size { length view.now.gates ≡ frames_of job.now }
-    requires ahead { D.tells ≡ true → AreRead job.now (view_of (D.state disk.old).history) ahead.old.rooms.items }
+    requires ahead { AreRead job.now D.tells (D.state disk.old) ahead.old.rooms.items }
     requires piece { length piece.old ≡ PIECE }
     ensures answer { D.tells ≡ true
         → HasChecked job.now view.now (view_of (D.state disk.old).history) result }
     ensures reads { OnlyReads D.tells (D.state disk.old) (D.state disk.new) }
     ensures known { IsCheckFor job.now view.now result }
+    ensures read { ReadsReel job.now view.now result (D.state disk.old).calls (D.state disk.new).calls }
     ensures disk { LeavesDisk (result ≡ Err CheckFault.DiskFault) (D.state disk.old) (D.state disk.new) }
 {
     let mut records = 0;
@@ -116,14 +121,14 @@ fn check_one<D: Disk, H: Hasher>(
     requires can_hash { H.can_hash }
     requires size { length view.now.gates ≡ frames_of job.now }
     requires within { i < frames_of job.now }
-    requires ahead { D.tells ≡ true → AreRead job.now (view_of (D.state disk.old).history) ahead.old.rooms.items }
+    requires ahead { AreRead job.now D.tells (D.state disk.old) ahead.old.rooms.items }
     requires piece { length piece.old ≡ PIECE }
     ensures answer { D.tells ≡ true
         → HasCheckedOne job.now view.now (view_of (D.state disk.old).history) i result }
     ensures reads { OnlyReads D.tells (D.state disk.old) (D.state disk.new) }
     ensures known { IsCheckOneFor view.now i result }
-    ensures ahead { OnOk result (D.tells ≡ true
-        → AreRead job.now (view_of (D.state disk.old).history) ahead.new.rooms.items) }
+    ensures read { ReadsFrame job.now view.now i result (D.state disk.old).calls (D.state disk.new).calls }
+    ensures ahead { OnOk result (AreRead job.now D.tells (D.state disk.new) ahead.new.rooms.items) }
     ensures piece { length piece.new ≡ PIECE }
     ensures disk { LeavesDisk (result ≡ Err CheckFault.DiskFault) (D.state disk.old) (D.state disk.new) }
 {
@@ -157,14 +162,15 @@ fn digest_of<D: Disk, H: Hasher>(
 ) -> Result<[u8; 32], DiskFault>
     requires can_hash { H.can_hash }
     requires size { length view.now.gates ≡ frames_of job.now }
-    requires within { i < frames_of job.now }
-    requires ahead { D.tells ≡ true → AreRead job.now (view_of (D.state disk.old).history) ahead.old.rooms.items }
+    requires recorded { IsRecorded job.now view.now i }
+    requires ahead { AreRead job.now D.tells (D.state disk.old) ahead.old.rooms.items }
     requires piece { length piece.old ≡ PIECE }
     ensures digest { IfOk result (λ digest. D.tells ≡ true
         → digest ≡ digest_of_file (view_of (D.state disk.old).history (file_of job.now i))) }
+    ensures hashed { IfOk result (λ digest. WasHashed (file_of job.now i) digest (D.state disk.new).calls) }
     ensures reads { OnlyReads D.tells (D.state disk.old) (D.state disk.new) }
-    ensures ahead { OnOk result (D.tells ≡ true
-        → AreRead job.now (view_of (D.state disk.old).history) ahead.new.rooms.items) }
+    ensures on { MakesOnly (IsRecordedFile job.now view.now) (D.state disk.old).calls (D.state disk.new).calls }
+    ensures ahead { OnOk result (AreRead job.now D.tells (D.state disk.new) ahead.new.rooms.items) }
     ensures piece { length piece.new ≡ PIECE }
     ensures disk { LeavesDisk (IsErr result) (D.state disk.old) (D.state disk.new) }
 {

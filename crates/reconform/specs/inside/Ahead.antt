@@ -11,20 +11,25 @@ use Rattle.frame_hash.specs.declared.Room.{Room}
 use Rattle.scan_source.specs.World.{World}
 use Rattle.conform_job.specs.Job.{JobData, file_of}
 use Rattle.frame_render.specs.Frame.{IsFileOf, frame_size}
-use Rattle.reel_disk.specs.Disk.{Files}
+use Rattle.reel_disk.specs.Disk.{view_of}
+use Rattle.reel_disk.specs.State.{DiskState}
 use Rattle.resume_ledger.specs.Look.{ViewState, hash_at}
+use Rattle.reel_writer.specs.Reads.{WasReadWhole}
 use Rattle.reel_writer.specs.Reel.{frames_of}
 use Rattle.reconform.specs.Donor.{HasIntactDonor}
 use Rattle.reconform.specs.inside.Donor.{donor_in}
 use Rattle.reconform.specs.Plan.{plan_at}
+use Rattle.reconform.specs.Taken.{IsTakenOver}
 use Rattle.reconform.specs.declared.plan.FramePlan.{FramePlan}
 
--- `files` are those of the old folder, where it tells them.
-pub record HoldsDonor (new old : JobData) (tells : Bool) (files : Files) (by_plan : BTreeMap FramePlan ℕ) (room : Room) : Type 0 where
+-- `held` is the old folder: its files, where it tells them, and the calls that were made on it.
+pub record HoldsDonor (new old : JobData) (tells : Bool) (held : DiskState) (by_plan : BTreeMap FramePlan ℕ) (room : Room) : Type 0 where
   pub size : length room.bytes.items ≡ frame_size new
   pub within : IfSome room.frame (λ i. i < frames_of new)
   pub file : IfSome room.frame (λ i. tells ≡ true
-      → IfSome (donor_in by_plan (plan_at new i)) (λ j. files (file_of old j) ≡ Some room.bytes.items))
+      → IfSome (donor_in by_plan (plan_at new i)) (λ j. view_of held.history (file_of old j) ≡ Some room.bytes.items))
+  pub read : IfSome room.frame (λ i.
+      IfSome (donor_in by_plan (plan_at new i)) (λ j. WasReadWhole (file_of old j) room.bytes.items held.calls))
   pub begun : IsBegun room
 
 pub record IsKept (new : JobData) (view : ViewState) (by_plan : BTreeMap FramePlan ℕ) (i : ℕ) (digest : List ℕ) : Type 0 where
@@ -33,16 +38,17 @@ pub record IsKept (new : JobData) (view : ViewState) (by_plan : BTreeMap FramePl
   pub kept : IfSome (hash_at view donor) (λ hash. hash ≡ digest)
 
 pub record HoldsFrame (new old : JobData) (told : Option World) (tells : Bool) (view : ViewState)
-    (files : Files) (room : Room) : Type 0 where
+    (held : DiskState) (room : Room) : Type 0 where
   pub size : length room.bytes.items ≡ frame_size new
   pub within : IfSome room.frame (λ i. i < frames_of new)
-  pub donor : IfSome room.frame (λ i. tells ≡ true → HasIntactDonor new old view files i)
+  pub donor : IfSome room.frame (λ i. tells ≡ true → HasIntactDonor new old view (view_of held.history) i)
   pub file : IfSome room.frame (λ i. IsFileOf new told i room.bytes.items)
+  pub taken : IfSome room.frame (λ i. IsTakenOver new old view held.calls (file_of new i) room.bytes.items)
 
-pub record CanFinish (new old : JobData) (told : Option World) (tells : Bool) (view : ViewState) (files : Files)
+pub record CanFinish (new old : JobData) (told : Option World) (tells : Bool) (view : ViewState) (held : DiskState)
     (room : Room) : Type 0 where
-  pub holds : HoldsFrame new old told tells view files room
+  pub holds : HoldsFrame new old told tells view held room
   pub begun : IsBegun room
 
-abbrev pub AreReady : JobData → JobData → Option World → Bool → ViewState → Files → List Room → Type 0
-AreReady new old told tells view files rooms = All (CanFinish new old told tells view files) rooms
+abbrev pub AreReady : JobData → JobData → Option World → Bool → ViewState → DiskState → List Room → Type 0
+AreReady new old told tells view held rooms = All (CanFinish new old told tells view held) rooms

@@ -2,6 +2,7 @@
 --     WasLookedAt      the old folder, where a view of its ledger was had
 --     HasDonors      two jobs that are alike, and the map of their donors
 --     IsPart      what a part does to the new folder once that is open
+--     IsFinish      the same of a finish, and the bytes that it wrote
 --     CanTake      what is known where frames are taken over
 --     IsInOrder      how far an adoption is
 --     middle_of      where a step's second half begins
@@ -11,7 +12,7 @@
 use Rattle.std.specs.Prelude.{◌≡◌, ℕ, ◌+◌, ◌-◌, ◌/◌, ◌≤◌, Bool, true, false, List, length, Option, IfSome, Result, OnOk, IfErr, IsErr}
 use Rattle.std.specs.BTreeMap.{BTreeMap}
 use Rattle.scan_source.specs.World.{World}
-use Rattle.conform_job.specs.Job.{JobData}
+use Rattle.conform_job.specs.Job.{JobData, file_of}
 use Rattle.reel_disk.specs.Call.{OnlyWrites}
 use Rattle.reel_disk.specs.Disk.{Files, view_of}
 use Rattle.reel_disk.specs.Runs.{Spares}
@@ -26,6 +27,7 @@ use Rattle.reconform.specs.inside.Adopt.{AreServed, IsReelServed, IsSameReel, Is
 use Rattle.reconform.specs.inside.Donor.{AreLeast}
 use Rattle.reconform.specs.Laws.{HasTitle}
 use Rattle.reconform.specs.Plan.{AreAlike}
+use Rattle.reconform.specs.Taken.{OnlyMakes, TakesOnly}
 use Rattle.reconform.specs.declared.adopting.AdoptFault.{AdoptFault}
 use Rattle.reconform.specs.declared.plan.FramePlan.{FramePlan}
 use Rattle.reconform.specs.declared.whole.Reached.{Reached}
@@ -59,6 +61,12 @@ pub record IsPart (job : JobData) (told : Option World) (tells : Bool) (gates : 
   pub spares : tells ≡ true → Spares before.history after.history (IsUnfinishedFile job gates)
   pub own : OnlyWrites (IsRunFile job 0 (frames_of job)) before.calls after.calls
 
+-- The part of one frame whose gate was closed: the bytes of its file are these.
+pub record IsFinish (job : JobData) (told : Option World) (tells : Bool) (gates : List Bool) (i : ℕ) (bytes : List ℕ)
+    (before after : DiskState) : Type 0 where
+  pub part : IsPart job told tells gates before after
+  pub made : OnlyMakes (λ q written. (q ≡ file_of job i) × (written ≡ bytes)) before.calls after.calls
+
 -- how far an adoption is, in order
 pub record IsInOrder (count : ℕ) (at : Reached) : Type 0 where
   pub adopted : at.adopted ≤ at.made
@@ -81,6 +89,8 @@ pub record HasServed {D E : Type 0} (new old : JobData) (told : Option World)
   pub stays : IsSameReel reel reel_after
   pub stays_open : OnOk result (reel_after.ledger.closed ≡ false)
   pub part : IsPart new told reel_tells reel.ledger.gates (reel_state reel.disk) (reel_state reel_after.disk)
+  pub taken : TakesOnly new old view (state disk).calls (state disk_after).calls
+      (reel_state reel.disk).calls (reel_state reel_after.disk).calls
   pub reads : OnlyReads tells (state disk) (state disk_after)
   pub disks : LeavesBoth (IsErr result) (state disk) (state disk_after) (reel_state reel.disk) (reel_state reel_after.disk)
 
@@ -96,6 +106,8 @@ pub record HasServedTo {D E T : Type 0} (new old : JobData) (told : Option World
   pub stays : IsSameReel reel reel_after
   pub stays_open : OnOk result (reel_after.ledger.closed ≡ false)
   pub part : IsPart new told reel_tells reel.ledger.gates (reel_state reel.disk) (reel_state reel_after.disk)
+  pub taken : TakesOnly new old view (state disk).calls (state disk_after).calls
+      (reel_state reel.disk).calls (reel_state reel_after.disk).calls
   pub reads : OnlyReads tells (state disk) (state disk_after)
   pub disks : LeavesBoth (IsErr result) (state disk) (state disk_after) (reel_state reel.disk) (reel_state reel_after.disk)
 
@@ -109,4 +121,6 @@ pub record HasAdopted {D E : Type 0} (new old : JobData) (told : Option World)
   pub stays_open : OnOk result (reel_after.ledger.closed ≡ false)
   pub end : IfErr result IsStop
   pub part : IsPart new told reel_tells reel.ledger.gates (reel_state reel.disk) (reel_state reel_after.disk)
+  pub taken : TakesOnly new old view (state disk).calls (state disk_after).calls
+      (reel_state reel.disk).calls (reel_state reel_after.disk).calls
   pub reads : OnlyReads tells (state disk) (state disk_after)

@@ -1,17 +1,19 @@
 -- What is added up of a picture's boxes, and what is drawn of the sheet.
 --     HasPicture job picture cell      the sums of all boxes of a picture
 --     AreCells job pictures cells      those of several pictures
---     HasDrawn tone Told exact old new before after      these colours were drawn
-use Rattle.std.specs.Prelude.{◌≡◌, ℕ, ◌+◌, ◌*◌, ◌/◌, ◌%◌, ◌^◌, ◌<◌, ◌≤◌, max, min, All, Bool, true, List, [], ◌∷◌, ◌++◌, length, map, slice_index, slice_index_or, Option, Some, None}
+--     HasShown job view tells frames before after pictures      the pictures of some frames were read
+--     HasPictures job view tells frames before after cells      the cells have pictures that were read
+--     HasDrawn tone job view tells frames colours before after old new least greatest      what was read of some frames was drawn
+use Rattle.std.specs.Prelude.{◌≡◌, ℕ, ◌+◌, ◌*◌, ◌/◌, ◌%◌, ◌^◌, ◌<◌, ◌≤◌, max, min, All, Bool, true, List, [], ◌∷◌, ◌++◌, drop, length, map, slice_index, slice_index_or, take, Option, Some, None}
 use Rattle.std.specs.List.{flat_map, fold, range_with_len, sum_by}
 use Rattle.conform_job.specs.Job.{JobData}
 use Rattle.frame_render.specs.Frame.{pixel_count}
 use Rattle.reel_qc.specs.Counts.{blue_of, green_of, red_of}
-use Rattle.reel_disk.specs.Disk.{History, view_of}
+use Rattle.reel_disk.specs.Disk.{view_of}
+use Rattle.reel_disk.specs.State.{DiskState}
 use Rattle.dpx_header.specs.Writing.{header_of}
 use Rattle.resume_ledger.specs.Look.{ViewState}
-use Rattle.reel_qc.specs.Sheet.{box_colour, box_pixels, cell_height, cell_width, picture_at, rounded_mean, sheet_colours, sheet_head, sheet_width, toned_bytes}
-use Rattle.reel_qc.specs.inside.Sheet.{row_colours}
+use Rattle.reel_qc.specs.Sheet.{ReadsPictures, box_colour, box_pixels, cell_frames, cell_height, cell_picture, cell_width, pictures_file, pictures_peak, rounded_mean, sheet_colours, sheet_head, sheet_width, toned_bytes}
 use Rattle.reel_qc.specs.declared.sheet.boxes.Boxes.{Boxes}
 use Rattle.reel_qc.specs.declared.sheet.drawing.Drawing.{Drawing}
 
@@ -70,27 +72,34 @@ mean_at boxes at = rounded_mean (slice_index boxes.red.items at) (slice_index bo
     ∷ rounded_mean (slice_index boxes.blue.items at) (slice_index boxes.pixels.items at)
     ∷ []
 
--- each cell has the sums of its picture
+-- each cell has the sums of its picture, and one behind the last picture has none
 pub record AreCells (job : JobData) (pictures : List (Option (List ℕ))) (cells : List (Option Boxes)) : Type 0 where
-  pub size : length pictures ≡ length cells
+  pub few : length pictures ≤ length cells
   pub each : (c : ℕ) → c < length cells → HasPicture job (slice_index_or pictures c None) (slice_index_or cells c None)
 
--- A cell has the sums of some picture. Where the files are told, it is this one.
-pub record IsCell (job : JobData) (Told : Type 0) (exact : Option (List ℕ)) (cell : Option Boxes) : Type 0 where
-  pub picture : Option (List ℕ)
-  pub told : Told → picture ≡ exact
-  pub sums : HasPicture job picture cell
+-- Some frames were read between these moments, and gave these pictures. Where the files are told, they are the cells' of the files.
+pub record HasShown (job : JobData) (view : ViewState) (tells : Bool) (frames : List ℕ) (before after : DiskState)
+    (pictures : List (Option (List ℕ))) : Type 0 where
+  pub told : tells ≡ true → pictures ≡ map (cell_picture job view (view_of before.history)) frames
+  pub read : ReadsPictures job view frames pictures before.calls after.calls
 
--- The cells of the first places have some pictures. Where the files are told, they are these.
-pub record HasPictures (job : JobData) (Told : Type 0) (exact : ℕ → Option (List ℕ)) (cells : List (Option Boxes)) : Type 0 where
+-- The cells have the sums of pictures that were read so.
+pub record HasPictures (job : JobData) (view : ViewState) (tells : Bool) (frames : List ℕ) (before after : DiskState)
+    (cells : List (Option Boxes)) : Type 0 where
   pub pictures : List (Option (List ℕ))
-  pub told : Told → pictures ≡ map exact (range_with_len 0 (length cells))
+  pub shown : HasShown job view tells frames before after pictures
   pub are : AreCells job pictures cells
 
--- those of a row of the sheet, by what the disk tells
-abbrev pub HasRow : JobData → ViewState → Bool → History → ℕ → List (Option Boxes) → Type 0
-HasRow job view tells history row cells =
-    HasPictures job (tells ≡ true) (λ c. picture_at job view (view_of history) (row * 8 + c)) cells
+-- the frame of a place, where it has a cell; those of a row, of which the last may be shorter
+abbrev pub place_frames : Option ℕ → List ℕ
+place_frames None = []
+place_frames (Some i) = i ∷ []
+
+abbrev pub row_frames : JobData → ℕ → List ℕ
+row_frames job row = take 8 (drop (row * 8) (cell_frames job))
+
+abbrev pub HasRow : JobData → ViewState → Bool → ℕ → (before after : DiskState) → List (Option Boxes) → Type 0
+HasRow job view tells row before after cells = HasPictures job view tells (row_frames job row) before after cells
 
 -- the colour at column x of line y of a row of cells, also as a list; the line; and all lines of that row
 abbrev pub pictured_colour : JobData → List (Option (List ℕ)) → (x y : ℕ) → List ℕ
@@ -122,18 +131,28 @@ abbrev pub DrawsCells : List ℕ → JobData → List (Option Boxes) → (List (
 DrawsCells tone job cells colours old new = (pictures : List (Option (List ℕ))) → AreCells job pictures cells
     → IsDrawn tone (colours pictures) old.bytes.items new.bytes.items old.greatest new.greatest
 
--- Some colours were. Where the files are told, they are these.
-pub record HasDrawn (tone : List ℕ) (Told : Type 0) (exact : List (List ℕ)) (old new : List ℕ) (before after : ℕ) : Type 0 where
-  pub colours : List (List ℕ)
-  pub told : Told → colours ≡ exact
-  pub drawn : IsDrawn tone colours old new before after
+-- Some frames were read, and these colours of their pictures were drawn.
+pub record HasDrawn (tone : List ℕ) (job : JobData) (view : ViewState) (tells : Bool) (frames : List ℕ)
+    (colours : List (Option (List ℕ)) → List (List ℕ)) (before after : DiskState) (old new : List ℕ) (least greatest : ℕ) : Type 0 where
+  pub pictures : List (Option (List ℕ))
+  pub shown : HasShown job view tells frames before after pictures
+  pub drawn : IsDrawn tone (colours pictures) old new least greatest
 
--- A row of the sheet was drawn, and the whole sheet behind its header, by what the disk tells.
-abbrev pub DrawsRow : List ℕ → JobData → ViewState → Bool → History → ℕ → Drawing → Drawing → Type 0
-DrawsRow tone job view tells history row old new =
-    HasDrawn tone (tells ≡ true) (row_colours job view (view_of history) row) old.bytes.items new.bytes.items old.greatest new.greatest
+-- A row of the sheet was drawn, and the whole sheet behind its header.
+abbrev pub DrawsRow : List ℕ → JobData → ViewState → Bool → ℕ → (before after : DiskState) → Drawing → Drawing → Type 0
+DrawsRow tone job view tells row before after old new =
+    HasDrawn tone job view tells (row_frames job row) (λ pictures. pictured_row job pictures row) before after
+    old.bytes.items new.bytes.items old.greatest new.greatest
 
-abbrev pub DrawsSheet : List ℕ → JobData → ViewState → Bool → History → Drawing → Type 0
-DrawsSheet tone job view tells history drawing =
-    HasDrawn tone (tells ≡ true) (sheet_colours job view (view_of history)) (header_of (sheet_head job))
+abbrev pub DrawsSheet : List ℕ → JobData → ViewState → Bool → (before after : DiskState) → Drawing → Type 0
+DrawsSheet tone job view tells before after drawing =
+    HasDrawn tone job view tells (cell_frames job) (sheet_colours job) before after (header_of (sheet_head job))
     drawing.bytes.items 0 drawing.greatest
+
+-- The cells' frames were read, and these are the bytes of their pictures' sheet, and its greatest code.
+pub record HasSheetOf (tone : List ℕ) (job : JobData) (view : ViewState) (tells : Bool) (before after : DiskState)
+    (bytes : List ℕ) (peak : ℕ) : Type 0 where
+  pub pictures : List (Option (List ℕ))
+  pub shown : HasShown job view tells (cell_frames job) before after pictures
+  pub bytes_are : bytes ≡ pictures_file tone job pictures
+  pub peak_is : peak ≡ pictures_peak tone job pictures

@@ -1,13 +1,12 @@
 //! The cells of the sheet: which record frames they show, and the sums over the frames' files.
-ghost use Rattle.std.specs.Prelude.{◌≡◌, ◌+◌, ◌-◌, ◌*◌, ◌<◌, ◌≤◌, All, true, length, slice_get, IfOk, IfSome, IsErrOf, Err};
+ghost use Rattle.std.specs.Prelude.{◌≡◌, ◌+◌, ◌-◌, ◌*◌, ◌<◌, ◌≤◌, All, [], ◌∷◌, length, slice_get, IfOk, IfSome, IsErrOf, Err};
 ghost use Rattle.cf_base.specs.declared.event.EventRec.{EventRec};
 ghost use Rattle.reel_disk.specs.State.{LeavesDisk, OnlyReads};
 ghost use Rattle.frame_render.specs.Frame.{pixel_count};
 ghost use Rattle.record_timeline.specs.Accepted.{first_frame, frame_count};
-ghost use Rattle.reel_disk.specs.Disk.{view_of};
 ghost use Rattle.reel_writer.specs.Reel.{frames_of};
-ghost use Rattle.reel_qc.specs.inside.Boxes.{HasPicture, IsCell, HasRow};
-ghost use Rattle.reel_qc.specs.Sheet.{cell_frames, cell_picture, first_frames, frames_in, most_cells, place_picture, whole_picture};
+ghost use Rattle.reel_qc.specs.inside.Boxes.{HasPicture, HasPictures, HasRow, place_frames};
+ghost use Rattle.reel_qc.specs.Sheet.{cell_frames, first_frames, frames_in, most_cells, whole_picture};
 
 use crate::sheet::boxes::{Boxes, boxes_of};
 use crate::words::{Buffers, pixels_of, read_frame};
@@ -81,7 +80,7 @@ pub(crate) fn load_row<D: Disk>(
     requires row { row ≤ LARGEST }
     requires piece { length buffers.old.piece.items ≡ PIECE }
     ensures cells { IfOk result (λ cells. length cells.items ≡ 8) }
-    ensures pictures { IfOk result (λ cells. HasRow job.now view.now D.tells (D.state disk.old).history row cells.items) }
+    ensures pictures { IfOk result (λ cells. HasRow job.now view.now D.tells row (D.state disk.old) (D.state disk.new) cells.items) }
     ensures piece { length buffers.new.piece.items ≡ PIECE }
     ensures reads { OnlyReads D.tells (D.state disk.old) (D.state disk.new) }
     ensures disk { LeavesDisk (IsErrOf result DiskFail.DiskFault) (D.state disk.old) (D.state disk.new) }
@@ -116,8 +115,8 @@ fn load_cell<D: Disk>(
     requires size { length view.now.gates ≡ frames_of job.now }
     requires within { IfSome frame (λ i. i < frames_of job.now) }
     requires piece { length buffers.old.piece.items ≡ PIECE }
-    ensures cell { IfOk result
-        (IsCell job.now (D.tells ≡ true) (place_picture job.now view.now (view_of (D.state disk.old).history) frame)) }
+    ensures cell { IfOk result (λ cell. HasPictures job.now view.now D.tells (place_frames frame)
+        (D.state disk.old) (D.state disk.new) (cell ∷ [])) }
     ensures piece { length buffers.new.piece.items ≡ PIECE }
     ensures reads { OnlyReads D.tells (D.state disk.old) (D.state disk.new) }
     ensures disk { LeavesDisk (IsErrOf result DiskFail.DiskFault) (D.state disk.old) (D.state disk.new) }
@@ -140,7 +139,8 @@ fn load_frame<D: Disk>(
     requires size { length view.now.gates ≡ frames_of job.now }
     requires within { i < frames_of job.now }
     requires piece { length buffers.old.piece.items ≡ PIECE }
-    ensures cell { IfOk result (IsCell job.now (D.tells ≡ true) (cell_picture job.now view.now (view_of (D.state disk.old).history) i)) }
+    ensures cell { IfOk result (λ cell. HasPictures job.now view.now D.tells (i ∷ [])
+        (D.state disk.old) (D.state disk.new) (cell ∷ [])) }
     ensures piece { length buffers.new.piece.items ≡ PIECE }
     ensures reads { OnlyReads D.tells (D.state disk.old) (D.state disk.new) }
     ensures disk { LeavesDisk (IsErrOf result DiskFail.DiskFault) (D.state disk.old) (D.state disk.new) }

@@ -5,6 +5,7 @@ ghost use Rattle.conform_job.specs.Job.{file_of};
 ghost use Rattle.reel_disk.specs.Disk.{view_of};
 ghost use Rattle.reel_writer.specs.Reel.{frames_of};
 ghost use Rattle.reel_qc.specs.inside.Table.{AddsCounts, HasCounted};
+ghost use Rattle.reel_qc.specs.Reads.{ReadsFrame, ReadsWords};
 ghost use Rattle.reel_qc.specs.Words.{frame_words, words_in};
 
 use crate::table::counter::Counter;
@@ -37,7 +38,8 @@ pub(crate) fn count_frame<D: Disk, C: Counter>(
     requires room { 0 < length buffers.old.words.items }
     requires few { length buffers.old.words.items ≤ 16777216 }
     ensures counted { IfOk result (λ counts. HasCounted (map (λ p. p.kind) counting.now.probes.now) (D.tells ≡ true)
-        (frame_words job.now (view_of (D.state disk.old).history (file_of job.now i))) counts.items) }
+        (frame_words job.now (view_of (D.state disk.old).history (file_of job.now i)))
+        (λ words. ReadsFrame job.now i words (D.state disk.old).calls (D.state disk.new).calls) counts.items) }
     ensures piece { length buffers.new.piece.items ≡ PIECE }
     ensures room { length buffers.new.words.items ≡ length buffers.old.words.items }
     ensures reads { OnlyReads D.tells (D.state disk.old) (D.state disk.new) }
@@ -74,7 +76,8 @@ fn count_file<D: Disk, C: Counter>(
     requires few { length words.old ≤ 16777216 }
     requires counts { length counts.old ≡ length counting.now.probes.now }
     ensures added { OnOk result (AddsCounts (map (λ p. p.kind) counting.now.probes.now) (D.tells ≡ true)
-        (words_in 0 most (view_of (D.state disk.old).history id)) most counts.old counts.new) }
+        (words_in 0 most (view_of (D.state disk.old).history id))
+        (λ words. ReadsWords id 0 most words (D.state disk.old).calls (D.state disk.new).calls) most counts.old counts.new) }
     ensures reads { OnlyReads D.tells (D.state disk.old) (D.state disk.new) }
     ensures disk { LeavesDisk (IsErrOf result DiskFail.DiskFault) (D.state disk.old) (D.state disk.new) }
 {
@@ -103,7 +106,9 @@ fn count_part<D: Disk, C: Counter>(
     requires few { length words.old ≤ 16777216 }
     requires counts { length counts.old ≡ length counting.now.probes.now }
     ensures added { OnOk result (AddsCounts (map (λ p. p.kind) counting.now.probes.now) (D.tells ≡ true)
-        (words_in first (length words.old) (view_of (D.state disk.old).history id)) (length words.old) counts.old counts.new) }
+        (words_in first (length words.old) (view_of (D.state disk.old).history id))
+        (λ read. ReadsWords id first (length words.old) read (D.state disk.old).calls (D.state disk.new).calls)
+        (length words.old) counts.old counts.new) }
     ensures reads { OnlyReads D.tells (D.state disk.old) (D.state disk.new) }
     ensures disk { LeavesDisk (IsErrOf result DiskFail.DiskFault) (D.state disk.old) (D.state disk.new) }
 {

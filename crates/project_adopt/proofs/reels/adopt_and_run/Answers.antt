@@ -22,7 +22,7 @@ returns-in-Ok-clause-went g c =
     let adopted = c.in-Ok.ensures in
     let by = went_on g.N.Work.job g.O.Work.job g.N.Work.files (g.S.Scans.state c.args.scan.now).world c.requires.files g.D.Disk.tells
     (g.D.Disk.state c.args.old.now) (g.D.Disk.state c.adopt.new.old) (g.D.Disk.state c.args.disk.now) (g.D.Disk.state c.adopt.new.disk) (g.D.Disk.state c.run_rest.new.disk)
-    adopted.safe.sound_has adopted.reads adopted.safe.run adopted.safe.spares adopted.safe.writes c.in-Ok.done adopted.safe.own adopted.answer adopted.sealed
+    adopted.safe.sound_has adopted.reads adopted.safe.run adopted.safe.spares adopted.safe.writes adopted.taken c.in-Ok.done adopted.safe.own adopted.answer adopted.sealed
     (g.S.Scans.state c.args.scan.now).loads (g.S.Scans.state c.run_rest.new.scan).loads in
     match_each _ _ _ _ _ c.run_rest.ensures.ran (λ text rest. by _ _ (rest_of c.requires.job rest)) (λ outcome rest. by _ _ (rest_of c.requires.job rest))
 
@@ -31,7 +31,7 @@ returns-in-Ok-clause-promise g c told =
     let adopted = c.in-Ok.ensures in
     let by = promised_on g.N.Work.job g.O.Work.job g.N.Work.files (g.S.Scans.state c.args.scan.now).world c.requires.files g.D.Disk.tells
     (g.D.Disk.state c.args.old.now) (g.D.Disk.state c.adopt.new.old) (g.D.Disk.state c.args.disk.now) (g.D.Disk.state c.adopt.new.disk) (g.D.Disk.state c.run_rest.new.disk)
-    adopted.safe.sound_has adopted.reads adopted.safe.run adopted.safe.spares adopted.safe.writes c.in-Ok.done adopted.safe.own adopted.answer adopted.sealed
+    adopted.safe.sound_has adopted.reads adopted.safe.run adopted.safe.spares adopted.safe.writes adopted.taken c.in-Ok.done adopted.safe.own adopted.answer adopted.sealed
     (g.S.Scans.state c.args.scan.now).loads (g.S.Scans.state c.run_rest.new.scan).loads in
     match_each _ _ _ _ _ c.run_rest.ensures.ran (λ text rest. by _ _ (rest_of c.requires.job rest) told) (λ outcome rest. by _ _ (rest_of c.requires.job rest) told)
 
@@ -58,7 +58,7 @@ returns-in-Err-clause-went g c =
     let adopted = c.in-Err.ensures in
     went_no_further g.N.Work.job g.O.Work.job g.N.Work.files (g.S.Scans.state c.args.scan.now).world c.requires.files g.D.Disk.tells
     (g.D.Disk.state c.args.old.now) (g.D.Disk.state c.adopt.new.old) (g.D.Disk.state c.args.disk.now) (g.D.Disk.state c.adopt.new.disk) (g.D.Disk.state c.adopt.new.disk)
-    adopted.safe.sound_has adopted.reads adopted.safe.run adopted.safe.spares adopted.safe.writes c.in-Err.fault adopted.safe.own adopted.answer
+    adopted.safe.sound_has adopted.reads adopted.safe.run adopted.safe.spares adopted.safe.writes adopted.taken c.in-Err.fault adopted.safe.own adopted.answer
     (λ of_old. ap (λ (d : _). folder_state g.D.Disk.tells (g.D.Disk.state d)) (adopted.untouched of_old)) _ _ _ c.outcome_of_fault.ensures
 
 pub returns-in-Err-clause-promise : goal.returns-in-Err-clause-promise
@@ -66,7 +66,7 @@ returns-in-Err-clause-promise g c told =
     let adopted = c.in-Err.ensures in
     promised_no_further g.N.Work.job g.O.Work.job g.N.Work.files (g.S.Scans.state c.args.scan.now).world c.requires.files g.D.Disk.tells
     (g.D.Disk.state c.args.old.now) (g.D.Disk.state c.adopt.new.old) (g.D.Disk.state c.args.disk.now) (g.D.Disk.state c.adopt.new.disk) (g.D.Disk.state c.adopt.new.disk)
-    adopted.safe.sound_has adopted.reads adopted.safe.run adopted.safe.spares adopted.safe.writes c.in-Err.fault adopted.safe.own adopted.answer
+    adopted.safe.sound_has adopted.reads adopted.safe.run adopted.safe.spares adopted.safe.writes adopted.taken c.in-Err.fault adopted.safe.own adopted.answer
     (λ of_old. ap (λ (d : _). folder_state g.D.Disk.tells (g.D.Disk.state d)) (adopted.untouched of_old)) (g.S.Scans.state c.args.scan.now).loads _ g.N.Work.job.parts.digest c.outcome_of_fault.ensures told
 
 pub returns-in-Err-clause-kind : goal.returns-in-Err-clause-kind

@@ -12,7 +12,7 @@ pub returns-in-Ok-clause-made : goal.returns-in-Ok-clause-made
 returns-in-Ok-clause-made g c =
     let state = λ (d : _). folder_state g.D.Disk.tells (g.D.Disk.state d) in
     let by = sheet_by c.args.job.now (state c.args.disk.now) (state c.look.new.disk) (state c.sheeted-reply.new.disk) c.in-Ok.view c.digest.result c.count.result c.args.tone.now.table
-    c.digest.ensures (rw c.timeline.ensures at c.count.ensures.count) refl (folder_read c.look.ensures.reads) c.sheeted-reply.ensures.writes c.sheeted-reply.ensures.past c.sheeted-reply.ensures.spares c.in-Ok.ensures.answer c.in-Ok.ensures.known in
+    c.digest.ensures (rw c.timeline.ensures at c.count.ensures.count) refl (folder_read c.look.ensures.reads) c.sheeted-reply.ensures.writes c.sheeted-reply.ensures.past c.sheeted-reply.ensures.spares c.in-Ok.ensures.answer c.in-Ok.ensures.known c.in-Ok.ensures.calls in
     match_each _ _ _ _ _ c.sheeted-reply.ensures.sheeted (λ text sheeted. by _ _ sheeted) (λ outcome sheeted. by _ _ sheeted)
 
 pub returns-in-Err-clause-made : goal.returns-in-Err-clause-made

@@ -1,5 +1,5 @@
-use Rattle.std.proofs.Common.{rules, ◌≡◌, ◌≤◌, ℕ, List, length, refl, sym, ap, ◌∙◌, subst}
-use Rattle.std.specs.Prelude.{Err}
+use Rattle.std.proofs.Common.{rules, ◌≡◌, ◌≤◌, inl, inr, ℕ, List, length, refl, sym, ap, ◌∙◌, subst}
+use Rattle.std.specs.Prelude.{Ok, Err}
 use Rattle.conform_job.specs.Job.{JobData}
 use Rattle.record_timeline.specs.Accepted.{RecordReel, frame_count}
 use Rattle.reel_disk.specs.Disk.{view_of}
@@ -8,6 +8,7 @@ use Rattle.reel_disk.proofs.Sparing.{spares_itself}
 use Rattle.reel_disk.proofs.Writing.{writing_none}
 use Rattle.resume_ledger.specs.Attach.{IsRefused, IsRefusalFor}
 use Rattle.resume_ledger.specs.declared.attach.OpenFault.TheVariants as cause
+use Rattle.resume_ledger.specs.Calls.{Looks}
 use Rattle.resume_ledger.specs.Look.{IsViewOf}
 use Rattle.resume_ledger.proofs.Reading.{spares_writes, reads_along}
 use Rattle.frame_render.proofs.Sizes.{length-frame_file}
@@ -79,3 +80,28 @@ returns-in-Err-clause-safe g c =
       writes = λ told. spares_writes may _ _ (spares_itself held may);
       own = writing_none;
     }
+
+-- over every disk the look gave no view, and nothing was asked of the new folder
+pub returns-in-Err-clause-taken : goal.returns-in-Err-clause-taken
+returns-in-Err-clause-taken g c =
+    let digest = c.digest.ensures ∙ ap (λ (job : JobData). job.parts.digest) c.requires.old_job in
+    let count = c.count.ensures.count ∙ ap (λ (t : RecordReel). frame_count t.events) c.timeline.ensures ∙ ap frames_of c.requires.old_job in
+    inl (
+      c.in-Err.fault,
+      subst (λ n. Looks g.O.Work.job.parts.digest n (Err c.in-Err.fault) (g.D.Disk.state c.args.old.now).calls (g.D.Disk.state c.look.new.disk).calls) count
+          (subst (λ (d : List ℕ). Looks d c.count.result (Err c.in-Err.fault) (g.D.Disk.state c.args.old.now).calls (g.D.Disk.state c.look.new.disk).calls) digest c.in-Err.ensures.calls),
+      refl,
+    )
+
+-- or it gave one, by which frames were taken over
+pub returns-in-Ok-clause-taken : goal.returns-in-Ok-clause-taken
+returns-in-Ok-clause-taken g c =
+    let digest = c.digest.ensures ∙ ap (λ (job : JobData). job.parts.digest) c.requires.old_job in
+    let count = c.count.ensures.count ∙ ap (λ (t : RecordReel). frame_count t.events) c.timeline.ensures ∙ ap frames_of c.requires.old_job in
+    inr (
+      c.in-Ok.view,
+      (g.D.Disk.state c.look.new.disk).calls,
+      subst (λ n. Looks g.O.Work.job.parts.digest n (Ok c.in-Ok.view) (g.D.Disk.state c.args.old.now).calls (g.D.Disk.state c.look.new.disk).calls) count
+          (subst (λ (d : List ℕ). Looks d c.count.result (Ok c.in-Ok.view) (g.D.Disk.state c.args.old.now).calls (g.D.Disk.state c.look.new.disk).calls) digest c.in-Ok.ensures.calls),
+      c.adopt_owned.ensures.taken,
+    )

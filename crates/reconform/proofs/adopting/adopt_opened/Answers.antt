@@ -4,6 +4,7 @@ use Rattle.resume_ledger.specs.Ledger.{AreFlagsOf, IsFit, IsInForce}
 use Rattle.resume_ledger.specs.declared.layout.Version.TheVariants.{Two}
 use Rattle.reel_writer.specs.Reel.{frames_of}
 use Rattle.reconform.specs.inside.Parts.{IsPart}
+use Rattle.reconform.specs.Taken.{TakesOnly}
 use Rattle.reconform.proofs.Going.{both_counted, both_passed, flags_are, is_fit}
 use Rattle.reconform.proofs.adopting.adopt_opened.Goals as goal
 
@@ -40,3 +41,11 @@ returns-in-Err-clause-disks g c = rw c.close-in-Err.ensures (both_passed c.in-Er
 pub returns-in-Ok-clause-sealed : goal.returns-in-Ok-clause-sealed
 returns-in-Ok-clause-sealed g c told =
     subst (λ d. IsInForce Two (view_of (g.E.Disk.state d).history)) (sym c.close.ensures) (c.acks.ensures.reel.agrees c.in-Ok.ensures.adopted.stays_open told).sealed
+
+pub returns-in-Ok-clause-taken : goal.returns-in-Ok-clause-taken
+returns-in-Ok-clause-taken g c =
+    subst (λ d. TakesOnly g.N.Work.job g.O.Work.job c.args.view.now (g.D.Disk.state c.args.old.now).calls (g.D.Disk.state c.adopt_alike.new.old).calls (g.E.Disk.state c.args.reel.disk).calls (g.E.Disk.state d).calls) (sym c.close.ensures) c.adopt_alike.ensures.adopted.taken
+
+pub returns-in-Err-clause-taken : goal.returns-in-Err-clause-taken
+returns-in-Err-clause-taken g c =
+    subst (λ d. TakesOnly g.N.Work.job g.O.Work.job c.args.view.now (g.D.Disk.state c.args.old.now).calls (g.D.Disk.state c.adopt_alike.new.old).calls (g.E.Disk.state c.args.reel.disk).calls (g.E.Disk.state d).calls) (sym c.close-in-Err.ensures) c.adopt_alike.ensures.adopted.taken

@@ -1,5 +1,5 @@
 use Rattle.std.proofs.Common.{◌≡◌, inl, refl, sym, ap, ◌∙◌, subst}
-use Rattle.std.specs.Prelude.{Err}
+use Rattle.std.specs.Prelude.{Ok, Err}
 use Rattle.cf_base.specs.declared.file.FileId.{FileId}
 use Rattle.reel_disk.specs.Call.{OnlyWrites}
 use Rattle.reel_disk.specs.Disk.{view_of}
@@ -18,6 +18,7 @@ use Rattle.reconform.specs.Adopt.{AdoptionMayWrite, IsOfOld, IsWhyUnadopted}
 use Rattle.reconform.specs.inside.Adopt.{by_new}
 use Rattle.reconform.proofs.Answering.{err_is, may_adopt, may_refuse, never_old, never_opened, new_disk, new_refused, opened_answer}
 use Rattle.reconform.proofs.Going.{both_behind, new_asked}
+use Rattle.reconform.proofs.Taking.{taken_along, taken_opening}
 use Rattle.reconform.proofs.adopting.adopt_owned.Goals as goal
 
 pub returns-in-Ok-clause-answer : goal.returns-in-Ok-clause-answer
@@ -83,3 +84,10 @@ returns-in-Err-clause-safe g c =
       own = subst (λ (e : AdoptFault). OnlyWrites (AdoptionMayWrite g.N.Work.job (Err e)) (g.E.Disk.state c.args.disk).calls (g.E.Disk.state c.in-Err.disk).calls) (sym c.of_new.ensures)
           (writing_wider (λ q. may_refuse g.N.Work.job q c.in-Err.fault) begun.own);
     }
+
+-- the opening writes no file but the ledger's
+pub returns-in-Ok-clause-taken : goal.returns-in-Ok-clause-taken
+returns-in-Ok-clause-taken g c = taken_along (taken_opening (Ok c.in-Ok.reel.ledger) c.in-Ok.ensures.own) c.adopt_opened.ensures.taken
+
+pub returns-in-Err-clause-taken : goal.returns-in-Err-clause-taken
+returns-in-Err-clause-taken g c = taken_opening (Err c.in-Err.fault) c.in-Err.ensures.own

@@ -2,6 +2,7 @@ use Rattle.std.proofs.Common.{rules}
 use Rattle.resume_ledger.proofs.Reading.{reads_none}
 use Rattle.reconform.proofs.Going.{both_itself, part_itself}
 use Rattle.reconform.proofs.Serving.{adopted_none, same_itself}
+use Rattle.reconform.proofs.Taking.{taken_none}
 use Rattle.reconform.proofs.whole.adopt_alike.Goals as goal
 
 pub adopt_all-requires-clause-can : goal.adopt_all-requires-clause-can
@@ -20,6 +21,7 @@ returns-clause-adopted g c = record {
   stays_open = c.requires.is_open;
   end = tt;
   part = part_itself;
+  taken = taken_none;
   reads = reads_none;
 }
 

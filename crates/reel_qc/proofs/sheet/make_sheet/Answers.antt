@@ -2,7 +2,7 @@
 use Rattle.std.proofs.Common.{◌∙◌, inl}
 use Rattle.reel_disk.proofs.Moments.{passes_extends}
 use Rattle.reel_disk.proofs.Sparing.{still_spares}
-use Rattle.reel_qc.proofs.SheetLaws.{sheet_extends, sheet_firmly, sheet_spares, sheet_written, stays_acked, stays_sound}
+use Rattle.reel_qc.proofs.SheetLaws.{sheet_extends, sheet_firmly, sheet_made, sheet_spares, sheet_written, stays_acked, stays_sound}
 use Rattle.reel_qc.proofs.sheet.make_sheet.Goals as goal
 
 pub returns-in-Ok-clause-sheet : goal.returns-in-Ok-clause-sheet
@@ -49,3 +49,6 @@ returns-clause-writes g c = sheet_written c.write_firmly.result c.deref.result.n
 
 pub returns-in_err-sheet-clause-writes : goal.returns-in_err-sheet-clause-writes
 returns-in_err-sheet-clause-writes g c = inl c.in_err-sheet.ensures.reads.writes
+
+pub returns-in-Ok-clause-made : goal.returns-in-Ok-clause-made
+returns-in-Ok-clause-made g c = sheet_made _ _ _ _ _ (g.D.Disk.state c.sheet_of.new.disk) _ c.deref.result.now c.in_ok-sheet.sheet.done _ c.in_ok-sheet.ensures.drawn c.in_ok-sheet.ensures.cells c.deref.ensures.value c.in-Ok.ensures.calls

@@ -21,3 +21,6 @@ returns-clause-rows c = ap (λ (l : List ℕ). (length l + 7) / 8) c.requires.fr
 pub returns-clause-fit : goal.returns-clause-fit
 returns-clause-fit c =
     subst (λ n. n * cell_height c.args.job.now ≤ 4096) (sym (ap (λ (l : List ℕ). (length l + 7) / 8) c.requires.frames)) (rows_fit c.args.job.now)
+
+pub returns-clause-wide : goal.returns-clause-wide
+returns-clause-wide c = let planned = c.recall.ensures.job.planned in omega (arith, planned.some_width)

@@ -7,7 +7,7 @@ use Rattle.reel_qc.proofs.table.quality_table.Goals as goal
 pub returns-clause-table : goal.returns-clause-table
 returns-clause-table g c told =
     let has = c.in_ok-frames.ensures.rows in
-    table_told _ c.args.view.now c.args.job.now _ _ _ _ _ _ has (table_made _ c.args.view.now c.args.job.now _ _ _ _ _ _ _ c.new-text.ensures.items c.in_ok-put_kinds.ensures has c.in_ok-put_frames.ensures) told
+    table_told _ c.args.view.now c.args.job.now _ _ _ _ _ _ _ _ has (table_made _ c.args.view.now c.args.job.now _ _ _ _ _ _ _ _ _ c.new-text.ensures.items c.in_ok-put_kinds.ensures has c.in_ok-put_frames.ensures) told
 
 pub returns-clause-sound : goal.returns-clause-sound
 returns-clause-sound g c told world of sound =
@@ -20,5 +20,6 @@ returns-clause-known g c =
     record {
       rows = has.rows;
       frames = has.frames_are;
-      form = table_made _ c.args.view.now c.args.job.now _ _ _ _ _ _ _ c.new-text.ensures.items c.in_ok-put_kinds.ensures has c.in_ok-put_frames.ensures;
+      read = has.read;
+      form = table_made _ c.args.view.now c.args.job.now _ _ _ _ _ _ _ _ _ c.new-text.ensures.items c.in_ok-put_kinds.ensures has c.in_ok-put_frames.ensures;
     }

@@ -1,7 +1,6 @@
-use Rattle.reel_disk.specs.Disk.{view_of}
 use Rattle.reel_writer.proofs.Rooms.{rest_read}
 use Rattle.reel_writer.proofs.ahead.read_beside.Goals as goal
 
 pub read_into-requires-clause-others : goal.read_into-requires-clause-others
-read_into-requires-clause-others g c told =
-    rest_read c.args.job.now (view_of (g.D.Disk.state c.args.disk.now).history) c.in-Some.first.now c.in-Some.others.now c.args.rooms.now c.in-Some.ensures.cases.0 (c.requires.rooms told)
+read_into-requires-clause-others g c =
+    rest_read c.args.job.now g.D.Disk.tells (g.D.Disk.state c.args.disk.now) c.in-Some.first.now c.in-Some.others.now c.args.rooms.now c.in-Some.ensures.cases.0 c.requires.rooms

@@ -1,9 +1,14 @@
-use Rattle.reel_disk.specs.Disk.{view_of}
-use Rattle.reel_writer.proofs.Rooms.{all_read_on}
+use Rattle.std.proofs.Common.{rules}
+use Rattle.reel_writer.specs.Damage.{IsRecordedFile}
+use Rattle.reel_writer.proofs.Rooms.{all_read_on, all_still}
 use Rattle.reel_writer.proofs.ahead.read_into.Goals as goal
 
+pub hash_beside-requires-clause-work : goal.hash_beside-requires-clause-work
+hash_beside-requires-clause-work g c = (c.requires.size, c.make_way.ensures.first c.args.job.now g.D.Disk.tells (g.D.Disk.state c.args.disk.now) c.requires.first c.requires.others)
+
 pub returns-clause-others : goal.returns-clause-others
-returns-clause-others g c told =
-    let files = view_of (g.D.Disk.state c.args.disk.now).history in
-    all_read_on c.args.job.now files _ c.make_way.new.others c.hash_beside.new.rooms c.hash_beside.ensures.hashed
-    (c.make_way.ensures.others c.args.job.now files (c.requires.first told) (c.requires.others told))
+returns-clause-others g c =
+    let before = g.D.Disk.state c.args.disk.now in
+    all_still c.args.job.now g.D.Disk.tells (IsRecordedFile c.args.job.now c.args.view.now) before _ (search rules) (search rules) _
+    (all_read_on c.args.job.now g.D.Disk.tells before _ c.make_way.new.others c.hash_beside.new.rooms c.hash_beside.ensures.hashed
+    (c.make_way.ensures.others c.args.job.now g.D.Disk.tells before c.requires.first c.requires.others))

@@ -1,4 +1,6 @@
 use Rattle.reel_disk.specs.Disk.{view_of}
+use Rattle.reel_writer.specs.Damage.{IsRecordedFile}
+use Rattle.reel_writer.proofs.ReadCalls.{made_none}
 use Rattle.reel_writer.proofs.Checking.{sound_intact}
 use Rattle.reel_writer.proofs.damage.check.Goals as goal
 
@@ -7,3 +9,7 @@ returns-in_default-clause-intact g c told world = sound_intact c.args.job.now c.
 
 pub returns-clause-intact : goal.returns-clause-intact
 returns-clause-intact g c told world = sound_intact c.args.job.now c.args.view.now (view_of (g.D.Disk.state c.args.disk.now).history) world
+
+-- no file was read
+pub returns-in_default-clause-read : goal.returns-in_default-clause-read
+returns-in_default-clause-read g c = record { on = made_none (IsRecordedFile c.args.job.now c.args.view.now) _; says = tt }

@@ -1,22 +1,21 @@
-use Rattle.std.proofs.Common.{rules, ◌≡◌, true, get_or, ap, sym, ◌∙◌, subst, arith}
+use Rattle.std.proofs.Common.{rules, ◌≡◌, get_or, ap, sym, ◌∙◌, subst, arith}
 use Rattle.std.specs.Prelude.{Ok, Err}
-use Rattle.reel_disk.specs.Disk.{Moment, view_of}
 use Rattle.reel_writer.specs.Reel.{frames_of}
 use Rattle.reconform.specs.inside.Parts.{HasServedTo}
-use Rattle.reconform.proofs.Dressing.{donors_along, finish_along, free_can_finish, free_donor}
+use Rattle.reconform.proofs.Dressing.{free_can_finish, free_donor}
 use Rattle.reconform.proofs.Going.{looked_along}
 use Rattle.reconform.proofs.Ranges.{failed_before, none_served, served_along, served_as}
 use Rattle.reconform.proofs.takeover.Takeover.adopt_each.Goals as goal
 
 pub loop-init : goal.loop-init
 loop-init g c =
-    let files = view_of (g.D.Disk.state c.args.old.now).history in
+    let held = g.D.Disk.state c.args.old.now in
     record {
       order = record { adopted = omega arith; made = omega arith; read = omega arith };
       done = none_served g.N.Work.job g.O.Work.job g.N.Work.files g.D.Disk.tells g.D.Disk.state g.E.Disk.tells g.E.Disk.state c.args.self.now.view.now 0 c.args.old.now c.args.reel.now c.requires.is_open;
       is_open = c.requires.is_open;
-      made = λ k d lt. free_can_finish g.N.Work.job g.O.Work.job g.N.Work.files g.D.Disk.tells c.args.self.now.view.now files (get_or c.args.some.now k d) (c.requires.some.1 k d lt);
-      read = λ k d lt. free_donor g.N.Work.job g.O.Work.job g.D.Disk.tells files c.args.self.now.donors.now.by_plan (get_or c.args.others.now k d) (c.requires.others.1 k d lt);
+      made = λ k d lt. free_can_finish g.N.Work.job g.O.Work.job g.N.Work.files g.D.Disk.tells c.args.self.now.view.now held (get_or c.args.some.now k d) (c.requires.some.1 k d lt);
+      read = λ k d lt. free_donor g.N.Work.job g.O.Work.job g.D.Disk.tells held c.args.self.now.donors.now.by_plan (get_or c.args.others.now k d) (c.requires.others.1 k d lt);
       full = (c.requires.some.0, c.requires.others.0);
     }
 
@@ -28,16 +27,6 @@ go_on_twice-requires-clause-can g c = record {
   donors = c.requires.can.donors;
 }
 
-pub go_on_twice-requires-clause-made : goal.go_on_twice-requires-clause-made
-go_on_twice-requires-clause-made g c =
-    finish_along g.N.Work.job g.O.Work.job g.N.Work.files g.D.Disk.tells c.args.self.now.view.now (view_of (g.D.Disk.state c.args.old.now).history) (view_of (g.D.Disk.state c.loop.old).history)
-    (λ told. ap (λ (m : Moment). m.view) (sym (c.loop.invariant.done.reads.still told).same)) c.loop.some c.loop.invariant.made
-
-pub go_on_twice-requires-clause-read : goal.go_on_twice-requires-clause-read
-go_on_twice-requires-clause-read g c =
-    donors_along g.N.Work.job g.O.Work.job g.N.Work.files g.D.Disk.tells c.args.self.now.view.now (view_of (g.D.Disk.state c.args.old.now).history) (view_of (g.D.Disk.state c.loop.old).history)
-    (λ told. ap (λ (m : Moment). m.view) (sym (c.loop.invariant.done.reads.still told).same)) c.args.self.now.donors.now.by_plan c.loop.others c.loop.invariant.read
-
 pub go_on_twice-requires-clause-size : goal.go_on_twice-requires-clause-size
 go_on_twice-requires-clause-size g c = c.loop.invariant.done.stays.size ∙ c.requires.size
 
@@ -45,17 +34,14 @@ pub loop-preserved : goal.loop-preserved
 loop-preserved g c =
     let inv = c.loop.invariant in
     let step = c.in-Ok.ensures in
-    let back : g.D.Disk.tells ≡ true → view_of (g.D.Disk.state c.loop.old).history ≡ view_of (g.D.Disk.state c.args.old.now).history = λ told. ap (λ (m : Moment). m.view) (inv.done.reads.still told).same in
     record {
       order = step.at.0;
       done = served_along g.N.Work.job g.O.Work.job g.N.Work.files g.D.Disk.tells g.D.Disk.state g.E.Disk.tells g.E.Disk.state c.args.self.now.view.now 0 c.loop.at.adopted c.in-Ok.to.adopted tt (Ok (tt {0})) c.args.old.now c.loop.old c.go_on_twice.new.old c.args.reel.now c.loop.reel c.go_on_twice.new.reel inv.done
           (served_as g.N.Work.job g.O.Work.job g.N.Work.files g.D.Disk.tells g.D.Disk.state g.E.Disk.tells g.E.Disk.state c.args.self.now.view.now c.loop.at.adopted c.in-Ok.to.adopted c.in-Ok.to tt c.loop.old c.go_on_twice.new.old c.loop.reel c.go_on_twice.new.reel
           (subst (λ n. HasServedTo g.N.Work.job g.O.Work.job g.N.Work.files g.D.Disk.tells g.D.Disk.state g.E.Disk.tells g.E.Disk.state c.args.self.now.view.now c.loop.at.adopted n (Ok c.in-Ok.to) c.loop.old c.go_on_twice.new.old c.loop.reel c.go_on_twice.new.reel) (sym step.at.1) step.done));
       is_open = step.done.stays_open;
-      made = finish_along g.N.Work.job g.O.Work.job g.N.Work.files g.D.Disk.tells c.args.self.now.view.now (view_of (g.D.Disk.state c.loop.old).history) (view_of (g.D.Disk.state c.args.old.now).history)
-          back c.go_on_twice.new.made step.made;
-      read = donors_along g.N.Work.job g.O.Work.job g.N.Work.files g.D.Disk.tells c.args.self.now.view.now (view_of (g.D.Disk.state c.loop.old).history) (view_of (g.D.Disk.state c.args.old.now).history)
-          back c.args.self.now.donors.now.by_plan c.go_on_twice.new.read step.read;
+      made = step.made;
+      read = step.read;
       full = search rules;
     }
 
@@ -79,11 +65,6 @@ adopt_frames-requires-clause-can g c = record {
   looked = looked_along g.N.Work.job g.O.Work.job g.D.Disk.tells (g.D.Disk.state c.args.old.now).history (g.D.Disk.state c.loop.old).history c.loop.invariant.done.reads.still g.N.Work.files c.args.self.now.view.now c.requires.can.looked;
   donors = c.requires.can.donors;
 }
-
-pub adopt_frames-requires-clause-rooms : goal.adopt_frames-requires-clause-rooms
-adopt_frames-requires-clause-rooms g c =
-    finish_along g.N.Work.job g.O.Work.job g.N.Work.files g.D.Disk.tells c.args.self.now.view.now (view_of (g.D.Disk.state c.args.old.now).history) (view_of (g.D.Disk.state c.loop.old).history)
-    (λ told. ap (λ (m : Moment). m.view) (sym (c.loop.invariant.done.reads.still told).same)) c.loop.some c.loop.invariant.made
 
 pub adopt_frames-requires-clause-size : goal.adopt_frames-requires-clause-size
 adopt_frames-requires-clause-size g c = c.loop.invariant.done.stays.size ∙ c.requires.size

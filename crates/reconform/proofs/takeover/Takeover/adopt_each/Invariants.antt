@@ -1,6 +1,5 @@
 use Rattle.std.proofs.Common.{◌≡◌, ◌<◌, length, false}
 use Rattle.std.specs.Prelude.{All, Ok}
-use Rattle.reel_disk.specs.Disk.{view_of}
 use Rattle.reel_writer.specs.Reel.{frames_of}
 use Rattle.reconform.specs.inside.Ahead.{AreReady, HoldsDonor}
 use Rattle.reconform.specs.inside.Parts.{HasServedTo, IsInOrder}
@@ -12,7 +11,7 @@ invariant-loop g l = record {
   order : IsInOrder (frames_of g.N.Work.job) l.at;
   done : HasServedTo g.N.Work.job g.O.Work.job g.N.Work.files g.D.Disk.tells g.D.Disk.state g.E.Disk.tells g.E.Disk.state l.fn.self.view.now 0 l.at.adopted (Ok (tt {0})) l.fn.old l.old l.fn.reel l.reel;
   is_open : l.reel.ledger.closed ≡ false;
-  made : AreReady g.N.Work.job g.O.Work.job g.N.Work.files g.D.Disk.tells l.fn.self.view.now (view_of (g.D.Disk.state l.fn.old).history) l.some;
-  read : All (HoldsDonor g.N.Work.job g.O.Work.job g.D.Disk.tells (view_of (g.D.Disk.state l.fn.old).history) l.fn.self.donors.now.by_plan) l.others;
+  made : AreReady g.N.Work.job g.O.Work.job g.N.Work.files g.D.Disk.tells l.fn.self.view.now (g.D.Disk.state l.old) l.some;
+  read : All (HoldsDonor g.N.Work.job g.O.Work.job g.D.Disk.tells (g.D.Disk.state l.old) l.fn.self.donors.now.by_plan) l.others;
   full : (0 < length l.some) × (0 < length l.others);
 }

@@ -1,8 +1,6 @@
-use Rattle.std.proofs.Common.{rules, ◌+◌, ap, sym, ◌∙◌, subst, arith}
+use Rattle.std.proofs.Common.{rules, ◌+◌, ◌∙◌, subst, arith}
 use Rattle.std.specs.Prelude.{Ok, Err}
-use Rattle.reel_disk.specs.Disk.{Moment, view_of}
 use Rattle.reconform.specs.inside.Parts.{HasServedTo}
-use Rattle.reconform.proofs.Dressing.{finish_along}
 use Rattle.reconform.proofs.Going.{looked_along}
 use Rattle.reconform.proofs.Ranges.{failed_before, none_served, one_served, served_along}
 use Rattle.reconform.proofs.takeover.Takeover.adopt_frames.Goals as goal
@@ -25,11 +23,6 @@ adopt_frame-requires-clause-can g c = record {
   donors = c.requires.can.donors;
 }
 
-pub adopt_frame-requires-clause-rooms : goal.adopt_frame-requires-clause-rooms
-adopt_frame-requires-clause-rooms g c =
-    finish_along g.N.Work.job g.O.Work.job g.N.Work.files g.D.Disk.tells c.args.self.now.view.now (view_of (g.D.Disk.state c.args.old.now).history) (view_of (g.D.Disk.state c.loop-i.old).history)
-    (λ told. ap (λ (m : Moment). m.view) (sym (c.loop-i.invariant.done.reads.still told).same)) c.loop-i.rooms c.loop-i.invariant.rooms
-
 pub adopt_frame-requires-clause-size : goal.adopt_frame-requires-clause-size
 adopt_frame-requires-clause-size g c = c.loop-i.invariant.done.stays.size ∙ c.requires.size
 
@@ -43,8 +36,7 @@ loop-i-preserved g c =
       done = served_along g.N.Work.job g.O.Work.job g.N.Work.files g.D.Disk.tells g.D.Disk.state g.E.Disk.tells g.E.Disk.state c.args.self.now.view.now c.args.from c.loop-i.i (c.loop-i.i + 1) tt (Ok (tt {0})) c.args.old.now c.loop-i.old c.adopt_frame.new.old c.args.reel.now c.loop-i.reel c.adopt_frame.new.reel inv.done
           (one_served g.N.Work.job g.O.Work.job g.N.Work.files g.D.Disk.tells g.D.Disk.state g.E.Disk.tells g.E.Disk.state c.args.self.now.view.now c.loop-i.i (Ok (tt {0})) c.loop-i.old c.adopt_frame.new.old c.loop-i.reel c.adopt_frame.new.reel c.in-Ok.ensures.done);
       is_open = c.in-Ok.ensures.done.stays_open;
-      rooms = finish_along g.N.Work.job g.O.Work.job g.N.Work.files g.D.Disk.tells c.args.self.now.view.now (view_of (g.D.Disk.state c.loop-i.old).history) (view_of (g.D.Disk.state c.args.old.now).history)
-          (λ told. ap (λ (m : Moment). m.view) (inv.done.reads.still told).same) c.adopt_frame.new.rooms c.in-Ok.ensures.rooms;
+      rooms = c.in-Ok.ensures.rooms;
       some = search rules;
     }
 

@@ -1,6 +1,5 @@
 use Rattle.std.proofs.Common.{◌≡◌, ◌<◌, ◌≤◌, length, false}
 use Rattle.std.specs.Prelude.{All, Ok}
-use Rattle.reel_disk.specs.Disk.{view_of}
 use Rattle.reconform.specs.inside.Ahead.{CanFinish}
 use Rattle.reconform.specs.inside.Parts.{HasServedTo}
 use Rattle.reconform.proofs.takeover.Takeover.adopt_frames.Given as goal
@@ -12,6 +11,6 @@ invariant-loop-i g l = record {
   within : l.i ≤ l.to;
   done : HasServedTo g.N.Work.job g.O.Work.job g.N.Work.files g.D.Disk.tells g.D.Disk.state g.E.Disk.tells g.E.Disk.state l.fn.self.view.now l.from l.i (Ok (tt {0})) l.fn.old l.old l.fn.reel l.reel;
   is_open : l.reel.ledger.closed ≡ false;
-  rooms : All (CanFinish g.N.Work.job g.O.Work.job g.N.Work.files g.D.Disk.tells l.fn.self.view.now (view_of (g.D.Disk.state l.fn.old).history)) l.rooms;
+  rooms : All (CanFinish g.N.Work.job g.O.Work.job g.N.Work.files g.D.Disk.tells l.fn.self.view.now (g.D.Disk.state l.old)) l.rooms;
   some : 0 < length l.rooms;
 }

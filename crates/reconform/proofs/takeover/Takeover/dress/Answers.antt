@@ -1,15 +1,18 @@
-use Rattle.std.proofs.Common.{rules, ◌≡◌, ◌<◌, true, Option, ℕ, List, drop, length, sym, ap, ◌∙◌, subst}
+use Rattle.std.proofs.Common.{rules, ◌≡◌, ◌<◌, true, Option, ℕ, List, ◌++◌, drop, length, refl, sym, ap, ◌∙◌, subst}
 use Rattle.std.specs.Prelude.{Some, IfSome}
+use Rattle.dpx_header.specs.Writing.{header_of}
 use Rattle.conform_job.specs.Job.{file_of}
-use Rattle.frame_render.specs.Frame.{IsFileOf, frame_file}
+use Rattle.frame_render.specs.Frame.{IsFileOf, frame_file, out_head}
 use Rattle.frame_render.proofs.Filled.{refilled}
 use Rattle.scan_source.specs.World.{file_at}
 use Rattle.reel_disk.specs.Disk.{view_of}
+use Rattle.reel_writer.specs.Reads.{WasReadWhole}
 use Rattle.reel_writer.specs.Reel.{frames_of}
 use Rattle.reconform.specs.Donor.{HasIntactDonor}
 use Rattle.reconform.specs.inside.Donor.{donor_in}
 use Rattle.reconform.specs.Plan.{plan_at}
-use Rattle.reconform.proofs.Dressing.{dressed_donor, dressed_pixels, fresh_begun, sizes_alike}
+use Rattle.reconform.specs.Taken.{IsTakenOver}
+use Rattle.reconform.proofs.Dressing.{dressed_donor, dressed_pixels, dressed_read, fresh_begun, sizes_alike}
 use Rattle.reconform.proofs.takeover.Takeover.dress.Goals as goal
 
 pub rehead-requires-clause-pixels : goal.rehead-requires-clause-pixels
@@ -33,6 +36,17 @@ returns-then-is_kept g c =
     let at : after.frame ≡ Some c.in-Some.i = c.digest-digest.ensures.frame ∙ c.in-Some.is in
     let long : length after.bytes.items ≡ after.bytes.len = search rules in
     let size : length after.bytes.items ≡ length room.bytes.items = ap (λ v. length v.items) c.digest-digest.ensures.bytes in
+    let calls = (g.D.Disk.state c.args._old.now).calls in
+    let was = subst (λ (frame : Option ℕ). IfSome frame (λ i. IfSome (donor_in by_plan (plan_at g.N.Work.job i)) (λ j. WasReadWhole (file_of g.O.Work.job j) room.bytes.items calls))) c.in-Some.is c.requires.read.read in
+    let taken : IsTakenOver g.N.Work.job g.O.Work.job c.args.self.now.view.now calls (file_of g.N.Work.job c.in-Some.i) c.rehead.new.file = record {
+      frame = c.in-Some.i;
+      within = subst (λ (frame : Option ℕ). IfSome frame (λ i. i < frames_of g.N.Work.job)) c.in-Some.is c.requires.read.within;
+      named = refl;
+      file = room.bytes.items;
+      read = dressed_read g.N.Work.job g.O.Work.job g.N.Work.files g.D.Disk.tells files c.args.self.now.view.now by_plan c.in-Some.i room.bytes.items c.digest-digest.result
+          c.requires.can.donors (c.is_kept.ensures.kept c.if-is_kept.true) read calls was (c.digest-digest.ensures.digest c.requires.read.begun) c.requires.read.size;
+      made = c.rehead.ensures.made ∙ ap (λ bytes. header_of (out_head g.N.Work.job c.in-Some.i) ++ drop 2048 bytes) (c.deref_mut.ensures.value ∙ ap (λ v. v.items) c.digest-digest.ensures.bytes);
+    } in
     let same = refilled after.bytes.len c.rehead.new.file after.bytes.items long (c.rehead.ensures.size ∙ sym c.requires.read.size ∙ sym size ∙ long) in
     record {
       frame = record {
@@ -42,6 +56,7 @@ returns-then-is_kept g c =
           donor = subst (λ (frame : Option ℕ). IfSome frame (λ i. g.D.Disk.tells ≡ true → HasIntactDonor g.N.Work.job g.O.Work.job c.args.self.now.view.now files i)) (sym at)
               (dressed_donor g.N.Work.job g.O.Work.job g.N.Work.files g.D.Disk.tells files c.args.self.now.view.now by_plan c.in-Some.i room.bytes.items c.digest-digest.result
               c.requires.can.donors (c.is_kept.ensures.kept c.if-is_kept.true) read (c.digest-digest.ensures.digest c.requires.read.begun) (c.requires.read.size ∙ sizes_alike g.N.Work.job g.O.Work.job c.requires.can.donors.alike));
+          taken = subst (λ (made : Option ℕ × List ℕ). IfSome made.0 (λ i. IsTakenOver g.N.Work.job g.O.Work.job c.args.self.now.view.now calls (file_of g.N.Work.job i) made.1)) (λ t. (sym at t, sym same t)) taken;
           file = subst (λ (made : Option ℕ × List ℕ). IfSome made.0 (λ i. IsFileOf g.N.Work.job g.N.Work.files i made.1)) (λ t. (sym at t, sym same t)) c.rehead.ensures.file;
         };
         begun = fresh_begun _ (record { none = c.digest-digest.ensures.fresh.none; holds = c.digest-digest.ensures.fresh.holds });

@@ -1,6 +1,5 @@
 use Rattle.std.proofs.Common.{◌<◌, length, sym, ◌∙◌, arith}
 use Rattle.std.proofs.lemmas.List.{get_or-set_other, length-set}
-use Rattle.reel_disk.specs.Disk.{view_of}
 use Rattle.reconform.specs.inside.Ahead.{CanFinish}
 use Rattle.reconform.proofs.Dressing.{more_rooms}
 use Rattle.reconform.proofs.takeover.Takeover.dress_all.Goals as goal
@@ -13,7 +12,7 @@ loop-n-preserved g c =
     let lt : c.loop-n.n < length c.loop-n.rooms = omega (arith, test, count) in
     let size = length-set c.loop-n.rooms c.loop-n.n c.dress.new.room in
     record {
-      frames = more_rooms (CanFinish g.N.Work.job g.O.Work.job g.N.Work.files g.D.Disk.tells c.args.self.now.view.now (view_of (g.D.Disk.state c.args._old.now).history)) c.loop-n.rooms c.loop-n.n c.dress.new.room lt inv.frames c.dress.ensures.frame;
+      frames = more_rooms (CanFinish g.N.Work.job g.O.Work.job g.N.Work.files g.D.Disk.tells c.args.self.now.view.now (g.D.Disk.state c.args._old.now)) c.loop-n.rooms c.loop-n.n c.dress.new.room lt inv.frames c.dress.ensures.frame;
       left = λ k d behind. get_or-set_other c.loop-n.rooms c.loop-n.n k c.dress.new.room d (λ same. absurd (omega (arith, same, behind))) ∙ inv.left k d (omega (arith, behind));
       count = size ∙ inv.count;
       within = omega (arith, lt, size);

@@ -1,6 +1,7 @@
-use Rattle.std.proofs.Common.{◌≡◌, true}
-use Rattle.reel_disk.specs.Disk.{view_of}
+use Rattle.std.proofs.Common.{◌≡◌}
 use Rattle.reel_disk.specs.State.{OnlyReads}
+use Rattle.reel_writer.specs.Damage.{IsRecordedFile}
+use Rattle.reel_writer.specs.Reads.{MakesOnly}
 use Rattle.reel_writer.specs.inside.Ahead.{AreRead}
 use Rattle.reel_writer.proofs.ahead.Ahead.digest_of.Given as goal
 
@@ -8,7 +9,8 @@ use Rattle.reel_writer.proofs.ahead.Ahead.digest_of.Given as goal
 abbrev pub invariant-loop : goal.invariant-loop
 invariant-loop g l = record {
   reads : OnlyReads g.D.Disk.tells (g.D.Disk.state l.fn.disk) (g.D.Disk.state l.disk);
-  rooms : g.D.Disk.tells ≡ true → AreRead l.job (view_of (g.D.Disk.state l.fn.disk).history) l.self.rooms.items;
+  on : MakesOnly (IsRecordedFile l.job l.view) (g.D.Disk.state l.fn.disk).calls (g.D.Disk.state l.disk).calls;
+  rooms : AreRead l.job g.D.Disk.tells (g.D.Disk.state l.disk) l.self.rooms.items;
   same : (g.D.Disk.state l.disk).loans ≡ (g.D.Disk.state l.fn.disk).loans;
   faults : (g.D.Disk.state l.disk).faults ≡ (g.D.Disk.state l.fn.disk).faults;
 }

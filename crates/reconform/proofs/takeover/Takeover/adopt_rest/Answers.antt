@@ -1,0 +1,12 @@
+use Rattle.std.proofs.Common.{rules, subst}
+use Rattle.std.specs.Prelude.{All}
+use Rattle.reconform.specs.inside.Ahead.{CanFinish}
+use Rattle.reconform.proofs.Dressing.{finish_along, ready_on}
+use Rattle.reconform.proofs.takeover.Takeover.adopt_rest.Goals as goal
+
+-- the old folder was only read meanwhile
+pub returns-in-Ok-clause-read : goal.returns-in-Ok-clause-read
+returns-in-Ok-clause-read g c =
+    let done = c.in-Ok.ensures.worked.met.1.1.1 in
+    subst (λ (old : g.row.D.Denot). All (CanFinish g.N.Work.job g.O.Work.job g.N.Work.files g.D.Disk.tells c.args.self.now.view.now (g.D.Disk.state old)) c.hash_beside.new.rooms) (search rules)
+    (finish_along done.reads done.taken.read c.hash_beside.new.rooms (ready_on _ _ _ c.in-Ok.ensures.hashed _ _ _ _ _ _ c.requires.read))
