@@ -55,6 +55,7 @@ more_left before now n all size given parts within e = record {
   disk = omega (arith, given.disk.0, parts.disk);
   memory = omega (arith, given.memory.0, parts.memory);
   changed = omega (arith, given.changed.0, parts.changed);
+  claims = omega (arith, given.claims.0, parts.claims);
 }
 
 pub given_more : (before now next out : Tallies) (n m : ℕ) → HasGiven before n now → out ≡ fresh → joined next out ≡ now → m ≡ n + 1 → HasGiven before m next
@@ -65,6 +66,7 @@ given_more before now next out n m h is all more =
       disk = (omega (arith, ap (λ (x : Tallies). x.disk.parts) e, h.disk.0, more), omega (arith, ap (λ (x : Tallies). x.disk.amount) e, h.disk.1));
       memory = (omega (arith, ap (λ (x : Tallies). x.memory.parts) e, h.memory.0, more), omega (arith, ap (λ (x : Tallies). x.memory.amount) e, h.memory.1));
       changed = (omega (arith, ap (λ (x : Tallies). x.changed.parts) e, h.changed.0, more), omega (arith, ap (λ (x : Tallies). x.changed.amount) e, h.changed.1));
+      claims = (omega (arith, ap (λ (x : Tallies). x.claims.parts) e, h.claims.0, more), omega (arith, ap (λ (x : Tallies). x.claims.amount) e, h.claims.1));
     }
 
 pub taken_more : (before now next other : Tallies) (n m : ℕ) → HasTaken before n now → IsOnePart other → next ≡ joined now other → m ≡ n + 1 → HasTaken before m next
@@ -73,6 +75,7 @@ taken_more before now next other n m h one is more = record {
   disk = omega (arith, ap (λ (x : Tallies). x.disk.parts) is, h.disk, one.disk, more);
   memory = omega (arith, ap (λ (x : Tallies). x.memory.parts) is, h.memory, one.memory, more);
   changed = omega (arith, ap (λ (x : Tallies). x.changed.parts) is, h.changed, one.changed, more);
+  claims = omega (arith, ap (λ (x : Tallies). x.claims.parts) is, h.claims, one.claims, more);
 }
 
 -- a fact of each scan, at the seats
@@ -106,7 +109,7 @@ pub units_closed : (before now out : Tally) → units_joined now out ≡ before 
 units_closed before now out joins none = let pending = ap (λ (u : Tally). u.pending) joins in omega (arith, pending, none)
 
 -- a seat that was worked in from its first state on is to be handed in
-pub was_counted : {S N C A B D E F : Type 0} (told : Option World) (state : S → ScanState) (old new : Seat S N C A B D E F)
+pub was_counted : {S N C A B D E F G : Type 0} (told : Option World) (state : S → ScanState) (old new : Seat S N C A B D E F G)
     → IsFresh old → HasWorked told state seat_loads old new → WasCounted new
 was_counted told state old new is work = record {
   few = work.few;
@@ -115,7 +118,9 @@ was_counted told state old new is work = record {
     disk = work.causes.parts.disk ∙ ap (λ (x : Tallies). x.disk.parts) is.marks;
     memory = work.causes.parts.memory ∙ ap (λ (x : Tallies). x.memory.parts) is.marks;
     changed = work.causes.parts.changed ∙ ap (λ (x : Tallies). x.changed.parts) is.marks;
+    claims = work.causes.parts.claims ∙ ap (λ (x : Tallies). x.claims.parts) is.marks;
   };
   parts = work.units.parts ∙ ap (λ (u : Tally). u.parts) is.units;
   amount = let none = ap (λ (u : Tally). u.amount) is.units in let amount = work.units.amount in omega (arith, none, amount);
+  needed = let none = ap (λ (x : Tallies). x.claims.amount) is.marks in let needed = work.needed in omega (arith, none, needed);
 }

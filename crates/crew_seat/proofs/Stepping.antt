@@ -8,13 +8,14 @@ use Rattle.scan_source.specs.World.{World}
 use Rattle.render_board.specs.declared.step.Why.{Why}
 use Rattle.render_board.specs.declared.step.Why.TheVariants.{Source, Disk, Memory, Changed}
 use Rattle.conform_job.specs.Job.{JobData}
-use Rattle.frame_share.specs.Units.{Tally}
+use Rattle.frame_share.specs.Units.{Tally as Asked}
 use Rattle.frame_fetch.specs.Ends.{IsChange, IsUnrendered}
 use Rattle.frame_fetch.specs.declared.run_end.RunEnd.{RunEnd}
 use Rattle.frame_fetch.specs.declared.run_end.RunEnd.TheVariants.{Done, OtherJob, BadLedger, Changed as IsNow, SourceFault, DiskFault, NoMemory}
 use Rattle.reel_disk.specs.declared.disk.DiskFault.{DiskFault as DiskFailed}
 use Rattle.station.specs.Leaving.{HasLeft}
-use Rattle.station.specs.Marks.{Tallies, raised_by}
+use Rattle.station.specs.Marks.{Tallies, Tally, raised_by}
+use Rattle.station.specs.Needed.{with_needs}
 use Rattle.station.specs.declared.leaving.Leave.{Leave}
 use Rattle.station.specs.declared.leaving.Leave.TheVariants as leaves
 use Rattle.station.specs.StationSteps.{why_by}
@@ -86,8 +87,8 @@ IsQuiet (Changed key was now) = ⊥
 
 quiet_causes : (told : Option World) (why : Why) (more : ℕ) (failed : Bool) (before : Tallies) → IsQuiet why → HasCauses told more failed before (raised_by why before)
 quiet_causes told Source more failed before quiet = absurd quiet
-quiet_causes told Disk more failed before quiet = record { parts = record { source = refl; disk = refl; memory = refl; changed = refl }; source = λ rose. absurd (omega (arith, rose)); changed = λ rose. absurd (omega (arith, rose)) }
-quiet_causes told Memory more failed before quiet = record { parts = record { source = refl; disk = refl; memory = refl; changed = refl }; source = λ rose. absurd (omega (arith, rose)); changed = λ rose. absurd (omega (arith, rose)) }
+quiet_causes told Disk more failed before quiet = record { parts = record { source = refl; disk = refl; memory = refl; changed = refl; claims = refl }; source = λ rose. absurd (omega (arith, rose)); changed = λ rose. absurd (omega (arith, rose)) }
+quiet_causes told Memory more failed before quiet = record { parts = record { source = refl; disk = refl; memory = refl; changed = refl; claims = refl }; source = λ rose. absurd (omega (arith, rose)); changed = λ rose. absurd (omega (arith, rose)) }
 quiet_causes told (Changed key was now) more failed before quiet = absurd quiet
 
 -- a stop has the cause of the end that it stands for
@@ -95,15 +96,36 @@ stop_causes : (job : JobData) (told : Option World) (end : RunEnd) (more : ℕ) 
 stop_causes job told Done more failed before stop fails loaded = absurd stop
 stop_causes job told (OtherJob kept wanted) more failed before stop fails loaded = absurd stop
 stop_causes job told (BadLedger len) more failed before stop fails loaded = absurd stop
-stop_causes job told (IsNow key was now) more failed before stop fails loaded = record { parts = record { source = refl; disk = refl; memory = refl; changed = refl }; source = λ rose. absurd (omega (arith, rose)); changed = λ rose. (loaded (key, was, now, refl), stop.untold) }
-stop_causes job told SourceFault more failed before stop fails loaded = record { parts = record { source = refl; disk = refl; memory = refl; changed = refl }; source = λ rose. fails refl; changed = λ rose. absurd (omega (arith, rose)) }
+stop_causes job told (IsNow key was now) more failed before stop fails loaded = record { parts = record { source = refl; disk = refl; memory = refl; changed = refl; claims = refl }; source = λ rose. absurd (omega (arith, rose)); changed = λ rose. (loaded (key, was, now, refl), stop.untold) }
+stop_causes job told SourceFault more failed before stop fails loaded = record { parts = record { source = refl; disk = refl; memory = refl; changed = refl; claims = refl }; source = λ rose. fails refl; changed = λ rose. absurd (omega (arith, rose)) }
 stop_causes job told DiskFault more failed before stop fails loaded = absurd stop
 stop_causes job told NoMemory more failed before stop fails loaded = quiet_causes told Memory more failed before tt
+
+-- a stop counts no claim
+raised_claims : (why : Why) (marks : Tallies) → (raised_by why marks).claims ≡ marks.claims
+raised_claims Source marks = refl
+raised_claims Disk marks = refl
+raised_claims Memory marks = refl
+raised_claims (Changed key was now) marks = refl
+
+pub left_claims : (Is : Why → Type 0) (before now : Tallies) (leave : Leave) → HasLeft Is before now leave → now.claims ≡ before.claims
+left_claims Is before now leaves.Stopped (why, is, raised) = ap (λ (t : Tallies). t.claims) raised ∙ raised_claims why before
+left_claims Is before now (leaves.Away reason) same = ap (λ (t : Tallies). t.claims) same
+
+pub finish_claims : (result : Result (Unit {0}) DiskFailed) (before now : Tallies) → OnOk result (now ≡ before) → OnErr result (now ≡ raised_by Disk before) → now.claims ≡ before.claims
+finish_claims (Ok done) before now same raised = ap (λ (t : Tallies). t.claims) same
+finish_claims (Err fault) before now same raised = ap (λ (t : Tallies). t.claims) raised
+
+-- a frame was claimed before it was made or could not be
+pub marked_claimed : (told : Option World) {T : Type 0} (made : Result T RunEnd) (needs : ℕ) (before now : Tallies) → HasMarked told made (with_needs needs before) now → HasMarked told made before now
+marked_claimed told made needs before now marked loads failed fails loaded =
+    let causes = marked loads failed fails loaded in
+    record { parts = record { source = causes.parts.source; disk = causes.parts.disk; memory = causes.parts.memory; changed = causes.parts.changed; claims = causes.parts.claims }; source = causes.source; changed = causes.changed }
 
 module _ (told : Option World) {T : Type 0} (made : Result T RunEnd) (before now : Tallies) where
   pub marked_none : now ≡ before → HasMarked told made before now
   marked_none same loads failed fails loaded =
-      subst (HasCauses told loads failed before) (sym same) (causes_none told before before loads failed (record { source = refl; disk = refl; memory = refl; changed = refl }) (record { source = refl; changed = refl }))
+      subst (HasCauses told loads failed before) (sym same) (causes_none told before before loads failed (record { source = refl; disk = refl; memory = refl; changed = refl; claims = refl }) (record { source = refl; changed = refl }))
 
   pub marked_disk : now ≡ raised_by Disk before → HasMarked told made before now
   marked_disk same loads failed fails loaded = subst (HasCauses told loads failed before) (sym same) (quiet_causes told Disk loads failed before tt)
@@ -123,41 +145,53 @@ module _ (told : Option World) {T : Type 0} (made : Result T RunEnd) (before now
   marked_left Is leaves.Stopped (why, is, same) each = each why is same
   marked_left Is (leaves.Away reason) same each = marked_none same
 
-module _ {S N C A B D E F : Type 0} (told : Option World) (state : S → ScanState) where
-  abbrev Stepped : ℕ → Seat S N C A B D E F → Seat S N C A B D E F → Type 0
-  Stepped most old new = HasStepped told state most old new
+module _ {S N C A B D E F G : Type 0} (told : Option World) (state : S → ScanState) where
+  abbrev Stepped : (most owed : ℕ) → Seat S N C A B D E F G → Seat S N C A B D E F G → Type 0
+  Stepped most owed old new = HasStepped told state most owed old new
 
-  abbrev Worked : ℕ → Seat S N C A B D E F → Seat S N C A B D E F → Type 0
+  abbrev Worked : ℕ → Seat S N C A B D E F G → Seat S N C A B D E F G → Type 0
   Worked most old new = HasWorked told state most old new
 
-  -- nothing was loaded, and a stop may be counted that is not for a source file
-  pub stepped_marked : (most : ℕ) (old new : Seat S N C A B D E F) → new.loader.scan ≡ old.loader.scan → new.loader.units ≡ old.loader.units → new.loader.loads ≡ old.loader.loads → new.has_failed ≡ old.has_failed → HasCauses told 0 false old.marks new.marks → Stepped most old new
-  stepped_marked most old new scan units count has causes = record {
+  -- nothing was loaded, a stop may be counted that is not for a source file, and a frame may be claimed
+  pub stepped_marked : (most owed : ℕ) (old new : Seat S N C A B D E F G) → new.loader.scan ≡ old.loader.scan → new.loader.units ≡ old.loader.units → new.loader.loads ≡ old.loader.loads → new.has_failed ≡ old.has_failed → HasCauses told 0 false old.marks new.marks
+      → old.marks.claims.amount ≤ new.marks.claims.amount → Stepped most owed old new
+  stepped_marked most owed old new scan units count has causes claims = record {
     more = 0;
     failed = false;
     few = omega arith;
     counts = omega (arith, count);
     fails = has ∙ or_none old.has_failed;
-    units = record { parts = ap (λ (u : Tally). u.parts) units; amount = let amount = ap (λ (u : Tally). u.amount) units in omega (arith, amount) };
+    units = record { parts = ap (λ (u : Asked). u.parts) units; amount = let amount = ap (λ (u : Asked). u.amount) units in omega (arith, amount) };
     scanned = subst (λ (s : S). IsScanned 0 (false ≡ true) (state old.loader.scan) (state s)) (sym scan) (scanned_itself (false ≡ true) (λ e. true≢false (sym e)) (state old.loader.scan));
     causes = causes;
+    needed = omega (arith, claims);
   }
 
-  pub stepped_itself : (most : ℕ) (seat : Seat S N C A B D E F) → Stepped most seat seat
-  stepped_itself most seat = stepped_marked most seat seat refl refl refl refl (causes_none told seat.marks seat.marks 0 false (record { source = refl; disk = refl; memory = refl; changed = refl }) (record { source = refl; changed = refl }))
+  pub stepped_itself : (most owed : ℕ) (seat : Seat S N C A B D E F G) → Stepped most owed seat seat
+  stepped_itself most owed seat = stepped_marked most owed seat seat refl refl refl refl (causes_none told seat.marks seat.marks 0 false (record { source = refl; disk = refl; memory = refl; changed = refl; claims = refl }) (record { source = refl; changed = refl })) (omega arith)
+
+  -- a frame was claimed
+  pub stepped_claimed : (most owed needs : ℕ) (old new : Seat S N C A B D E F G) → new.loader.scan ≡ old.loader.scan → new.loader.units ≡ old.loader.units → new.loader.loads ≡ old.loader.loads → new.has_failed ≡ old.has_failed
+      → new.marks ≡ with_needs needs old.marks → Stepped most owed old new
+  stepped_claimed most owed needs old new scan units count has same =
+      stepped_marked most owed old new scan units count has
+      (subst (HasCauses told 0 false old.marks) (sym same)
+      (causes_none told old.marks (with_needs needs old.marks) 0 false (record { source = refl; disk = refl; memory = refl; changed = refl; claims = refl }) (record { source = refl; changed = refl })))
+      (let more = ap (λ (t : Tallies). t.claims.amount) same in omega (arith, more))
 
   -- the worker has stopped for want of memory, or was turned away
-  pub stepped_left : (most : ℕ) (old new : Seat S N C A B D E F) (leave : Leave) → new.loader.scan ≡ old.loader.scan → new.loader.units ≡ old.loader.units → new.loader.loads ≡ old.loader.loads → new.has_failed ≡ old.has_failed
-      → HasLeft (λ why. why ≡ Memory) old.marks new.marks leave → Stepped most old new
-  stepped_left most old new leave scan units count has left =
-      stepped_marked most old new scan units count has (by leave left)
+  pub stepped_left : (most owed : ℕ) (old new : Seat S N C A B D E F G) (leave : Leave) → new.loader.scan ≡ old.loader.scan → new.loader.units ≡ old.loader.units → new.loader.loads ≡ old.loader.loads → new.has_failed ≡ old.has_failed
+      → HasLeft (λ why. why ≡ Memory) old.marks new.marks leave → Stepped most owed old new
+  stepped_left most owed old new leave scan units count has left =
+      stepped_marked most owed old new scan units count has (by leave left) (let same = ap (λ (t : Tally). t.amount) (left_claims _ old.marks new.marks leave left) in omega (arith, same))
     where
       by : (leave : Leave) → HasLeft (λ why. why ≡ Memory) old.marks new.marks leave → HasCauses told 0 false old.marks new.marks
       by leaves.Stopped (why, is, raised) = subst (HasCauses told 0 false old.marks) (sym (raised ∙ ap (λ (w : Why). raised_by w old.marks) is)) (quiet_causes told Memory 0 false old.marks tt)
-      by (leaves.Away reason) still = subst (HasCauses told 0 false old.marks) (sym still) (causes_none told old.marks old.marks 0 false (record { source = refl; disk = refl; memory = refl; changed = refl }) (record { source = refl; changed = refl }))
+      by (leaves.Away reason) still = subst (HasCauses told 0 false old.marks) (sym still) (causes_none told old.marks old.marks 0 false (record { source = refl; disk = refl; memory = refl; changed = refl; claims = refl }) (record { source = refl; changed = refl }))
 
-  pub stepped_along : (n m most : ℕ) (old mid new : Seat S N C A B D E F) → n + m ≤ most → Stepped n old mid → Stepped m mid new → Stepped most old new
-  stepped_along n m most old mid new le first second = record {
+  pub stepped_along : (n m most p q owed : ℕ) (old mid new : Seat S N C A B D E F G) → n + m ≤ most → p + q ≤ owed → Stepped n p old mid → Stepped m q mid new
+      → Stepped most owed old new
+  stepped_along n m most p q owed old mid new le due first second = record {
     more = first.more + second.more;
     failed = first.failed || second.failed;
     few = let p = first.few in let q = second.few in omega (arith, p, q, le);
@@ -166,15 +200,17 @@ module _ {S N C A B D E F : Type 0} (told : Option World) (state : S → ScanSta
     units = record { parts = second.units.parts ∙ first.units.parts; amount = let p = first.units.amount in let q = second.units.amount in omega (arith, p, q) };
     scanned = both_scanned told state old.loader.scan mid.loader.scan new.loader.scan first.more second.more first.failed second.failed first.scanned second.scanned;
     causes = both_cause told state old.marks mid.marks new.marks first.more second.more first.failed second.failed first.causes second.causes;
+    needed = let one = first.needed in let other = second.needed in omega (arith, one, other, due);
   }
 
-  pub stepped_within : (most more : ℕ) (old new : Seat S N C A B D E F) → most ≤ more → Stepped most old new → Stepped more old new
-  stepped_within most more old new le step = record { more = step.more; failed = step.failed; few = let few = step.few in omega (arith, few, le); counts = step.counts; fails = step.fails; units = step.units; scanned = step.scanned; causes = step.causes }
+  pub stepped_within : (most more owed : ℕ) (old new : Seat S N C A B D E F G) → most ≤ more → Stepped most owed old new → Stepped more owed old new
+  stepped_within most more owed old new le step = record { more = step.more; failed = step.failed; few = let few = step.few in omega (arith, few, le); counts = step.counts; fails = step.fails; units = step.units; scanned = step.scanned; causes = step.causes; needed = step.needed }
 
   -- a frame was made or could not be, and its stop was counted
-  pub stepped_made : {T : Type 0} (most : ℕ) (old new : Seat S N C A B D E F) (made : Result T RunEnd) (fault : Bool) → (fault ≡ true) ↔ (made ≡ Err SourceFault) → new.has_failed ≡ (old.has_failed || fault)
-      → HasFetched most made old.loader.loads new.loader.loads old.loader.units new.loader.units (state old.loader.scan) (state new.loader.scan) → HasMarked told made old.marks new.marks → Stepped most old new
-  stepped_made {T = T} most old new made fault is has fetched marked =
+  pub stepped_made : {T : Type 0} (most owed : ℕ) (old new : Seat S N C A B D E F G) (made : Result T RunEnd) (fault : Bool) → (fault ≡ true) ↔ (made ≡ Err SourceFault) → new.has_failed ≡ (old.has_failed || fault)
+      → HasFetched most made old.loader.loads new.loader.loads old.loader.units new.loader.units (state old.loader.scan) (state new.loader.scan) → HasMarked told made old.marks new.marks
+      → new.loader.loads + old.marks.claims.amount ≤ old.loader.loads + new.marks.claims.amount + owed → Stepped most owed old new
+  stepped_made {T = T} most owed old new made fault is has fetched marked needed =
       let counted = fetched.loaded in
       record {
         more = new.loader.loads - old.loader.loads;
@@ -185,6 +221,7 @@ module _ {S N C A B D E F : Type 0} (told : Option World) (state : S → ScanSta
         units = record { parts = counted.parts; amount = omega (arith, counted.misses, counted.later) };
         scanned = scanned_as (state old.loader.scan) (state new.loader.scan) _ _ _ (fault ≡ true) refl is.0 is.1 fetched.scan;
         causes = marked (new.loader.loads - old.loader.loads) fault is.1 (loaded made fetched.changed);
+        needed = omega (arith, needed, counted.later);
       }
     where
       loaded : (made : Result T RunEnd) → IfErr made (λ end. IsChange end → old.loader.loads < new.loader.loads) → IfErr made (λ end. IsChange end → 1 ≤ new.loader.loads - old.loader.loads)
@@ -192,7 +229,7 @@ module _ {S N C A B D E F : Type 0} (told : Option World) (state : S → ScanSta
       loaded (Err end) more = λ change. let lt = more change in omega (arith, lt)
 
   -- from nothing on, the steps are all that the worker did
-  pub worked_first : (most more : ℕ) (old new : Seat S N C A B D E F) → most ≤ more → old.loader.loads ≡ 0 → old.has_failed ≡ false → Stepped most old new → Worked more old new
+  pub worked_first : (most more : ℕ) (old new : Seat S N C A B D E F G) → most ≤ more → old.loader.loads ≡ 0 → old.has_failed ≡ false → Stepped most 0 old new → Worked more old new
   worked_first most more old new le none unfailed step =
       let count : new.loader.loads ≡ step.more = omega (arith, step.counts, none) in
       let has : new.has_failed ≡ step.failed = step.fails ∙ ap (λ (b : Bool). b || step.failed) unfailed in
@@ -201,9 +238,10 @@ module _ {S N C A B D E F : Type 0} (told : Option World) (state : S → ScanSta
         units = record { parts = step.units.parts; amount = omega (arith, step.units.amount, count) };
         scanned = subst (λ (n : ℕ). IsScanned n (new.has_failed ≡ true) (state old.loader.scan) (state new.loader.scan)) (sym count) (subst (λ (b : Bool). IsScanned step.more (b ≡ true) (state old.loader.scan) (state new.loader.scan)) (sym has) step.scanned);
         causes = subst (λ (n : ℕ). HasCauses told n new.has_failed old.marks new.marks) (sym count) (subst (λ (b : Bool). HasCauses told step.more b old.marks new.marks) (sym has) step.causes);
+        needed = let needed = step.needed in omega (arith, needed, count);
       }
 
-  pub worked_on : (n m most : ℕ) (old mid new : Seat S N C A B D E F) → n + m ≤ most → Worked n old mid → Stepped m mid new → Worked most old new
+  pub worked_on : (n m most : ℕ) (old mid new : Seat S N C A B D E F G) → n + m ≤ most → Worked n old mid → Stepped m 0 mid new → Worked most old new
   worked_on n m most old mid new le first second =
       let count = second.counts in
       record {
@@ -215,4 +253,5 @@ module _ {S N C A B D E F : Type 0} (told : Option World) (state : S → ScanSta
         causes = subst (λ (n : ℕ). HasCauses told n new.has_failed old.marks new.marks) (sym count)
             (subst (λ (b : Bool). HasCauses told (mid.loader.loads + second.more) b old.marks new.marks) (sym second.fails)
             (both_cause told state old.marks mid.marks new.marks mid.loader.loads second.more mid.has_failed second.failed first.causes second.causes));
+        needed = let one = first.needed in let other = second.needed in omega (arith, one, other, count);
       }

@@ -12,6 +12,7 @@ parts_along a b c first second = record {
   disk = second.disk ∙ first.disk;
   memory = second.memory ∙ first.memory;
   changed = second.changed ∙ first.changed;
+  claims = second.claims ∙ first.claims;
 }
 
 module _ (told : Option World) where

@@ -13,10 +13,11 @@ use Rattle.crew_seat.specs.Seats.{IsOnePart}
 use Rattle.crew_seat.specs.Worked.{HasCauses, HasCounted, seat_loads}
 use Rattle.crew_seat.specs.declared.seat.Seat.{Seat}
 
-module _ {S N C A B D E F : Type 0} where
+module _ {S N C A B D E F G : Type 0} where
   -- So many loads at most were made, each counted at the seat and as a miss of its units. One of them may have failed, and each
-  -- stop for a source file has its cause in them.
-  pub record HasStepped (told : Option World) (state : S → ScanState) (most : ℕ) (old new : Seat S N C A B D E F) : Type 0 where
+  -- stop for a source file has its cause in them. They are no more than the frames need that were claimed meanwhile, and `owed`
+  -- more, which a frame needs that was claimed before.
+  pub record HasStepped (told : Option World) (state : S → ScanState) (most owed : ℕ) (old new : Seat S N C A B D E F G) : Type 0 where
     pub more : ℕ
     pub failed : Bool
     pub few : more ≤ most
@@ -25,25 +26,29 @@ module _ {S N C A B D E F : Type 0} where
     pub units : HasCounted old.loader.units more new.loader.units
     pub scanned : IsScanned more (failed ≡ true) (state old.loader.scan) (state new.loader.scan)
     pub causes : HasCauses told more failed old.marks new.marks
+    pub needed : more + old.marks.claims.amount ≤ new.marks.claims.amount + owed
 
   -- it has one part of each total, and nothing was counted
-  pub record IsFresh (seat : Seat S N C A B D E F) : Type 0 where
+  pub record IsFresh (seat : Seat S N C A B D E F G) : Type 0 where
     pub marks : seat.marks ≡ fresh
     pub units : seat.loader.units ≡ unasked
     pub none : seat.loader.loads ≡ 0
     pub unfailed : seat.has_failed ≡ false
 
   -- What a worker did from its start on: so many loads at most, each counted as a miss, and the cause of each stop for a source
-  -- file among them.
-  pub record HasWorked (told : Option World) (state : S → ScanState) (most : ℕ) (old new : Seat S N C A B D E F) : Type 0 where
+  -- file among them; and no more of them than the frames need that it claimed.
+  pub record HasWorked (told : Option World) (state : S → ScanState) (most : ℕ) (old new : Seat S N C A B D E F G) : Type 0 where
     pub few : new.loader.loads ≤ most
     pub units : HasCounted old.loader.units new.loader.loads new.loader.units
     pub scanned : IsScanned new.loader.loads (new.has_failed ≡ true) (state old.loader.scan) (state new.loader.scan)
     pub causes : HasCauses told new.loader.loads new.has_failed old.marks new.marks
+    pub needed : new.loader.loads + old.marks.claims.amount ≤ new.marks.claims.amount
 
-  -- A seat to hand in: one part of each total of stops and one of the misses, which are as many as its loads.
-  pub record WasCounted (seat : Seat S N C A B D E F) : Type 0 where
+  -- A seat to hand in: one part of each total and one of the misses, which are as many as its loads. These are no more than the
+  -- frames need that it claimed.
+  pub record WasCounted (seat : Seat S N C A B D E F G) : Type 0 where
     pub few : seat.loader.loads ≤ seat_loads
     pub marks : IsOnePart seat.marks
     pub parts : seat.loader.units.parts ≡ 1
     pub amount : seat.loader.units.amount ≡ seat.loader.loads
+    pub needed : seat.loader.loads ≤ seat.marks.claims.amount

@@ -11,7 +11,7 @@ pub struct Seat<S: Scans, N: Work, C: Crewed> {
     pub number: u16,
     /// In how many threads it renders a frame, its own among them; 0 is 1.
     pub threads: u32,
-    /// Its shares of the totals of stops.
+    /// Its shares of the totals of stops, and of what claimed frames need.
     pub marks: Marks<C>,
     /// What it loads source frames with: its scan, and its share of the total of misses.
     pub loader: Loader<N, C::Misses, S>,

@@ -83,6 +83,7 @@ pub fn unseat<S: Scans, N: Work, C: Crewed>(
     ensures taken { HasTaken marks.old (vec_len seats) marks.new }
     ensures shares { units.new.parts ≡ units.old.parts + vec_len seats }
     ensures amount { units.new.amount ≡ units.old.amount + result.1 }
+    ensures needed { marks.old.claims.amount + result.1 ≤ marks.new.claims.amount }
 {
     let mut scans = room;
     let mut loads = 0;

@@ -1,6 +1,6 @@
 //! A worker's rounds: a claim under the station's lock, then loads, rendering and the file's digest outside it, then a finish
 //! or a stop under it.
-ghost use Rattle.std.specs.Prelude.{◌≡◌, ◌+◌, ◌<◌, ◌^◌, true, false, Err, length, IfOk, IfErr, IsOk, OnOk};
+ghost use Rattle.std.specs.Prelude.{◌≡◌, ◌+◌, ◌<◌, ◌^◌, true, false, Err, length, IfOk, IfErr, IsOk, OnErr, OnOk};
 ghost use Rattle.conform_job.specs.Answers.{AreInfosOf};
 ghost use Rattle.conform_job.specs.Names.{Tells};
 ghost use Rattle.frame_render.specs.Frame.{frame_size};
@@ -8,7 +8,9 @@ ghost use Rattle.render_board.specs.declared.step.Why.TheVariants as whys;
 ghost use Rattle.reel_writer.specs.Reel.{frames_of};
 ghost use Rattle.frame_fetch.specs.Ends.{IsUnrendered};
 ghost use Rattle.station.specs.Leaving.{HasLeft};
+ghost use Rattle.station.specs.Needed.{with_needs};
 ghost use Rattle.station.specs.StationSteps.{MayStop};
+ghost use Rattle.frame_fetch.specs.Asks.{needs_of};
 ghost use Rattle.crew_seat.specs.Stepped.{HasStepped, HasWorked};
 ghost use Rattle.crew_seat.specs.Worked.{worker_loads};
 ghost use Rattle.crew_seat.specs.inside.Worked.{HasMarked};
@@ -40,11 +42,14 @@ pub struct Shared<'a, D: Disk, N: Work + Start, C: Crewed, R: Threads + Wait + S
 }
 
 impl<D: Disk, N: Work + Start, C: Crewed, R: Threads + Wait + Sync> Shared<'_, D, N, C, R> {
-    /// Takes a frame, where there is one for the worker.
-    fn take_frame(&self, number: u16) -> Result<Held, Away>
+    /// Takes a frame, where there is one for the worker. What it needs is counted in the worker's marks.
+    fn take_frame(&self, number: u16, marks: &mut Marks<C>) -> Result<Held, Away>
+        requires job { self.now.job.now ≡ N.job }
         ensures within { IfOk result (λ i. i < frames_of N.job) }
+        ensures counted { IfOk result (λ i. marks.new ≡ with_needs (needs_of N.job i) marks.old) }
+        ensures uncounted { OnErr result (marks.new ≡ marks.old) }
     {
-        self.station.lock(self.rt).take(number)
+        self.station.lock(self.rt).take(number, self.job, marks)
     }
 
     /// Finishes a frame that the worker took, where it still holds it and the reel is open.
@@ -85,6 +90,7 @@ impl<D: Disk, N: Work + Start, C: Crewed, R: Threads + Wait + Sync> Shared<'_, D
         ensures room { IfOk result (λ back. length back ≡ frame_size N.job) }
         ensures goes_on { OnOk result ((marks.new ≡ marks.old) × IsOk made) }
         ensures marks { HasMarked N.files made marks.old marks.new }
+        ensures claims { marks.new.claims ≡ marks.old.claims }
         ensures left { IfErr result (HasLeft (λ why. made ≡ Err RunEnd.SourceFault → why ≡ whys.Source) marks.old marks.new) }
     {
         match made {
@@ -110,13 +116,14 @@ impl<D: Disk, N: Work + Start, C: Crewed, R: Threads + Wait + Sync> Shared<'_, D
         requires unfailed { seat.old.has_failed ≡ false }
         requires closed { seat.old.loader.units.pending ≡ 0 }
         ensures number { seat.new.number ≡ seat.old.number }
-        ensures stepped { HasStepped N.files S.state 2 seat.old seat.new }
+        ensures stepped { HasStepped N.files S.state 2 0 seat.old seat.new }
         ensures room { IfOk result (λ back. length back ≡ frame_size N.job) }
-        ensures goes_on { OnOk result ((seat.new.marks ≡ seat.old.marks) × (seat.new.has_failed ≡ false)
-            × (seat.new.loader.units.pending ≡ 0)) }
-        ensures left { IfErr result (HasLeft (λ why. seat.new.has_failed ≡ true → why ≡ whys.Source) seat.old.marks seat.new.marks) }
+        ensures goes_on { OnOk result ((seat.new.marks ≡ record seat.old.marks { claims = seat.new.marks.claims })
+            × (seat.new.has_failed ≡ false) × (seat.new.loader.units.pending ≡ 0)) }
+        ensures left { IfErr result (HasLeft (λ why. seat.new.has_failed ≡ true → why ≡ whys.Source)
+            (record seat.old.marks { claims = seat.new.marks.claims }) seat.new.marks) }
     {
-        let held = match self.take_frame(seat.number) {
+        let held = match self.take_frame(seat.number, &mut seat.marks) {
             Ok(held) => held,
             Err(away) => return Err(Leave::Away(away)),
         };
@@ -148,7 +155,8 @@ impl<D: Disk, N: Work + Start, C: Crewed, R: Threads + Wait + Sync> Shared<'_, D
         requires closed { seat.old.loader.units.pending ≡ 0 }
         ensures number { seat.new.number ≡ seat.old.number }
         ensures worked { HasWorked N.files S.state worker_loads seat.old seat.new }
-        ensures left { HasLeft (λ why. seat.new.has_failed ≡ true → why ≡ whys.Source) seat.old.marks seat.new.marks result }
+        ensures left { HasLeft (λ why. seat.new.has_failed ≡ true → why ≡ whys.Source)
+            (record seat.old.marks { claims = seat.new.marks.claims }) seat.new.marks result }
     {
         let mut room = room;
         for _ in 0..self.job.timeline().count() {
@@ -158,7 +166,7 @@ impl<D: Disk, N: Work + Start, C: Crewed, R: Threads + Wait + Sync> Shared<'_, D
             }
         }
         // So many finishes leave no frame, and the station says so.
-        match self.take_frame(seat.number) {
+        match self.take_frame(seat.number, &mut seat.marks) {
             Err(away) => Leave::Away(away),
             Ok(held) => self.give_up(seat.number, &mut seat.marks, Some(held), Why::Memory),
         }
@@ -180,7 +188,8 @@ impl<D: Disk, N: Work + Start, C: Crewed, R: Threads + Wait + Sync> Shared<'_, D
         requires closed { seat.old.loader.units.pending ≡ 0 }
         ensures number { seat.new.number ≡ seat.old.number }
         ensures worked { HasWorked N.files S.state worker_loads seat.old seat.new }
-        ensures left { HasLeft (λ why. seat.new.has_failed ≡ true → why ≡ whys.Source) seat.old.marks seat.new.marks result }
+        ensures left { HasLeft (λ why. seat.new.has_failed ≡ true → why ≡ whys.Source)
+            (record seat.old.marks { claims = seat.new.marks.claims }) seat.new.marks result }
     {
         match FrameBuf::new(seat.loader.alloc, self.job) {
             Ok(room) => self.rounds(seat, room),

@@ -1,12 +1,12 @@
 //! Source frames by way of the share: one that is there isn't loaded again. And a record frame, made of those that it needs.
-ghost use Rattle.std.specs.Prelude.{◌≡◌, ◌<◌, ◌∷◌, [], Some, length, IfSome, IfOk, IfErr, OnOk, OnErr};
+ghost use Rattle.std.specs.Prelude.{◌≡◌, ◌+◌, ◌<◌, ◌≤◌, ◌∷◌, [], Some, length, IfSome, IfOk, IfErr, OnOk, OnErr};
 ghost use Rattle.std.specs.Arc.{arc_value};
 ghost use Rattle.std.specs.Option.{option_copied, option_map};
 ghost use Rattle.conform_job.specs.Job.{need_at};
 ghost use Rattle.conform_job.specs.Keys.{info_at};
 ghost use Rattle.frame_render.specs.Frame.{AreSidesOf, HasKeyOf, frame_size};
 ghost use Rattle.record_timeline.specs.Accepted.{frame_count};
-ghost use Rattle.frame_fetch.specs.Asks.{key_of_side, keys_of_need};
+ghost use Rattle.frame_fetch.specs.Asks.{key_of_side, keys_of_need, needs_of};
 ghost use Rattle.frame_fetch.specs.Ends.{IsUnrendered};
 ghost use Rattle.frame_fetch.specs.Loading.{CanLoad, HasLoadedFor};
 ghost use Rattle.frame_fetch.specs.Sharing.{WereAsked, WereTried};
@@ -141,6 +141,7 @@ impl<N: Work, L: Ledger, S: Scans> Loader<N, L, S> {
         ensures stop { IfErr result (IsUnrendered N.job N.files) }
         ensures asked { OnOk result (WereAsked (key_of_side need) (P.log share.old) (P.log share.new)) }
         ensures tried { OnErr result (WereTried (key_of_side need) (P.log share.old) (P.log share.new)) }
+        ensures needed { self.new.loads ≤ self.old.loads + length (key_of_side need) }
         ensures loaded { HasLoadedFor S.state 1 result self.old self.new }
     {
         let Some((key, info)) = need else {
@@ -169,6 +170,7 @@ impl<N: Work, L: Ledger, S: Scans> Loader<N, L, S> {
         ensures stop { IfErr result (IsUnrendered N.job N.files) }
         ensures asked { OnOk result (WereAsked (keys_of_need (need_at N.job i)) (P.log share.old) (P.log share.new)) }
         ensures tried { OnErr result (WereTried (keys_of_need (need_at N.job i)) (P.log share.old) (P.log share.new)) }
+        ensures needed { self.new.loads ≤ self.old.loads + needs_of N.job i }
         ensures loaded { HasLoadedFor S.state 2 result self.old self.new }
     {
         let need = job.need(i);
@@ -209,6 +211,7 @@ impl<N: Work, L: Ledger, S: Scans> Loader<N, L, S> {
         ensures stop { IfErr result (IsUnrendered N.job N.files) }
         ensures asked { OnOk result (WereAsked (keys_of_need (need_at N.job i)) (P.log share.old) (P.log share.new)) }
         ensures tried { OnErr result (WereTried (keys_of_need (need_at N.job i)) (P.log share.old) (P.log share.new)) }
+        ensures needed { self.new.loads ≤ self.old.loads + needs_of N.job i }
         ensures loaded { HasLoadedFor S.state 2 result self.old self.new }
     {
         let sides = self.sides_of(job, share, i)?;
@@ -232,6 +235,7 @@ impl<N: Work, L: Ledger, S: Scans> Loader<N, L, S> {
         requires room { length room ≡ frame_size N.job }
         ensures index { IfOk result (λ frame. frame.index ≡ i) }
         ensures stop { IfErr result (IsUnrendered N.job N.files) }
+        ensures needed { self.new.loads ≤ self.old.loads + needs_of N.job i }
         ensures loaded { HasLoadedFor S.state 2 result self.old self.new }
     {
         let sides = self.sides_of(job, share, i)?;

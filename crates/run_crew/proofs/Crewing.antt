@@ -38,6 +38,7 @@ use Rattle.run_crew.specs.declared.crew.Crew.{Crew}
 use Rattle.run_alone.specs.Ends.{IsEnd}
 use Rattle.run_alone.specs.Run.{AreAllAcked, IsOwnFileOf, MayWriteOf, RunMayWrite}
 use Rattle.run_alone.specs.inside.Run.{IsRangeFile}
+use Rattle.station.specs.Needed.{needed_by}
 use Rattle.station.specs.Station.{IsStation, StationView, HasChanges, IsCrewFile, IsRangeFile as IsLogFile, MayCrewWrite, ShowsDone}
 use Rattle.reel_writer.specs.View.{IsReelOf}
 use Rattle.reel_writer.proofs.Writing.{writes_wider}
@@ -187,6 +188,7 @@ module _ {D : Type 0} (job : JobData) (low high : ℕ) (told : Option World) (wo
         rendered = rendered_then;
         rest = λ done. let sum = range_count v.log made.is.legal (all_at_done done) in omega (arith, sum, rendered_then);
         shared = shared;
+        few = few_then;
         exit = λ t none. open_shows job told v.log v.reel.ledger.closed (view_of (state v.reel.disk).history) (open_still none) (made.is.shown t);
         failed_exit = λ t some. subst (λ (b : Bool). ShowsDone job v.log b (view_of (state v.reel.disk).history)) (made.is.closed.1 some) (made.is.shown t);
       })))))
@@ -196,6 +198,9 @@ module _ {D : Type 0} (job : JobData) (low high : ℕ) (told : Option World) (wo
 
       kept_then : report.kept ≡ count_by (λ gate. gate) v.log.start
       kept_then = made.kept ∙ made.is.kept
+
+      few_then : report.loads ≤ needed_by job v.log.steps
+      few_then = let few = made.few in let same = ap (needed_by job) made.steps_are in omega (arith, few, same)
 
       rendered_then : report.rendered ≡ length (finished_of v.log.steps)
       rendered_then = made.rendered ∙ ap (λ (l : List Step). length (finished_of l)) (sym made.steps_are)

@@ -59,19 +59,19 @@ mapped_at f R xs ys k s same lt each =
     subst (λ (a : _). R a (get_or (map f ys) k s)) (sym (get_or-map f xs k d s lt))
     (subst (λ (b : _). R (f (get_or xs k d)) b) (sym (get_or-map f ys k d s (omega (arith, lt, same)))) (each d))
 
-module _ {S N C A B D E F : Type 0} (told : Option World) (state : S → ScanState) (xs ys : List (Seat S N C A B D E F)) (threads most : ℕ) (size : length ys ≡ length xs)
+module _ {S N C A B D E F G : Type 0} (told : Option World) (state : S → ScanState) (xs ys : List (Seat S N C A B D E F G)) (threads most : ℕ) (size : length ys ≡ length xs)
     (worked : EachBecame (length xs) (HasWorked told state most) xs ys) (idle : All (λ x. IsFresh x) xs) where
-  abbrev scan_of : Seat S N C A B D E F → S
+  abbrev scan_of : Seat S N C A B D E F G → S
   scan_of x = x.loader.scan
 
-  abbrev loads_of : Seat S N C A B D E F → ℕ
+  abbrev loads_of : Seat S N C A B D E F G → ℕ
   loads_of x = x.loader.loads
 
-  abbrev failed_of : Seat S N C A B D E F → Bool
+  abbrev failed_of : Seat S N C A B D E F G → Bool
   failed_of x = x.has_failed
 
   -- a stop for a source file was counted at a seat whose load failed
-  source_seat : 1 ≤ sum_by (λ x. x.marks.source.amount) ys → (k : ℕ) × (k < length xs) × ((d : Seat S N C A B D E F) → (get_or ys k d).has_failed ≡ true)
+  source_seat : 1 ≤ sum_by (λ x. x.marks.source.amount) ys → (k : ℕ) × (k < length xs) × ((d : Seat S N C A B D E F G) → (get_or ys k d).has_failed ≡ true)
   source_seat some =
       let found = some_item (λ x. x.marks.source.amount) ys some in
       let within : found.0 < length xs = omega (arith, found.1, size) in (
@@ -96,7 +96,7 @@ module _ {S N C A B D E F : Type 0} (told : Option World) (state : S → ScanSta
   IsScannedAt k a b = IsScanned (get_or (map loads_of ys) k 0) (get_or (map failed_of ys) k false ≡ true) (state a) (state b)
 
   pub gathered : (before after : List S) (all : ℕ) (Failed : Type 0) → map scan_of xs ≡ before → after ≡ map scan_of ys → all ≡ sum_by loads_of ys
-      → ((k : ℕ) (d : Seat S N C A B D E F) → threads ≤ k → get_or ys k d ≡ get_or xs k d)
+      → ((k : ℕ) (d : Seat S N C A B D E F G) → threads ≤ k → get_or ys k d ≡ get_or xs k d)
       → (Failed → 1 ≤ sum_by (λ x. x.marks.source.amount) ys)
       → AreWorked state threads all Failed before after
   gathered before after all Failed first last total unused fails =
@@ -116,7 +116,7 @@ module _ {S N C A B D E F : Type 0} (told : Option World) (state : S → ScanSta
             (found.0, omega (arith, found.1, length-map xs scan_of), get_or-map failed_of ys found.0 d false (omega (arith, found.1, size)) ∙ found.2 d);
       }))
     where
-      at_seat : (k : ℕ) (d : Seat S N C A B D E F) → k < length xs → IsScannedAt k ((get_or xs k d).loader.scan) ((get_or ys k d).loader.scan)
+      at_seat : (k : ℕ) (d : Seat S N C A B D E F G) → k < length xs → IsScannedAt k ((get_or xs k d).loader.scan) ((get_or ys k d).loader.scan)
       at_seat k d within =
           subst (λ (n : ℕ). IsScanned n (get_or (map failed_of ys) k false ≡ true) (state ((get_or xs k d).loader.scan)) (state ((get_or ys k d).loader.scan))) (sym (get_or-map loads_of ys k d 0 (omega (arith, within, size))))
           (subst (λ (b : Bool). IsScanned ((get_or ys k d).loader.loads) (b ≡ true) (state ((get_or xs k d).loader.scan)) (state ((get_or ys k d).loader.scan))) (sym (get_or-map failed_of ys k d false (omega (arith, within, size))))
@@ -196,31 +196,31 @@ end_done steps (Some Disk) first is = cc
 end_done steps (Some Memory) first is = cc
 end_done steps (Some (Changed key was now)) first is = cc
 
-module _ {S N C A B D E F : Type 0} (told : Option World) (state : S → ScanState)
-    (xs ys : List (Seat S N C A B D E F)) (s : Seat S N C A B D E F) (threads n m most : ℕ) (some : 0 < threads) (le : n + m ≤ most) (size : length ys ≡ length xs) (ready : All (λ x. IsReady told state x) xs)
-    (worked : EachBecame threads (HasWorked told state n) xs ys) (others : (k : ℕ) (d : Seat S N C A B D E F) → threads ≤ k → get_or ys k d ≡ get_or xs k d) where
-  abbrev Became : Seat S N C A B D E F → Seat S N C A B D E F → Type 0
+module _ {S N C A B D E F G : Type 0} (told : Option World) (state : S → ScanState)
+    (xs ys : List (Seat S N C A B D E F G)) (s : Seat S N C A B D E F G) (threads n m most : ℕ) (some : 0 < threads) (le : n + m ≤ most) (size : length ys ≡ length xs) (ready : All (λ x. IsReady told state x) xs)
+    (worked : EachBecame threads (HasWorked told state n) xs ys) (others : (k : ℕ) (d : Seat S N C A B D E F G) → threads ≤ k → get_or ys k d ≡ get_or xs k d) where
+  abbrev Became : Seat S N C A B D E F G → Seat S N C A B D E F G → Type 0
   Became x y = HasWorked told state most x y
 
-  first_most : (x y : Seat S N C A B D E F) → HasWorked told state n x y → Became x y
-  first_most x y work = record { few = omega (arith, work.few, le); units = work.units; scanned = work.scanned; causes = work.causes }
+  first_most : (x y : Seat S N C A B D E F G) → HasWorked told state n x y → Became x y
+  first_most x y work = record { few = omega (arith, work.few, le); units = work.units; scanned = work.scanned; causes = work.causes; needed = work.needed }
 
-  worked_at : (k : ℕ) (d : Seat S N C A B D E F) → k < length xs → Became (get_or xs k d) (get_or ys k d)
+  worked_at : (k : ℕ) (d : Seat S N C A B D E F G) → k < length xs → Became (get_or xs k d) (get_or ys k d)
   worked_at k d lt = elim (cases_lt k threads) [
     | inl early ↦ first_most (get_or xs k d) (get_or ys k d) (worked k d early)
     | inr late ↦
-        subst (λ (y : Seat S N C A B D E F). Became (get_or xs k d) y) (sym (others k d late))
-        (worked_first told state 0 most (get_or xs k d) (get_or xs k d) (omega arith) (ready k d lt).none (ready k d lt).unfailed (stepped_itself told state 0 (get_or xs k d)))
+        subst (λ (y : Seat S N C A B D E F G). Became (get_or xs k d) y) (sym (others k d late))
+        (worked_first told state 0 most (get_or xs k d) (get_or xs k d) (omega arith) (ready k d lt).none (ready k d lt).unfailed (stepped_itself told state 0 0 (get_or xs k d)))
   ]
 
   -- each seat was worked in, or nothing was done to it; the first one may have gone on
-  pub worked_all : (e : Seat S N C A B D E F) → HasStepped told state m (get_or ys 0 e) s → EachBecame (length xs) (HasWorked told state most) xs (set ys 0 s)
+  pub worked_all : (e : Seat S N C A B D E F G) → HasStepped told state m 0 (get_or ys 0 e) s → EachBecame (length xs) (HasWorked told state most) xs (set ys 0 s)
   worked_all e stepped k d lt = elim (cases_eq k 0) [
     | inl front ↦
         let first : 0 < length ys = omega (arith, lt, size) in
         subst (λ (i : ℕ). Became (get_or xs i d) (get_or (set ys 0 s) i d)) (sym front)
-        (subst (λ (y : Seat S N C A B D E F). Became (get_or xs 0 d) y) (sym (get_or-set_same ys 0 s d first))
+        (subst (λ (y : Seat S N C A B D E F G). Became (get_or xs 0 d) y) (sym (get_or-set_same ys 0 s d first))
         (worked_on told state n m most (get_or xs 0 d) (get_or ys 0 d) s le (worked 0 d some)
-        (subst (λ (y : Seat S N C A B D E F). HasStepped told state m y s) (get_or_default ys 0 e d first) stepped)))
-    | inr other ↦ subst (λ (y : Seat S N C A B D E F). Became (get_or xs k d) y) (sym (get_or-set_other ys 0 k s d other)) (worked_at k d lt)
+        (subst (λ (y : Seat S N C A B D E F G). HasStepped told state m 0 y s) (get_or_default ys 0 e d first) stepped)))
+    | inr other ↦ subst (λ (y : Seat S N C A B D E F G). Became (get_or xs k d) y) (sym (get_or-set_other ys 0 k s d other)) (worked_at k d lt)
   ]

@@ -35,6 +35,7 @@ use Rattle.frame_fetch.specs.declared.run_end.RunEnd.TheVariants.{Done, Changed 
 use Rattle.run_alone.specs.Ends.{IsEnd}
 use Rattle.run_alone.specs.Run.{WasUnopened, kept_in}
 use Rattle.frame_fetch.specs.Scanned.{IsScanned}
+use Rattle.station.specs.Needed.{needed_by}
 use Rattle.station.specs.Station.{ShowsDone}
 use Rattle.run_crew.specs.declared.crew.Crew.{Crew}
 
@@ -76,6 +77,7 @@ pub record AreShared (capacity : ℕ) (log : List ShareStep) (report : Report) :
 -- The folder was unsealed or this job's, the board of so many workers has these steps, and they shared so many source frames.
 -- `gates` are the frames that the opening kept. The run is Done just where no worker stopped, and then every frame of the range
 -- is done, and those of it that were kept and those that were rendered are the whole range; else it ends as the first stop says.
+-- No more source frames were loaded than the frames need that its steps claim, each of them once.
 pub record TookSteps (job : JobData) (low high : ℕ) (told : Option World) (workers share : ℕ) (tells : Bool)
     (old new : History) (steps : List Step) (end : RunEnd) (report : Report) (log : List ShareStep) : Type 0 where
   pub gates : List Bool
@@ -91,6 +93,7 @@ pub record TookSteps (job : JobData) (low high : ℕ) (told : Option World) (wor
   pub rendered : report.rendered ≡ length (finished_of steps)
   pub rest : end ≡ Done → kept_in low high gates + report.rendered ≡ high - low
   pub shared : AreShared share log report
+  pub few : report.loads ≤ needed_by job steps
   -- The folder acknowledges just the frames that are done; where the disk failed in a finish, these but for one gate.
   pub exit : tells ≡ true → stops_of is_disk steps ≡ 0 → (k : ℕ) → HasAcked job k (view_of new)
       ↔ (is_done (log_of gates low high workers steps) k ≡ true)

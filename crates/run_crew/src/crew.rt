@@ -16,6 +16,7 @@ ghost use Rattle.crew_rest.specs.Left.{HasFinished};
 ghost use Rattle.run_alone.specs.Run.{AreAllAcked};
 ghost use Rattle.run_alone.specs.Safe.{IsSafeRun};
 ghost use Rattle.run_alone.specs.Task.{IsTask};
+ghost use Rattle.station.specs.Needed.{needed_by};
 ghost use Rattle.station.specs.StationSteps.{IsBeginning};
 
 use crate::work::work_all;
@@ -133,7 +134,8 @@ fn board_of<D: Disk, N: Work>(
 /// How many parts a total has: one for each worker, and one that stays.
 const PARTS: u64 = WORKERS as u64 + 1;
 
-/// The totals that a crew counts, still without a count: of its stops by their cause, and of its misses.
+/// The totals that a crew counts, still without a count: of its stops by their cause, of its misses, and of the source frames that
+/// claimed frames need.
 #[derive(Drop)]
 struct Blanks {
     source: Blank,
@@ -141,6 +143,7 @@ struct Blanks {
     memory: Blank,
     changed: Blank,
     misses: Blank,
+    claims: Blank,
 }
 
 /// What a crew needs beside its reel.
@@ -208,7 +211,7 @@ fn closing<N: Work + Start, C: Crewed, S: Scans, D: Disk>(
     loads: u64,
 ) -> Crew<S, D>
     requires job { job.now ≡ N.job }
-    requires whole { HasFinished N.job station.log }
+    requires finished { HasFinished N.job station.log × (loads ≤ needed_by N.job station.log.steps) }
     requires within { C.high ≤ frames_of N.job }
     ensures frames { result.report.frames ≡ frames_of N.job }
     ensures loads { (result.report.loads ≡ loads) × (result.report.misses ≡ loads) }
@@ -244,6 +247,7 @@ fn run_opened<
     C: Ledger + Send + Sync,
     E: Ledger + Send + Sync,
     F: Ledger + Send + Sync,
+    G: Ledger + Send + Sync,
     S: Scans + Send,
     D: Disk + Send,
     R: Threads + Wait + Sync,
@@ -256,7 +260,8 @@ fn run_opened<
     workers: u16,
     reel: Reel<D, N>,
 ) -> Result<Crew<S, D>, (Vec<S>, Reel<D, N>)>
-    requires blanks { AreBlanks blanks (A.name, A.parts) (B.name, B.parts) (C.name, C.parts) (E.name, E.parts) (F.name, F.parts) }
+    requires blanks { AreBlanks blanks (A.name, A.parts) (B.name, B.parts) (C.name, C.parts) (E.name, E.parts) (F.name, F.parts)
+        (G.name, G.parts) }
     requires task { IsTask N.job N.share task.now }
     requires files { All (λ s. Tells N.files (S.state s).world) scans.items }
     requires infos { AreInfosOf N.job.parts N.files N.job.infos }
@@ -277,8 +282,9 @@ fn run_opened<
         memory,
         changed,
         misses,
+        claims,
     } = blanks;
-    let ready = match make_ready::<S, D, N, Named<W, A, B, C, E, F>>(
+    let ready = match make_ready::<S, D, N, Named<W, A, B, C, E, F, G>>(
         alloc,
         task,
         &reel,
@@ -296,8 +302,8 @@ fn run_opened<
         room,
         back,
     } = ready;
-    let (station, mut marks) = Station::<D, N, Named<W, A, B, C, E, F>>::new(
-        reel, board, source, failed, memory, changed,
+    let (station, mut marks) = Station::<D, N, Named<W, A, B, C, E, F, G>>::new(
+        reel, board, source, failed, memory, changed, claims,
     );
     let mut units = units;
     let threads = usize::from(workers);
@@ -353,8 +359,9 @@ pub fn run_crew<
         memory: Blank::new(PARTS),
         changed: Blank::new(PARTS),
         misses: Blank::new(PARTS),
+        claims: Blank::new(PARTS),
     };
-    match run_opened::<N, Brand, Brand, Brand, Brand, Brand, Brand, S, D, R>(
+    match run_opened::<N, Brand, Brand, Brand, Brand, Brand, Brand, Brand, S, D, R>(
         rt, alloc, task, blanks, scans, workers, reel,
     ) {
         Ok(crew) => crew,

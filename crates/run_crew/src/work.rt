@@ -66,6 +66,7 @@ where
     C::MemoryStops: Send + Sync,
     C::ChangeStops: Send + Sync,
     C::Misses: Send + Sync,
+    C::Claims: Send + Sync,
     requires some { 0 < threads }
     requires within { threads ≤ length seats.old }
     requires job { job.now ≡ N.job }

@@ -1,5 +1,6 @@
 pub mod Leaving
 pub mod Marks
+pub mod Needed
 pub mod Station
 pub mod StationSteps
 pub mod inside

@@ -1,4 +1,4 @@
-//! What a worker holds of the totals of stops.
+//! What a worker holds of the totals of stops, and of what claimed frames need.
 ghost use Rattle.std.specs.Prelude.{◌≡◌};
 ghost use Rattle.station.specs.Marks.{HasMoreThan, fresh, joined};
 ghost use Rattle.station.specs.inside.Marks.{HasParts};
@@ -7,14 +7,15 @@ use crate::crewed::Crewed;
 use std::marker::Model;
 use std::sync::ledger::Share;
 
-/// Shares of four totals, one for each why of a stop. Contracts see the parts and the amount of each; at least one part
-/// of each is there.
+/// Shares of five totals: one for each why of a stop, and one of the source frames that claimed frames need. Contracts see the parts
+/// and the amount of each; at least one part of each is there.
 #[derive(Drop)]
 pub struct Marks<C: Crewed> {
     pub(crate) source: Share<C::SourceStops>,
     pub(crate) disk: Share<C::DiskStops>,
     pub(crate) memory: Share<C::MemoryStops>,
     pub(crate) changed: Share<C::ChangeStops>,
+    pub(crate) claims: Share<C::Claims>,
 }
 
 impl<C: Crewed> Model for Marks<C> {
@@ -29,6 +30,7 @@ impl<C: Crewed> Model for Marks<C> {
       disk = record { parts = m.disk.parts; amount = m.disk.amount };
       memory = record { parts = m.memory.parts; amount = m.memory.amount };
       changed = record { parts = m.changed.parts; amount = m.changed.amount };
+      claims = record { parts = m.claims.parts; amount = m.claims.amount };
     } };
 
     ghost invariant = { λ m. HasParts (record {
@@ -36,6 +38,7 @@ impl<C: Crewed> Model for Marks<C> {
       disk = record { parts = m.disk.parts; amount = m.disk.amount };
       memory = record { parts = m.memory.parts; amount = m.memory.amount };
       changed = record { parts = m.changed.parts; amount = m.changed.amount };
+      claims = record { parts = m.claims.parts; amount = m.claims.amount };
     }) };
 }
 
@@ -51,6 +54,7 @@ impl<C: Crewed> Marks<C> {
             disk: self.disk.split_off(1, 0),
             memory: self.memory.split_off(1, 0),
             changed: self.changed.split_off(1, 0),
+            claims: self.claims.split_off(1, 0),
         }
     }
 
@@ -63,10 +67,12 @@ impl<C: Crewed> Marks<C> {
             disk,
             memory,
             changed,
+            claims,
         } = other;
         self.source.merge(source);
         self.disk.merge(disk);
         self.memory.merge(memory);
         self.changed.merge(changed);
+        self.claims.merge(claims);
     }
 }

@@ -5,15 +5,17 @@ ghost use Rattle.reel_disk.specs.State.{LeavesDisk};
 ghost use Rattle.render_board.specs.Board.{turn_of, claim_of};
 ghost use Rattle.render_board.specs.declared.board.Turn.TheVariants as turns;
 ghost use Rattle.render_board.specs.declared.step.Why.TheVariants as whys;
-ghost use Rattle.reel_writer.specs.Reel.{IsRunFile, IsSafeFinish};
+ghost use Rattle.reel_writer.specs.Reel.{IsRunFile, IsSafeFinish, frames_of};
 ghost use Rattle.station.specs.Marks.{AreWhole, IsBlankOf, IsSettled, raised_by};
+ghost use Rattle.station.specs.Needed.{needed_by, needed_for, with_needs};
+ghost use Rattle.frame_fetch.specs.Asks.{needs_of};
 ghost use Rattle.station.specs.Station.{StationView, IsStation};
 ghost use Rattle.station.specs.StationSteps.{IsBeginning, IsSurelyAcked, IsSurelyStored, MayStop, ShowsFrame, after_claimed, after_failed, after_finished, after_stopped};
 
 use crate::crewed::Crewed;
 use crate::marks::Marks;
 use cf_base::WORKERS;
-use conform_job::Work;
+use conform_job::{Job, Work};
 use reel_disk::{Disk, DiskFault, Start};
 use reel_writer::{Hashed, Reel};
 use render_board::{Board, Claim, Turn, Why};
@@ -37,6 +39,7 @@ pub struct Station<D: Disk, N: Work + Start, C: Crewed> {
     reel: Reel<D, N>,
     board: Board,
     totals: Totals<C>,
+    claims: Book<C::Claims>,
     of: PhantomData<N>,
     crew: PhantomData<C>,
 }
@@ -47,6 +50,7 @@ impl<D: Disk, N: Work + Start, C: Crewed> Model for Station<D, N, C> {
     ghost use Rattle.reel_disk.specs.Call.{OnlyWrites};
     ghost use Rattle.reel_writer.specs.Reel.{IsRunFile};
     ghost use Rattle.reel_writer.specs.View.{reel_code};
+    ghost use Rattle.station.specs.Needed.{needed_by};
     ghost use Rattle.station.specs.Station.{StationView, IsStation};
     ghost use Rattle.station.specs.inside.Station.{station_of};
 
@@ -61,7 +65,8 @@ impl<D: Disk, N: Work + Start, C: Crewed> Model for Station<D, N, C> {
         (station_of s.reel s.board s.totals.source.total s.totals.disk.total s.totals.memory.total s.totals.changed.total)
         × (s.board.workers ≡ C.workers) × ((D.state s.reel.disk).loans ≡ N.loans)
         × ((s.board.low ≡ C.low) × (s.board.high ≡ C.high))
-        × OnlyWrites (IsRunFile N.job C.low C.high) N.calls (D.state s.reel.disk).calls };
+        × OnlyWrites (IsRunFile N.job C.low C.high) N.calls (D.state s.reel.disk).calls
+        × (s.claims.total ≡ needed_by N.job s.board.steps) };
 }
 
 impl<D: Disk, N: Work + Start, C: Crewed> Station<D, N, C> {
@@ -74,24 +79,25 @@ impl<D: Disk, N: Work + Start, C: Crewed> Station<D, N, C> {
         disk: Blank,
         memory: Blank,
         changed: Blank,
+        claims: Blank,
     ) -> (Station<D, N, C>, Marks<C>)
         requires source { IsBlankOf C.SourceStops.name C.SourceStops.parts source.name source.parts }
         requires disk { IsBlankOf C.DiskStops.name C.DiskStops.parts disk.name disk.parts }
         requires memory { IsBlankOf C.MemoryStops.name C.MemoryStops.parts memory.name memory.parts }
         requires changed { IsBlankOf C.ChangeStops.name C.ChangeStops.parts changed.name changed.parts }
+        requires claims { IsBlankOf C.Claims.name C.Claims.parts claims.name claims.parts }
         requires beginning { IsBeginning N.job N.files N.start D.tells D.state reel board }
-        requires workers { board.workers ≡ C.workers }
-        requires range { (board.low ≡ C.low) × (board.high ≡ C.high) }
-        requires lent { (D.state reel.disk).loans ≡ N.loans }
-        requires own { OnlyWrites (IsRunFile N.job C.low C.high) N.calls (D.state reel.disk).calls }
-        ensures reel { result.0.reel ≡ reel }
-        ensures log { result.0.log ≡ board }
-        ensures marks { AreWhole C.SourceStops.parts C.DiskStops.parts C.MemoryStops.parts C.ChangeStops.parts result.1 }
+        requires named { (board.workers ≡ C.workers) × ((board.low ≡ C.low) × (board.high ≡ C.high)) }
+        requires disk_of { ((D.state reel.disk).loans ≡ N.loans)
+            × OnlyWrites (IsRunFile N.job C.low C.high) N.calls (D.state reel.disk).calls }
+        ensures station { (result.0.reel ≡ reel) × (result.0.log ≡ board) }
+        ensures marks { AreWhole C.SourceStops.parts C.DiskStops.parts C.MemoryStops.parts C.ChangeStops.parts C.Claims.parts result.1 }
     {
         let (source_book, source_share) = source.open::<C::SourceStops>();
         let (disk_book, disk_share) = disk.open::<C::DiskStops>();
         let (memory_book, memory_share) = memory.open::<C::MemoryStops>();
         let (changed_book, changed_share) = changed.open::<C::ChangeStops>();
+        let (claims_book, claims_share) = claims.open::<C::Claims>();
         let station = Station {
             reel,
             board,
@@ -101,6 +107,7 @@ impl<D: Disk, N: Work + Start, C: Crewed> Station<D, N, C> {
                 memory: memory_book,
                 changed: changed_book,
             },
+            claims: claims_book,
             of: PhantomData,
             crew: PhantomData,
         };
@@ -109,18 +116,25 @@ impl<D: Disk, N: Work + Start, C: Crewed> Station<D, N, C> {
             disk: disk_share,
             memory: memory_share,
             changed: changed_share,
+            claims: claims_share,
         };
         (station, marks)
     }
 
-    /// Takes the least free frame for an idle worker, as the board does.
-    pub fn claim(&mut self, worker: u16) -> Claim
+    /// Takes the least free frame for an idle worker, as the board does. What that frame needs is counted in the worker's marks.
+    pub fn claim(&mut self, worker: u16, job: &Job, marks: &mut Marks<C>) -> Claim
+        requires job { job.now ≡ N.job }
         requires worker { worker < self.old.log.workers }
         requires idle { turn_of self.old.log worker ≡ turns.Idle }
         ensures answer { result ≡ claim_of self.old.log }
         ensures step { self.new ≡ after_claimed self.old worker result }
+        ensures marks { marks.new ≡ with_needs (needed_for N.job result) marks.old }
     {
-        self.board.claim(worker)
+        let answer = self.board.claim(worker);
+        if let Claim::Take(i) = answer {
+            self.claims.add(&mut marks.claims, count_needs(job, i));
+        }
+        answer
     }
 
     /// Writes and acknowledges the frame that the worker holds, as the reel does, and then it is done. Its digest was made
@@ -221,20 +235,23 @@ impl<D: Disk, N: Work + Start, C: Crewed> Station<D, N, C> {
         self.reel.is_closed()
     }
 
-    /// Shows that the amounts of marks that have every part are the numbers of stops.
+    /// Shows that the amounts of marks that have every part are the numbers of stops, and what the claimed frames need.
     pub fn settle(&mut self, marks: &mut Marks<C>)
         requires source { marks.old.source.parts ≡ C.SourceStops.parts }
         requires disk { marks.old.disk.parts ≡ C.DiskStops.parts }
         requires memory { marks.old.memory.parts ≡ C.MemoryStops.parts }
         requires changed { marks.old.changed.parts ≡ C.ChangeStops.parts }
+        requires claims { marks.old.claims.parts ≡ C.Claims.parts }
         ensures same { self.new ≡ self.old }
         ensures marks { marks.new ≡ marks.old }
         ensures settled { IsSettled self.old.log.steps marks.old }
+        ensures needed { marks.old.claims.amount ≡ needed_by N.job self.old.log.steps }
     {
         self.totals.source.audit(&mut marks.source);
         self.totals.disk.audit(&mut marks.disk);
         self.totals.memory.audit(&mut marks.memory);
         self.totals.changed.audit(&mut marks.changed);
+        self.claims.audit(&mut marks.claims);
     }
 
     /// Gives up the station.
@@ -253,9 +270,19 @@ impl<D: Disk, N: Work + Start, C: Crewed> Station<D, N, C> {
             reel,
             board,
             totals: _,
+            claims: _,
             of: _,
             crew: _,
         } = self;
         (reel, board)
     }
+}
+
+/// How many source frames a record frame needs.
+fn count_needs(job: &Job, i: u32) -> u64
+    requires within { i < frames_of job.now }
+    ensures { result ≡ needs_of job.now i }
+{
+    let need = job.need(i);
+    u64::from(need.old.is_some()) + u64::from(need.new.is_some())
 }

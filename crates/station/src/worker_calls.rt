@@ -1,27 +1,33 @@
 //! What a worker asks of the station while it holds the lock. Each call is made whatever the station is, and answers why it
 //! came to nothing.
-ghost use Rattle.std.specs.Prelude.{◌≡◌, ◌≢◌, ◌<◌, IfErr, IfOk, OnOk};
+ghost use Rattle.std.specs.Prelude.{◌≡◌, ◌≢◌, ◌<◌, IfErr, IfOk, OnErr, OnOk};
 ghost use Rattle.render_board.specs.declared.board.Turn.TheVariants as turns;
 ghost use Rattle.render_board.specs.declared.step.Why.TheVariants as whys;
 ghost use Rattle.reel_writer.specs.Reel.{frames_of};
 ghost use Rattle.station.specs.Leaving.{HasGone, HasLeft, HasTaken, IsUntaken, HasGoneHolding};
+ghost use Rattle.station.specs.Needed.{with_needs};
+ghost use Rattle.frame_fetch.specs.Asks.{needs_of};
 ghost use Rattle.station.specs.StationSteps.{MayStop, after_finished, after_stopped};
 
 use crate::crewed::Crewed;
 use crate::leaving::{Away, Held, Leave, Reason};
 use crate::marks::Marks;
 use crate::station::Station;
-use conform_job::Work;
+use conform_job::{Job, Work};
 use reel_disk::{Disk, DiskFault, Start};
 use reel_writer::Hashed;
 use render_board::{Claim, Turn, Why};
 
 impl<D: Disk, N: Work + Start, C: Crewed> Station<D, N, C> {
-    /// Takes the least free frame for an idle worker while the reel is open, or tells why there is none for it.
-    pub fn take(&mut self, worker: u16) -> Result<Held, Away>
+    /// Takes the least free frame for an idle worker while the reel is open, or tells why there is none for it. What the frame needs
+    /// is counted in the worker's marks.
+    pub fn take(&mut self, worker: u16, job: &Job, marks: &mut Marks<C>) -> Result<Held, Away>
+        requires job { job.now ≡ N.job }
         ensures within { IfOk result (λ i. i < frames_of N.job) }
         ensures taken { IfOk result (λ i. HasTaken self.old worker i self.new) }
         ensures untaken { IfErr result (λ reason. IsUntaken self.old worker reason × (self.new ≡ self.old)) }
+        ensures counted { IfOk result (λ i. marks.new ≡ with_needs (needs_of N.job i) marks.old) }
+        ensures uncounted { OnErr result (marks.new ≡ marks.old) }
     {
         if worker >= self.workers() {
             return Err(Away::of(Reason::Unknown));
@@ -33,7 +39,7 @@ impl<D: Disk, N: Work + Start, C: Crewed> Station<D, N, C> {
             Turn::Idle => {}
             Turn::Holds(_) | Turn::Stopped => return Err(Away::of(Reason::Moved)),
         }
-        match self.claim(worker) {
+        match self.claim(worker, job, marks) {
             Claim::Take(frame) => Ok(Held { frame }),
             Claim::NoneLeft => Err(Away::of(Reason::NoneLeft)),
             Claim::Stopped => Err(Away::of(Reason::Stopped)),

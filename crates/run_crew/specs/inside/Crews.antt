@@ -12,6 +12,7 @@ use Rattle.render_board.specs.declared.step.Step.{Step}
 use Rattle.run_alone.specs.declared.report.Report.{Report}
 use Rattle.frame_fetch.specs.declared.run_end.RunEnd.{RunEnd}
 use Rattle.frame_fetch.specs.declared.run_end.RunEnd.TheVariants.{Done}
+use Rattle.station.specs.Needed.{needed_by}
 use Rattle.station.specs.Station.{StationView, IsStation}
 use Rattle.run_crew.specs.declared.crew.Crew.{Crew}
 use Rattle.reel_writer.specs.Reel.{IsRunFile}
@@ -32,6 +33,7 @@ pub record IsClosedStation {D : Type 0} (job : JobData) (low high : ℕ) (told :
   pub whole : has_stop steps ≡ false → (i : ℕ) → station.log.low ≤ i → i < station.log.high → is_done station.log i ≡ true
   pub kept : report.kept ≡ station.reel.kept
   pub rendered : report.rendered ≡ length (finished_of steps)
+  pub few : report.loads ≤ needed_by job steps
 
 -- the same of a crew that took steps
 abbrev pub HasClosedStation : {S D : Type 0} → JobData → (low high : ℕ) → (told : Option World) → (workers : ℕ)

@@ -8,3 +8,4 @@ pub record HasParts (marks : Tallies) : Type 0 where
   pub disk : 1 ≤ marks.disk.parts
   pub memory : 1 ≤ marks.memory.parts
   pub changed : 1 ≤ marks.changed.parts
+  pub claims : 1 ≤ marks.claims.parts

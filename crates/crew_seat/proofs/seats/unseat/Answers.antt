@@ -33,6 +33,7 @@ loop-seat-preserved g c =
       taken = taken_more _ _ _ seat.marks _ _ inv.taken counted.marks c.join.ensures.all more;
       shares = let was = inv.shares in omega (arith, was, ap (λ (u : Tally). u.parts) c.join-in-loop-seat.ensures.all, ap (λ (u : Tally). u.parts) parts.units, counted.parts, more);
       amount = let was = inv.amount in omega (arith, was, ap (λ (u : Tally). u.amount) c.join-in-loop-seat.ensures.all, ap (λ (u : Tally). u.amount) parts.units, parts.loads, counted.amount);
+      needed = let was = inv.needed in omega (arith, was, ap (λ (t : Tallies). t.claims.amount) c.join.ensures.all, parts.loads, counted.needed);
     }
 
 pub overflow_add-loads : goal.overflow_add-loads
@@ -65,4 +66,5 @@ returns g c =
       taken = subst (λ n. HasTaken c.args.marks.now n c.loop-seat.marks) (ap length is ∙ sym c.args.seats.ok.0) inv.taken;
       shares = inv.shares ∙ ap (λ n. c.args.units.now.parts + n) (ap length is ∙ sym c.args.seats.ok.0);
       amount = inv.amount;
+      needed = inv.needed;
     }

@@ -19,4 +19,5 @@ invariant-loop-seat g l = record {
   taken : HasTaken l.initial.marks (length l.yielded) l.marks;
   shares : l.units.parts ≡ l.initial.units.parts + length l.yielded;
   amount : l.units.amount ≡ l.initial.units.amount + l.loads;
+  needed : l.initial.marks.claims.amount + l.loads ≤ l.marks.claims.amount;
 }

@@ -1,10 +1,11 @@
-use Rattle.std.proofs.Common.{◌≡◌, ◌∙◌, ℕ, arith, rules, sym, subst, refl}
+use Rattle.std.proofs.Common.{◌≡◌, ◌∙◌, ℕ, ap, arith, rules, sym, subst, refl}
 use Rattle.reel_disk.specs.Call.{OnlyWrites}
 use Rattle.reel_disk.specs.Disk.{moment_of}
 use Rattle.render_board.specs.History.{first_why}
 use Rattle.reel_writer.specs.Reel.{frames_of, IsRunFile}
 use Rattle.reel_writer.specs.View.{IsReelOf}
 use Rattle.run_crew.specs.Crews.{end_by}
+use Rattle.run_alone.specs.declared.report.Report.{Report}
 use Rattle.run_alone.specs.Run.{AreAllAcked}
 use Rattle.run_crew.proofs.Crewing.{crew_acked, whole_range}
 use Rattle.run_crew.proofs.Gathering.{end_done}
@@ -22,9 +23,10 @@ returns-clause-made g c =
       disk_is = search rules;
       steps_are = refl;
       ends = search rules;
-      whole = whole_range c.args.station.log (frames_of g.N.Work.job) (omega (arith, range, within)) c.requires.whole;
+      whole = whole_range c.args.station.log (frames_of g.N.Work.job) (omega (arith, range, within)) c.requires.finished.0;
       kept = search rules;
       rendered = search rules;
+      few = let few = c.requires.finished.1 in let same = ap (λ (r : Report). r.loads) c.report_of-report.ensures.report in omega (arith, few, same);
     }
 
 pub returns-clause-own : goal.returns-clause-own
@@ -44,4 +46,4 @@ returns-clause-acked g c done told =
     subst (λ (n : ℕ). AreAllAcked g.N.Work.job n g.C.Crewed.high (moment_of (g.D.Disk.state c.close.result).history)) range.0
     (subst (λ (n : ℕ). AreAllAcked g.N.Work.job c.args.station.log.low n (moment_of (g.D.Disk.state c.close.result).history)) high
     (subst (λ d. AreAllAcked g.N.Work.job c.args.station.log.low c.args.station.log.high (moment_of (g.D.Disk.state d).history)) (sym same)
-    (crew_acked g.N.Work.job g.N.Work.files g.N.Start.start g.D.Disk.tells g.D.Disk.state c.args.station c.into_parts-reel.ensures.kept of none (whole_range c.args.station.log (frames_of g.N.Work.job) (omega (arith, high, within)) c.requires.whole none) told)))
+    (crew_acked g.N.Work.job g.N.Work.files g.N.Start.start g.D.Disk.tells g.D.Disk.state c.args.station c.into_parts-reel.ensures.kept of none (whole_range c.args.station.log (frames_of g.N.Work.job) (omega (arith, high, within)) c.requires.finished.0 none) told)))

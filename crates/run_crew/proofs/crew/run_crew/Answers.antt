@@ -35,7 +35,7 @@ run_opened-requires-clause-workers g c κs within =
     (omega (arith, least, len, some, asked), omega (arith, least, len), few)
 
 pub run_opened-requires-clause-blanks : goal.run_opened-requires-clause-blanks
-run_opened-requires-clause-blanks g c κs within = record { source = search rules; disk = search rules; memory = search rules; changed = search rules; misses = search rules }
+run_opened-requires-clause-blanks g c κs within = record { source = search rules; disk = search rules; memory = search rules; changed = search rules; misses = search rules; claims = search rules }
 
 pub run_opened-requires-clause-own : goal.run_opened-requires-clause-own
 run_opened-requires-clause-own g c κs within =

@@ -17,3 +17,6 @@ ghosts-run_opened-E-Ledger g a = record { name = a.blanks.changed.name; parts = 
 
 abbrev pub ghosts-run_opened-F-Ledger : goal.ghosts-run_opened-F-Ledger
 ghosts-run_opened-F-Ledger g a = record { name = a.blanks.misses.name; parts = a.blanks.misses.parts }
+
+abbrev pub ghosts-run_opened-G-Ledger : goal.ghosts-run_opened-G-Ledger
+ghosts-run_opened-G-Ledger g a = record { name = a.blanks.claims.name; parts = a.blanks.claims.parts }

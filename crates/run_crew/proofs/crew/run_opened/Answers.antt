@@ -7,6 +7,7 @@ use Rattle.frame_fetch.specs.Ends.{IsChange}
 use Rattle.frame_share.specs.Share.{IsLegal, ShareView, misses_of}
 use Rattle.frame_share.specs.Units.{Tally}
 use Rattle.crew_seat.specs.Stepped.{IsFresh, WasCounted}
+use Rattle.station.specs.Needed.{needed_by}
 use Rattle.station.specs.Station.{StationView}
 use Rattle.station.specs.StationSteps.{IsBeginning}
 use Rattle.run_crew.specs.Crews.{AreShared}
@@ -33,10 +34,17 @@ unseat-scans-requires-clause-counted g c =
     all_after (λ s. WasCounted s) c.deref_mut.result.now c.work_all-station.new.seats c.seat_all-seats.result.items c.seat_all-seats.result.len c.work_all-station.ensures.size (search rules)
     (λ k d lt. was_counted g.N.Work.files g.S.Scans.state _ _ (fresh k d lt) (c.work_all-station.ensures.worked k d lt))
 
-pub closing-requires-clause-whole : goal.closing-requires-clause-whole
-closing-requires-clause-whole g c none i lt inside =
-    subst (λ (v : StationView _). is_done v.log i ≡ true) (sym c.settle.ensures.same) (c.work_all-station.ensures.whole (ap (λ (v : StationView _). has_stop v.log.steps) (sym c.settle.ensures.same) ∙ none) i lt
-    (subst (λ (v : StationView _). is_in v.log i ≡ true) c.settle.ensures.same inside))
+-- all is finished, and no more was loaded than the claimed frames need
+pub closing-requires-clause-finished : goal.closing-requires-clause-finished
+closing-requires-clause-finished g c =
+    let needed = c.unseat-scans.ensures.needed in
+    let none = c.seat_all-seats.ensures.given.claims.1 ∙ c.new-station.ensures.marks.claims.1 in
+    let settled = c.settle.ensures.needed ∙ ap (λ (v : StationView _). needed_by g.N.Work.job v.log.steps) (sym c.settle.ensures.same) in (
+      (λ none i lt inside.
+          subst (λ (v : StationView _). is_done v.log i ≡ true) (sym c.settle.ensures.same) (c.work_all-station.ensures.whole (ap (λ (v : StationView _). has_stop v.log.steps) (sym c.settle.ensures.same) ∙ none) i lt
+          (subst (λ (v : StationView _). is_in v.log i ≡ true) c.settle.ensures.same inside))),
+      omega (arith, needed, none, settled),
+    )
 
 pub returns-clause-scans : goal.returns-clause-scans
 returns-clause-scans g c =

@@ -4,8 +4,8 @@ use Rattle.render_board.specs.declared.step.Why.{Why}
 use Rattle.render_board.specs.declared.step.Why.TheVariants as whys
 use Rattle.frame_render.specs.Frame.{FrameBytes}
 use Rattle.frame_fetch.specs.declared.run_end.RunEnd.{RunEnd}
-use Rattle.station.specs.Marks.{raised_by}
-use Rattle.crew_seat.proofs.Stepping.{marked_disk, marked_end, marked_left, marked_none}
+use Rattle.station.specs.Marks.{Tallies, raised_by}
+use Rattle.crew_seat.proofs.Stepping.{left_claims, marked_disk, marked_end, marked_left, marked_none}
 use Rattle.crew_worker.proofs.rounds.Shared.deliver.Goals as goal
 
 pub returns-in-Ok-hand_in-clause-marks : goal.returns-in-Ok-hand_in-clause-marks
@@ -13,6 +13,16 @@ returns-in-Ok-hand_in-clause-marks g c = marked_none _ _ _ _ c.in-Ok-hand_in.ens
 
 pub returns-in-Ok-hand_in-clause-goes_on : goal.returns-in-Ok-hand_in-clause-goes_on
 returns-in-Ok-hand_in-clause-goes_on g c = (c.in-Ok-hand_in.ensures.unmarked, subst (λ (r : Result FrameBytes RunEnd). IsOk r) (sym c.in-Ok.is) refl)
+
+-- neither a finish nor a stop claims a frame
+pub returns-in-Ok-hand_in-clause-claims : goal.returns-in-Ok-hand_in-clause-claims
+returns-in-Ok-hand_in-clause-claims g c = ap (λ (t : Tallies). t.claims) c.in-Ok-hand_in.ensures.unmarked
+
+pub returns-in-Err-hand_in-clause-claims : goal.returns-in-Err-hand_in-clause-claims
+returns-in-Err-hand_in-clause-claims g c = left_claims _ _ _ c.in-Err-hand_in.leave c.in-Err-hand_in.ensures.left
+
+pub returns-in-Err-clause-claims : goal.returns-in-Err-clause-claims
+returns-in-Err-clause-claims g c = left_claims _ _ _ c.give_up.result c.give_up.ensures.left
 
 pub returns-in-Err-hand_in-clause-marks : goal.returns-in-Err-hand_in-clause-marks
 returns-in-Err-hand_in-clause-marks g c =

@@ -14,6 +14,6 @@ invariant-loop g l = record {
   closed : l.seat.loader.units.pending ≡ 0;
   room : length l.room ≡ frame_size g.N.Work.job;
   unfailed : l.seat.has_failed ≡ false;
-  marks : l.seat.marks ≡ l.fn.seat.marks;
-  stepped : HasStepped g.N.Work.files g.S.Scans.state (2 * l.counter) l.fn.seat l.seat;
+  marks : l.seat.marks ≡ record l.fn.seat.marks { claims = l.seat.marks.claims };
+  stepped : HasStepped g.N.Work.files g.S.Scans.state (2 * l.counter) 0 l.fn.seat l.seat;
 }

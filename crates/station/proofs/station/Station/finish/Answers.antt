@@ -1,9 +1,10 @@
-use Rattle.std.proofs.Common.{◌≡◌, true, rules, ◌∙◌, ap, subst}
+use Rattle.std.proofs.Common.{◌≡◌, true, rules, sym, ◌∙◌, ap, subst}
 use Rattle.reel_writer.specs.Reel.{IsSafeFinish}
 use Rattle.render_board.specs.Board.{Log}
 use Rattle.render_board.proofs.Holding.{held_isnt_done}
 use Rattle.station.specs.Station.{StationView}
 use Rattle.reel_disk.proofs.Writing.{writing_then, writing_wider}
+use Rattle.station.proofs.Needing.{needed_finished, needed_stopped}
 use Rattle.station.proofs.StationKeeps.{finished_as, failed_as, held_of_run}
 use Rattle.station.proofs.station.Station.finish.Goals as goal
 
@@ -21,6 +22,7 @@ invariant_of-self g c =
       c.finish.ensures.disk.lent ∙ c.self.invariant.2,
       (ap (λ (l : Log). l.low) c.finished.ensures ∙ c.self.invariant.3.0, ap (λ (l : Log). l.high) c.finished.ensures ∙ c.self.invariant.3.1),
       writing_then c.self.invariant.4 (writing_wider (held_of_run g.N.Work.job s.board _ _ c.args.worker c.args.frame.now.index c.self.invariant.3.0 c.self.invariant.3.1 c.self.invariant.0.legal (search rules)) c.finish.ensures.own),
+      c.self.invariant.5 ∙ sym (needed_finished g.N.Work.job s.board c.finished.new.self c.args.worker c.index-index.result c.finished.ensures),
     )
 
 pub invariant_of-self-in-Err : goal.invariant_of-self-in-Err
@@ -34,6 +36,7 @@ invariant_of-self-in-Err g c =
       c.finish.ensures.disk.lent ∙ c.self.invariant.2,
       (ap (λ (l : Log). l.low) c.stop.ensures ∙ c.self.invariant.3.0, ap (λ (l : Log). l.high) c.stop.ensures ∙ c.self.invariant.3.1),
       writing_then c.self.invariant.4 (writing_wider (held_of_run g.N.Work.job s.board _ _ c.args.worker c.args.frame.now.index c.self.invariant.3.0 c.self.invariant.3.1 c.self.invariant.0.legal (search rules)) c.finish.ensures.own),
+      c.self.invariant.5 ∙ sym (needed_stopped g.N.Work.job s.board c.stop.new.self c.args.worker _ c.stop.ensures),
     )
 
 pub returns-in-Ok-clause-safe : goal.returns-in-Ok-clause-safe

@@ -1,7 +1,8 @@
-use Rattle.std.proofs.Common.{rules, refl, ◌∙◌, ap}
+use Rattle.std.proofs.Common.{rules, refl, sym, ◌∙◌, ap}
 use Rattle.render_board.specs.Board.{Log}
 use Rattle.render_board.specs.declared.step.Why.TheVariants.{Source, Memory, Changed}
 use Rattle.station.specs.Station.{StationView}
+use Rattle.station.proofs.Needing.{needed_stopped}
 use Rattle.station.proofs.StationKeeps.{stopped_as}
 use Rattle.station.proofs.station.Station.stop.Goals as goal
 
@@ -16,6 +17,7 @@ invariant_of-self g c =
       c.self.invariant.2,
       (ap (λ (l : Log). l.low) c.stop.ensures ∙ c.self.invariant.3.0, ap (λ (l : Log). l.high) c.stop.ensures ∙ c.self.invariant.3.1),
       c.self.invariant.4,
+      c.self.invariant.5 ∙ sym (needed_stopped g.N.Work.job s.board c.stop.new.self c.args.worker _ c.stop.ensures),
     )
 
 pub invariant_of-self-in-Memory : goal.invariant_of-self-in-Memory
@@ -29,6 +31,7 @@ invariant_of-self-in-Memory g c =
       c.self.invariant.2,
       (ap (λ (l : Log). l.low) c.stop.ensures ∙ c.self.invariant.3.0, ap (λ (l : Log). l.high) c.stop.ensures ∙ c.self.invariant.3.1),
       c.self.invariant.4,
+      c.self.invariant.5 ∙ sym (needed_stopped g.N.Work.job s.board c.stop.new.self c.args.worker _ c.stop.ensures),
     )
 
 pub invariant_of-self-in-Changed : goal.invariant_of-self-in-Changed
@@ -42,6 +45,7 @@ invariant_of-self-in-Changed g c =
       c.self.invariant.2,
       (ap (λ (l : Log). l.low) c.stop.ensures ∙ c.self.invariant.3.0, ap (λ (l : Log). l.high) c.stop.ensures ∙ c.self.invariant.3.1),
       c.self.invariant.4,
+      c.self.invariant.5 ∙ sym (needed_stopped g.N.Work.job s.board c.stop.new.self c.args.worker _ c.stop.ensures),
     )
 
 pub returns-in-Memory-clause-step : goal.returns-in-Memory-clause-step
