@@ -218,7 +218,7 @@ impl<R: LockFiles + Drop> ReelFiles<R> {
                 })
             }
             Err(trouble) if trouble.error().kind() == ErrorKind::AlreadyExists => {
-                Err(other_run(&folder_path(&self.folder)?))
+                Err(self.kept_out())
             }
             Err(trouble) => Err(trouble),
         }
@@ -315,7 +315,15 @@ impl<R: LockFiles + Drop> ReelFiles<R> {
     /// Why the body isn't this run's: it isn't there, or another run made it after this one found none.
     fn no_body(&self, path: &FilePath) -> Trouble {
         match what_is_at(&self.rt, path) {
-            Ok(_) => other_run(path),
+            Ok(_) => self.kept_out(),
+            Err(trouble) => trouble,
+        }
+    }
+
+    /// Another run is at work in the folder.
+    fn kept_out(&self) -> Trouble {
+        match folder_path(&self.folder) {
+            Ok(folder) => other_run(&folder),
             Err(trouble) => trouble,
         }
     }

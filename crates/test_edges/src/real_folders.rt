@@ -45,6 +45,14 @@ fn failed_by<R: LockFiles + Drop>(
     }
 }
 
+/// Whether the first fault is that another run is at work in the folder.
+fn is_kept_out<R: LockFiles + Drop>(disk: &FolderDisk<R>, folder: &str) -> bool {
+    match disk.trouble() {
+        Some(trouble) => trouble.path() == folder && failed_by(disk, None, ErrorKind::ResourceBusy),
+        None => false,
+    }
+}
+
 fn has_bytes(rt: &HostRuntime, path: &str, bytes: &[u8]) -> bool {
     match fs::read(rt, path) {
         Ok(found) => found.as_slice() == bytes,
@@ -57,19 +65,22 @@ fn second_is_kept_out(rt: &HostRuntime, folder: &str) -> io::Result<bool> {
     let path = path_of(folder)?;
     let first_rt = rt.clone()?;
     let early_rt = rt.clone()?;
+    let late_rt = rt.clone()?;
     let second_rt = rt.clone()?;
     let mut first = FolderDisk::new(first_rt, path);
     let mut early = FolderDisk::new(early_rt, path);
-    // Both find an empty folder, and only one of them makes the body.
-    let both = syncs(&mut early, FileId::Seal2) && begins(&mut first);
-    let early_fails = !writes(&mut early, FileId::Body2)
-        && failed_by(&early, None, ErrorKind::ResourceBusy);
+    let mut late = FolderDisk::new(late_rt, path);
+    // All find an empty folder, and only one of them makes the body. Then one would make it too, and one would go on with it.
+    let empty = syncs(&mut early, FileId::Seal2) && syncs(&mut late, FileId::Seal2);
+    let begun = begins(&mut first);
+    let early_fails = !writes(&mut early, FileId::Body2) && is_kept_out(&early, folder);
+    let late_fails = !syncs(&mut late, FileId::Body2) && is_kept_out(&late, folder);
     let mut second = FolderDisk::new(second_rt, path);
     let second_fails = !syncs(&mut second, FileId::Seal2)
         && !writes(&mut second, FRAME)
         && second.length(FRAME) == Length::Absent
-        && failed_by(&second, None, ErrorKind::ResourceBusy);
-    Ok(both && early_fails && second_fails)
+        && is_kept_out(&second, folder);
+    Ok(empty && begun && early_fails && late_fails && second_fails)
 }
 
 /// Whether a run goes on where the first has ended.
