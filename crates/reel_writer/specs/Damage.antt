@@ -1,11 +1,11 @@
 -- Damage: a frame whose file has another SHA-256 than the ledger keeps of it. All of it is this
 -- project's own rule.
--- * damage: a frame whose file has another SHA-256 than its record; the first one; which files a check reads, and that it answers by
---   what these reads gave
+-- * damage: a frame whose file has another SHA-256 than its record; the first one; which files a check reads, each once, and that it
+--   answers by what these reads gave
 --     IsDamaged      a frame that is damaged
 --     HasChecked      what a check of the reel's files finds
---     ReadsReel job view result before after      over every disk, which files the calls of a check are on, and that each digest
---       which its answer goes by is that of bytes which reads of that frame's file gave
+--     ReadsReel job view result before after      over every disk, which files the calls of a check are on, that none is read twice,
+--       and that each digest which its answer goes by is that of bytes which reads of that frame's file gave
 use Rattle.std.specs.Prelude.{◌≡◌, ◌≢◌, ℕ, ◌<◌, true, List, length, map, count_by, is_some, Some, IfSome, Result, Ok, Err}
 use Rattle.std.specs.List.{range_with_len}
 use Rattle.cf_base.specs.declared.file.FileId.{FileId}
@@ -15,7 +15,7 @@ use Rattle.reel_disk.specs.Call.{Call}
 use Rattle.reel_disk.specs.Disk.{Files}
 use Rattle.resume_ledger.specs.Hash.{digest_of_file}
 use Rattle.resume_ledger.specs.Look.{ViewState, IsViewOf, hash_at}
-use Rattle.reel_writer.specs.Reads.{MakesOnly, WasHashed}
+use Rattle.reel_writer.specs.Reads.{MakesOnly, ReadsOnce, WasHashed}
 use Rattle.reel_writer.specs.Reel.{frames_of, IsSoundReel}
 use Rattle.reel_writer.specs.declared.damage.CheckFault.{CheckFault}
 use Rattle.reel_writer.specs.declared.damage.CheckFault.TheVariants.{Damaged, DiskFault, NoMemory}
@@ -78,7 +78,8 @@ IsCheckOf job view (Err (Damaged frame kept found)) calls = AreAsKept job view f
 IsCheckOf job view (Err DiskFault) calls = Unit {0}
 IsCheckOf job view (Err NoMemory) calls = Unit {0}
 
--- The calls since those before are on files of frames with a record alone, and the answer is of what they gave.
+-- The calls since those before are on files of frames with a record alone, they read none twice, and the answer is of what they gave.
 pub record ReadsReel (job : JobData) (view : ViewState) (result : Result ℕ CheckFault) (before after : List Call) : Type 0 where
   pub on : MakesOnly (IsRecordedFile job view) before after
+  pub once : ReadsOnce before after
   pub says : IsCheckOf job view result after

@@ -1,13 +1,14 @@
 //! A check of a reel's files against the ledger's records.
-ghost use Rattle.std.specs.Prelude.{◌≡◌, ◌<◌, true, length, Err, IfOk, OnOk, IsErr};
+ghost use Rattle.std.specs.Prelude.{◌≡◌, ◌+◌, ◌<◌, true, length, List, Err, IfOk, OnOk, IsErr, MatchResult};
+ghost use Rattle.reel_disk.specs.Call.{Call};
 ghost use Rattle.reel_disk.specs.Disk.{view_of};
 ghost use Rattle.conform_job.specs.Job.{file_of};
 ghost use Rattle.resume_ledger.specs.Hash.{digest_of_file};
-ghost use Rattle.reel_writer.specs.inside.Ahead.{AreRead};
+ghost use Rattle.reel_writer.specs.inside.Ahead.{AreRead, IsOnceSoFar};
 ghost use Rattle.reel_disk.specs.State.{LeavesDisk, OnlyReads};
 ghost use Rattle.reel_writer.specs.Reel.{frames_of};
 ghost use Rattle.reel_writer.specs.Damage.{HasChecked, IsCheckFor, IsIntactWhereSound, IsRecorded, IsRecordedFile, ReadsReel};
-ghost use Rattle.reel_writer.specs.Reads.{MakesOnly, WasHashed};
+ghost use Rattle.reel_writer.specs.Reads.{MakesOnly, ReadsOnce, WasHashed};
 ghost use Rattle.reel_writer.specs.inside.Damage.{HasCheckedOne, IsCheckOneFor, ReadsFrame};
 
 use crate::ahead::Ahead;
@@ -63,7 +64,7 @@ pub fn check<D: Disk, H: Hasher>(
     // The number of records, and which frame is damaged, are known over every disk.
     ensures known { IsCheckFor job.now view.now result }
 
-    // Over every disk it reads the files of frames with a record alone, and each digest is of what reads of that file gave.
+    // Over every disk it reads the files of frames with a record alone, each once, and each digest is of what reads of that file gave.
     ensures read { ReadsReel job.now view.now result (D.state disk.old).calls (D.state disk.new).calls }
     ensures disk { LeavesDisk (result ≡ Err CheckFault.DiskFault) (D.state disk.old) (D.state disk.new) }
 {
@@ -90,6 +91,7 @@ fn check_all<D: Disk, H: Hasher>(
     requires can_hash { H.can_hash }
     requires size { length view.now.gates ≡ frames_of job.now }
     requires ahead { AreRead job.now D.tells (D.state disk.old) ahead.old.rooms.items }
+    requires once { IsOnceSoFar job.now 0 ahead.old.next (D.state disk.old).calls (D.state disk.old).calls ahead.old.rooms.items }
     requires piece { length piece.old ≡ PIECE }
     ensures answer { D.tells ≡ true
         → HasChecked job.now view.now (view_of (D.state disk.old).history) result }
@@ -128,8 +130,11 @@ fn check_one<D: Disk, H: Hasher>(
     ensures reads { OnlyReads D.tells (D.state disk.old) (D.state disk.new) }
     ensures known { IsCheckOneFor view.now i result }
     ensures read { ReadsFrame job.now view.now i result (D.state disk.old).calls (D.state disk.new).calls }
+    ensures once { (before : List Call) → IsOnceSoFar job.now i ahead.old.next before (D.state disk.old).calls ahead.old.rooms.items
+        → MatchResult result
+        (λ _. IsOnceSoFar job.now (i + 1) ahead.new.next before (D.state disk.new).calls ahead.new.rooms.items)
+        (λ _. ReadsOnce before (D.state disk.new).calls) }
     ensures ahead { OnOk result (AreRead job.now D.tells (D.state disk.new) ahead.new.rooms.items) }
-    ensures piece { length piece.new ≡ PIECE }
     ensures disk { LeavesDisk (result ≡ Err CheckFault.DiskFault) (D.state disk.old) (D.state disk.new) }
 {
     let Some(kept) = view.hash_of(i) else {
@@ -168,10 +173,13 @@ fn digest_of<D: Disk, H: Hasher>(
     ensures digest { IfOk result (λ digest. D.tells ≡ true
         → digest ≡ digest_of_file (view_of (D.state disk.old).history (file_of job.now i))) }
     ensures hashed { IfOk result (λ digest. WasHashed (file_of job.now i) digest (D.state disk.new).calls) }
+    ensures once { (before : List Call) → IsOnceSoFar job.now i ahead.old.next before (D.state disk.old).calls ahead.old.rooms.items
+        → MatchResult result
+        (λ _. IsOnceSoFar job.now (i + 1) ahead.new.next before (D.state disk.new).calls ahead.new.rooms.items)
+        (λ _. ReadsOnce before (D.state disk.new).calls) }
     ensures reads { OnlyReads D.tells (D.state disk.old) (D.state disk.new) }
     ensures on { MakesOnly (IsRecordedFile job.now view.now) (D.state disk.old).calls (D.state disk.new).calls }
     ensures ahead { OnOk result (AreRead job.now D.tells (D.state disk.new) ahead.new.rooms.items) }
-    ensures piece { length piece.new ≡ PIECE }
     ensures disk { LeavesDisk (IsErr result) (D.state disk.old) (D.state disk.new) }
 {
     match ahead.digest_of(disk, job, view, hasher, i) {

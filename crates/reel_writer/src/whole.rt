@@ -2,7 +2,7 @@
 ghost use Rattle.std.specs.Prelude.{◌≡◌, ◌↔◌, true, length, IfOk, IsErr, Some};
 ghost use Rattle.reel_disk.specs.Disk.{view_of};
 ghost use Rattle.resume_ledger.specs.Sound.{HasSize};
-ghost use Rattle.reel_writer.specs.Reads.{MakesOnly, ReadsWhole};
+ghost use Rattle.reel_writer.specs.Reads.{AsksWhole, MakesOnly, ReadsWhole};
 ghost use Rattle.reel_disk.specs.State.{LeavesDisk, OnlyReads};
 
 use cf_base::FileId;
@@ -18,7 +18,9 @@ pub fn read_whole<D: Disk>(disk: &mut D, id: FileId, into: &mut [u8]) -> Result<
         → view_of (D.state disk.old).history id ≡ Some into.new) }
     ensures room { length into.new ≡ length into.old }
 
-    // Over every disk, the bytes are what its read gave, and no call is made on another file.
+    // Over every disk, it asks for the length and, if that is as wanted, for all of the file once. The bytes are what its read gave, and
+    // no call is made on another file.
+    ensures asks { AsksWhole id (length into.old) result (D.state disk.old).calls (D.state disk.new).calls }
     ensures calls { IfOk result (λ is. is ≡ true → ReadsWhole id into.new (D.state disk.old).calls (D.state disk.new).calls) }
     ensures on { MakesOnly (λ q. q ≡ id) (D.state disk.old).calls (D.state disk.new).calls }
     ensures reads { OnlyReads D.tells (D.state disk.old) (D.state disk.new) }

@@ -1,4 +1,4 @@
-use Rattle.std.proofs.Common.{rules, ◌≡◌, cond, arith, refl, subst}
+use Rattle.std.proofs.Common.{rules, ◌≡◌, ◌∙◌, cond, arith, refl, subst}
 use Rattle.std.specs.Prelude.{is_some, Ok, Err}
 use Rattle.reel_disk.specs.Disk.{Moment, view_of}
 use Rattle.resume_ledger.specs.Look.{hash_at}
@@ -22,11 +22,12 @@ returns-in-Err-clause-read g c =
     let after = (g.D.Disk.state c.check_one.new.disk).calls in
     record {
       on = made_along (IsRecordedFile c.args.job.now c.args.view.now) first before after c.loop-i.invariant.on made.on;
+      once = c.in-Err.ensures.once first c.loop-i.invariant.once;
       says = says_fault c.args.job.now c.args.view.now (IsRecordedFile c.args.job.now c.args.view.now) before after made.on c.loop-i.i c.loop-i.invariant.kept c.in-Err.fault made.says;
     }
 
 pub returns-clause-read : goal.returns-clause-read
-returns-clause-read g c = record { on = c.loop-i.invariant.on; says = search rules }
+returns-clause-read g c = record { on = c.loop-i.invariant.on; once = c.loop-i.invariant.once.once; says = search rules }
 
 pub loop-i-init : goal.loop-i-init
 loop-i-init g c = record {
@@ -37,6 +38,7 @@ loop-i-init g c = record {
   on = made_none (IsRecordedFile c.args.job.now c.args.view.now) (g.D.Disk.state c.args.disk.now).calls;
   kept = λ i lt. absurd (omega (arith, lt));
   ahead = c.requires.ahead;
+  once = c.requires.once;
   piece = c.requires.piece;
   same = refl;
   faults = refl;
@@ -58,7 +60,8 @@ loop-i-preserved g c =
       on = made_along (IsRecordedFile c.args.job.now c.args.view.now) first before after c.loop-i.invariant.on made.on;
       kept = kept_more c.args.job.now c.args.view.now (IsRecordedFile c.args.job.now c.args.view.now) before after made.on c.loop-i.i c.loop-i.invariant.kept made.says;
       ahead = c.in-Ok.ensures.ahead;
-      piece = search rules;
+      once = c.in-Ok.ensures.once first c.loop-i.invariant.once;
+      piece = c.check_one.auto.piece ∙ c.loop-i.invariant.piece;
       same = search rules;
       faults = search rules;
     }

@@ -4,7 +4,7 @@ use Rattle.std.specs.List.{range_with_len}
 use Rattle.reel_disk.specs.Disk.{view_of}
 use Rattle.reel_disk.specs.State.{OnlyReads}
 use Rattle.resume_ledger.specs.Look.{hash_at}
-use Rattle.reel_writer.specs.inside.Ahead.{AreRead}
+use Rattle.reel_writer.specs.inside.Ahead.{AreRead, IsOnceSoFar}
 use Rattle.reel_writer.specs.Damage.{AreAsKept, AreIntact, IsRecordedFile}
 use Rattle.reel_writer.specs.Reads.{MakesOnly}
 use Rattle.reel_writer.proofs.damage.check_all.Given as goal
@@ -19,6 +19,7 @@ invariant-loop-i g l = record {
   on : MakesOnly (IsRecordedFile l.job l.view) (g.D.Disk.state l.fn.disk).calls (g.D.Disk.state l.disk).calls;
   kept : AreAsKept l.job l.view l.i (g.D.Disk.state l.disk).calls;
   ahead : AreRead l.job g.D.Disk.tells (g.D.Disk.state l.disk) l.ahead.rooms.items;
+  once : IsOnceSoFar l.job l.i l.ahead.next (g.D.Disk.state l.fn.disk).calls (g.D.Disk.state l.disk).calls l.ahead.rooms.items;
   piece : length l.piece ≡ 65536;
   same : (g.D.Disk.state l.disk).loans ≡ (g.D.Disk.state l.fn.disk).loans;
   faults : (g.D.Disk.state l.disk).faults ≡ (g.D.Disk.state l.fn.disk).faults;
