@@ -48,8 +48,6 @@ use Rattle.project_run.specs.Status.{IsStatusReply, outcome_of_peek}
 use Rattle.reel_qc.specs.declared.table.probe.ProbeKind.{ProbeKind}
 use Rattle.project_run.specs.Sums.{IsSumsReply}
 use Rattle.project_run.specs.Verify.{IsChecked, IsVerifyReply, outcome_of_check}
-use Rattle.demo.specs.Files.{project_path}
-use Rattle.demo.specs.Demo.{demo_world}
 use Rattle.command_words.specs.Commands.{Spells}
 use Rattle.command_words.specs.declared.command.Command.{Command}
 use Rattle.command_words.specs.declared.command.Command.TheVariants as commands
@@ -177,11 +175,10 @@ job_complete laws IsForm world path output before after outcomes.SourceFault is 
 job_complete laws IsForm world path output before after outcomes.NoMemory is has reply no_source = inr refl
 job_complete laws IsForm world path output before after other is has reply no_source = absurd reply.read.2
 
-demo_complete : OneJob → (count : ℕ) (output : List ℕ) (reached : Outcome) → HasJob (demo_world count) project_path → IsDemoReply count reached output → IsThrough reached
-demo_complete laws count output outcomes.Done has reply = inl refl
-demo_complete laws count output (outcomes.Refused refusal) has reply = absurd (laws.apart (file_at (demo_world count)) project_path has.0.parts refusal has.1 reply)
-demo_complete laws count output outcomes.NoMemory has reply = inr refl
-demo_complete laws count output other has reply = absurd reply
+demo_complete : (count : ℕ) (output : List ℕ) (reached : Outcome) → IsDemoReply count reached output → IsThrough reached
+demo_complete count output outcomes.Done reply = inl refl
+demo_complete count output outcomes.NoMemory reply = inr refl
+demo_complete count output other reply = absurd reply
 
 -- the outcome of an end
 pub by_end : (reels : List ReelEntry) (how : RunEnd) (reached : Outcome) → reached ≡ outcome_of_end reels how → (how ≡ ends.Done) ⊎ (how ≡ ends.NoMemory) → IsThrough reached
@@ -368,7 +365,7 @@ reply_complete laws (commands.Adopt path old_path) world scan scan_after folders
 reply_complete laws (commands.Pull path margin) world scan scan_after folders folders_after reached output is accepted whole no_source no_disk =
     job_complete laws (IsPullForm margin) world path output scan scan_after reached is accepted whole.reply.right no_source
 reply_complete laws (commands.Demo count) world scan scan_after folders folders_after reached output is accepted whole no_source no_disk =
-    demo_complete laws count output reached accepted whole.reply.right
+    demo_complete count output reached whole.reply.right
 
 -- no call failed on a folder
 disks_steady : (command : Command) (folders folders_after : Folders) → HasNotRisen folders.reel.faults folders_after.reel.faults → HasNotRisen folders.old.faults folders_after.old.faults → (meaning_of command).HasFailedDisk folders folders_after → ⊥

@@ -34,11 +34,11 @@ shown count scan output is =
     reply_of (commands.Demo count) scan scan outcomes.Done output tt is (λ not_done. absurd (not_done refl)) (leaves_still (λ same. cc)) refl refl
 
 -- the outcomes in its place are those of a command that makes no call on the disk, and not the scan's
-instead_replied : (count : ℕ) (outcome : Outcome) (output : List ℕ) → IsInstead (file_at (demo_world count)) outcome
+instead_replied : (count : ℕ) (outcome : Outcome) (output : List ℕ) → IsInstead outcome
     → IsKindOf (commands.Demo count) outcome × IsDemoReply count outcome output × (outcome ≢ outcomes.SourceFault) × (outcome ≢ outcomes.DiskFault)
 instead_replied count outcomes.Done output is = absurd is
 instead_replied count outcomes.Usage output is = absurd is
-instead_replied count (outcomes.Refused refusal) output is = (tt, is, λ same. cc, λ same. cc)
+instead_replied count (outcomes.Refused refusal) output is = absurd is
 instead_replied count (outcomes.OtherJob kept wanted) output is = absurd is
 instead_replied count (outcomes.BadLedger len) output is = absurd is
 instead_replied count (outcomes.OldRefused refusal) output is = absurd is
@@ -51,7 +51,7 @@ instead_replied count outcomes.DiskFault output is = absurd is
 instead_replied count (outcomes.SinkFault instead) output is = absurd is
 instead_replied count outcomes.NoMemory output is = (tt, is, λ same. cc, λ same. cc)
 
-instead : {house : House} (count : ℕ) (scan : ScanState) (folders : Folders) (outcome : Outcome) → IsInstead (file_at (demo_world count)) outcome
+instead : {house : House} (count : ℕ) (scan : ScanState) (folders : Folders) (outcome : Outcome) → IsInstead outcome
     → IsReplyOverFolders house (commands.Demo count) scan scan folders folders outcome (line_of outcome)
 instead count scan folders outcome is =
     let replied = instead_replied count outcome (line_of outcome) is in
@@ -60,13 +60,13 @@ instead count scan folders outcome is =
     replied.3
 
 by_result : (house : House) (count : ℕ) (scan : ScanState) (folders : Folders) (result : Result (Vec ℕ Global) Outcome)
-    → MatchResult result (λ text. IsShown (file_at (demo_world count)) text.items) (IsInstead (file_at (demo_world count)))
+    → MatchResult result (λ text. IsShown (file_at (demo_world count)) text.items) IsInstead
     → MatchResult result (λ text. IsReplyOverFolders house (commands.Demo count) scan scan folders folders outcomes.Done text.items) (λ outcome. IsReplyOverFolders house (commands.Demo count) scan scan folders folders outcome (line_of outcome))
 by_result house count scan folders (Ok text) is = untouched count scan folders outcomes.Done text.items (shown count scan text.items is) (λ same. cc)
 by_result house count scan folders (Err outcome) is = instead count scan folders outcome is
 
 pub demo_replied : (house : House) (command : Command) (count : ℕ) (scan : ScanState) (folders : Folders) (result : Result (Vec ℕ Global) Outcome) → command ≡ commands.Demo count
-    → MatchResult result (λ text. IsShown (file_at (demo_world count)) text.items) (IsInstead (file_at (demo_world count)))
+    → MatchResult result (λ text. IsShown (file_at (demo_world count)) text.items) IsInstead
     → MatchResult result (λ text. IsReplyOverFolders house command scan scan folders folders outcomes.Done text.items) (λ outcome. IsReplyOverFolders house command scan scan folders folders outcome (line_of outcome))
 demo_replied house command count scan folders result same is =
     subst (λ c. MatchResult result (λ text. IsReplyOverFolders house c scan scan folders folders outcomes.Done text.items) (λ outcome. IsReplyOverFolders house c scan scan folders folders outcome (line_of outcome))) (sym same) (by_result house count scan folders result is)

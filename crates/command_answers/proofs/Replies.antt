@@ -1,5 +1,5 @@
 -- From a load to the reply of its command.
-use Rattle.std.proofs.Common.{◌≡◌, ◌≢◌, ℕ, ◌≤◌, Global, List, length, take, Option, None, Some, IfSome, refl, subst, ap, ◌∙◌}
+use Rattle.std.proofs.Common.{◌≡◌, ◌≢◌, ℕ, Global, List, length, take, Option, None, Some, IfSome, refl, subst, ap, ◌∙◌}
 use Rattle.std.specs.Prelude.{MatchResult, Result, Ok, Err, Vec}
 use Rattle.cf_base.specs.declared.fail.Fail.{Fail}
 use Rattle.cf_base.specs.declared.fail.Fail.TheVariants.{Fault}

@@ -1,13 +1,16 @@
--- The project comes to its job, or to a refusal.
-use Rattle.std.proofs.Common.{◌≡◌, ℕ, List, refl, ap, ◌∙◌, subst}
+-- The project comes to its job, and to no refusal.
+use Rattle.std.proofs.Common.{◌≡◌, ℕ, ◌≤◌, List, refl, ap, ◌∙◌, subst}
 use Rattle.std.specs.Prelude.{Option, Some, IfSome, Ok, Err}
 use Rattle.scan_source.specs.World.{World, world_of, file_at}
 use Rattle.conform_job.specs.Job.{JobData}
 use Rattle.outcome.specs.declared.Outcome.{Outcome}
 use Rattle.outcome.specs.declared.Outcome.TheVariants as outcome
 use Rattle.project_job.specs.Jobs.{HasPlanned}
+use Rattle.project_job.specs.Laws.{OneJob}
 use Rattle.demo.specs.Files.{File, project_path, demo_files}
 use Rattle.demo.specs.Demo.{demo_world, reel_text, IsShown, IsInstead}
+use Rattle.demo.proofs.FrameAsks.{parts}
+use Rattle.demo.proofs.JobAccepted.{job_accepted}
 
 module _ (events : ℕ) (told : Option World) (files : List File) (tells : told ≡ Some (world_of files)) (made : files ≡ demo_files events) where
   -- the scan tells the files of the demonstration
@@ -19,13 +22,13 @@ module _ (events : ℕ) (told : Option World) (files : List File) (tells : told 
   holds P has = let Holds : Option World → Type 0 = λ told. IfSome told P in subst Holds world_is has
 
   module _ (path : List ℕ) (at : path ≡ project_path) where
-    pub is_instead : (reached : Outcome) → IfSome told (λ world. HasPlanned (file_at world) path (Err reached)) → (reached ≡ outcome.SourceFault → ⊥) → IsInstead (file_at (demo_world events)) reached
-    is_instead reached planned never = by reached (subst (λ (path : List ℕ). HasPlanned (file_at (demo_world events)) path (Err reached)) at (holds (λ world. HasPlanned (file_at world) path (Err reached)) planned)) never
+    pub is_instead : OneJob → 1 ≤ events → events ≤ 1000 → (reached : Outcome) → IfSome told (λ world. HasPlanned (file_at world) path (Err reached)) → (reached ≡ outcome.SourceFault → ⊥) → IsInstead reached
+    is_instead laws some few reached planned never = by reached (subst (λ (path : List ℕ). HasPlanned (file_at (demo_world events)) path (Err reached)) at (holds (λ world. HasPlanned (file_at world) path (Err reached)) planned)) never
       where
-        by : (reached : Outcome) → HasPlanned (file_at (demo_world events)) project_path (Err reached) → (reached ≡ outcome.SourceFault → ⊥) → IsInstead (file_at (demo_world events)) reached
-        by (outcome.Refused refusal) has never = has
+        by : (reached : Outcome) → HasPlanned (file_at (demo_world events)) project_path (Err reached) → (reached ≡ outcome.SourceFault → ⊥) → IsInstead reached
+        by (outcome.Refused refusal) has never = laws.apart (file_at (demo_world events)) project_path (parts events) refusal (job_accepted events some few) has
         by outcome.NoMemory has never = tt
-        by outcome.SourceFault has never = absurd (never refl)
+        by outcome.SourceFault has never = never refl
         by outcome.Done has never = has
         by outcome.Usage has never = has
         by (outcome.OtherJob kept wanted) has never = has

@@ -1,13 +1,12 @@
 -- The demonstration of a number of events: what it prints, by the files of its job alone. All of it is this project's own rule.
--- * `demo`: the frames of that job, and SHA-256 of the files of all its frames, one after another; or the job's refusal, or want
---   of memory
+-- * `demo`: the frames of that job, and SHA-256 of the files of all its frames, one after another; or want of memory
 --     demo_world events      the files of the job
 --     reel_bytes job files      the files of a job's frames, one after another
 --     demo_text frames acknowledged digest      what is printed
 --     reel_digest job files, reel_text job files      the digest of a reel, and what is printed of a whole one
 --     IsShown files text      the text tells of the whole reel of the project in these files
---     IsInstead files outcome      what may come instead
-use Rattle.std.specs.Prelude.{◌≡◌, ℕ, List, [], ◌∷◌, ◌++◌, codes, decimal, flat_map, Ok, Err}
+--     IsInstead outcome      what may come instead
+use Rattle.std.specs.Prelude.{◌≡◌, ℕ, List, [], ◌∷◌, ◌++◌, codes, decimal, flat_map, Ok}
 use Rattle.std.specs.List.{range_with_len}
 use Rattle.hex.specs.Hex.{encode_lower}
 use Rattle.sha2.specs.Sha256.{sha256}
@@ -18,7 +17,7 @@ use Rattle.conform_job.specs.Refusals.{Files}
 use Rattle.frame_render.specs.Frame.{frame_file}
 use Rattle.reel_writer.specs.Reel.{frames_of}
 use Rattle.outcome.specs.declared.Outcome.{Outcome}
-use Rattle.outcome.specs.declared.Outcome.TheVariants.{Refused, NoMemory}
+use Rattle.outcome.specs.declared.Outcome.TheVariants.{NoMemory}
 use Rattle.project_job.specs.Jobs.{ComesTo}
 use Rattle.demo.specs.Files.{project_path, demo_files}
 
@@ -50,8 +49,7 @@ pub record IsShown (files : Files) (text : List ℕ) : Type 0 where
   pub comes : ComesTo files project_path (Ok job.parts)
   pub printed : text ≡ reel_text job files
 
--- the refusal that the project comes to, or want of memory
-abbrev pub IsInstead : Files → Outcome → Type 0
-IsInstead files (Refused refusal) = ComesTo files project_path (Err refusal)
-IsInstead files NoMemory = Unit {0}
-IsInstead files other = ⊥
+-- want of memory
+abbrev pub IsInstead : Outcome → Type 0
+IsInstead NoMemory = Unit {0}
+IsInstead other = ⊥

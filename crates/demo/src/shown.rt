@@ -13,7 +13,7 @@ use cf_base::{Fail, Never};
 use conform_job::Job;
 use outcome::Outcome;
 use printed_text::{put_bytes, put_digest, put_number};
-use project_job::planned;
+use project_job::{job_laws, planned};
 use reel_disk::MemoryDisk;
 use scan_source::Scans;
 use std::alloc::{AllocError, Global};
@@ -23,15 +23,15 @@ use std::alloc::{AllocError, Global};
 /// frames, one after another in record order.
 ///
 /// The job of these events is made in memory, planned, and run over an empty disk in memory, from which the files are read
-/// back. `Refused` comes exactly where the project's texts or source frames are refused, and `NoMemory` for want of memory;
-/// no other outcome comes.
+/// back. It is accepted for every number of events, so only `NoMemory` comes instead, for want of memory.
 pub fn demo(alloc: Global, events: u32) -> Result<Vec<u8>, Outcome>
     requires some { 1 ≤ events }
     requires most { events ≤ 1000 }
     ensures { MatchResult result
         (λ text. IsShown (file_at (demo_world events)) text.items)
-        (IsInstead (file_at (demo_world events))) }
+        IsInstead }
 {
+    job_laws();
     let Ok(files) = demo_files(alloc, events) else {
         return Err(Outcome::NoMemory);
     };

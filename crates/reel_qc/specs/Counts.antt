@@ -3,12 +3,13 @@
 --   (low), all three codes of all of them added up (sum)
 use Rattle.std.specs.Prelude.{◌≡◌, ℕ, ◌+◌, ◌/◌, ◌%◌, ◌^◌, ◌≤◌, Bool, List, length, map, max, min, nat_le, slice_index}
 use Rattle.std.specs.List.{count_by, sum_by}
+use Rattle.reel_qc.specs.declared.words.TheConstants.{PIXELS}
 use Rattle.reel_qc.specs.declared.table.probe.ProbeKind.{ProbeKind}
 use Rattle.reel_qc.specs.declared.table.probe.ProbeKind.TheVariants.{High, Low, Sum}
 
 -- as many words as a frame of the largest size has, or fewer
 abbrev pub AreFrameWords : List ℕ → Type 0
-AreFrameWords words = length words ≤ 16777216
+AreFrameWords words = length words ≤ PIXELS
 
 abbrev pub red_of : ℕ → ℕ
 red_of word = word / 2 ^ 22

@@ -14,4 +14,4 @@ pub use sheet::{SheetDone, Tone, ToneTable, make_sheet, square, square_table};
 pub use table::{
     Counter, Forked, OneThread, Probe, ProbeKind, count_forked, high, low, quality_table, sum,
 };
-pub use words::frame_words;
+pub use words::{PIXELS, frame_words};

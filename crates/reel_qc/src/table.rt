@@ -15,7 +15,7 @@ mod pieces;
 mod probe;
 
 use crate::table::counting::{Counting, count_frame};
-use crate::words::{Buffers, pixels_of};
+use crate::words::{Buffers, PIXELS, pixels_of};
 use cf_base::PIECE;
 use conform_job::Job;
 pub use counter::{Counter, Forked, OneThread};
@@ -134,7 +134,7 @@ fn put_rows<D: Disk, C: Counter>(
     requires size { length view.now.gates ≡ frames_of job.now }
     requires piece { length buffers.old.piece.items ≡ PIECE }
     requires room { 0 < length buffers.old.words.items }
-    requires few { length buffers.old.words.items ≤ 16777216 }
+    requires few { length buffers.old.words.items ≤ PIXELS }
     ensures rows { IfOk result
         (AddsRows (map (λ p. p.kind) counting.now.probes.now) job.now view.now D.tells (D.state disk.old) (D.state disk.new)
         text.old text.new) }
@@ -163,7 +163,7 @@ fn put_frame<D: Disk, C: Counter>(
     requires within { i < frames_of job.now }
     requires piece { length buffers.old.piece.items ≡ PIECE }
     requires room { 0 < length buffers.old.words.items }
-    requires few { length buffers.old.words.items ≤ 16777216 }
+    requires few { length buffers.old.words.items ≤ PIXELS }
     ensures rows { IfOk result
         (AddsRow (map (λ p. p.kind) counting.now.probes.now) job.now view.now i D.tells (D.state disk.old) (D.state disk.new)
         text.old text.new) }

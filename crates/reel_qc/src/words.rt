@@ -14,6 +14,9 @@ use conform_job::Job;
 use reel_disk::{Disk, DiskFail, Got};
 use std::alloc::{AllocError, Global};
 
+/// How many pixels a picture has at most: 4096 lines of 4096.
+pub const PIXELS: usize = 16_777_216;
+
 /// Words of one read.
 const WORDS: usize = 16384;
 
@@ -42,7 +45,7 @@ fn image_of(file: &[u8]) -> &[u8]
 pub(crate) fn pixels_of(job: &Job) -> usize
     ensures count { result ≡ pixel_count job.now }
     ensures some { 0 < result }
-    ensures most { result ≤ 16777216 }
+    ensures most { result ≤ PIXELS }
 {
     job.recall();
     job.width() as usize * job.height() as usize
@@ -92,7 +95,7 @@ pub(crate) fn read_frame<D: Disk>(
     ensures words { OnOk result (D.tells ≡ true
         → buffers.new.words.items ≡ frame_words job.now (view_of (D.state disk.old).history (file_of job.now i))) }
     ensures calls { OnOk result (ReadsFrame job.now i buffers.new.words.items (D.state disk.old).calls (D.state disk.new).calls) }
-    ensures size { OnOk result (length buffers.new.words.items ≤ 16777216) }
+    ensures size { OnOk result (length buffers.new.words.items ≤ PIXELS) }
     ensures most { OnOk result (length buffers.new.words.items ≤ pixel_count job.now) }
     ensures piece { length buffers.new.piece.items ≡ PIECE }
     ensures reads { OnlyReads D.tells (D.state disk.old) (D.state disk.new) }
@@ -119,8 +122,8 @@ pub(crate) fn read_words<D: Disk>(
     piece: &mut [u8],
     words: &mut [u32],
 ) -> Result<usize, DiskFail>
-    requires first { first ≤ 16777216 }
-    requires room { length words.old ≤ 16777216 }
+    requires first { first ≤ PIXELS }
+    requires room { length words.old ≤ PIXELS }
     requires piece { length piece.old ≡ PIECE }
     ensures words { IfOk result (λ count. D.tells ≡ true
         → take count words.new ≡ words_in first (length words.old) (view_of (D.state disk.old).history id)) }

@@ -3,7 +3,6 @@ ghost use Rattle.std.specs.Prelude.{◌≤◌};
 
 use cf_base::{FileId, PathText, last_digits};
 use conform_job::Job;
-use frame_range::FrameRange;
 use project_job::planned;
 use reel_disk::{Disk, Got, MemoryDisk};
 use run_crew::{Report, RunEnd, Task, run_alone};
@@ -239,14 +238,7 @@ fn run<D: Disk>(
     requires { (1 ≤ share_cap) × (share_cap ≤ 16) }
 {
     job.recall();
-    let task = Task {
-        job,
-        range: FrameRange {
-            low: 0,
-            high: job.count(),
-        },
-        share: share_cap,
-    };
+    let task = Task::whole(job, share_cap);
     let (end, report, _) = run_alone::<Brand, MemoryScans, D>(alloc, &task, scans, disk);
     (end, report)
 }

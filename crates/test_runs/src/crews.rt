@@ -2,7 +2,6 @@
 ghost use Rattle.std.specs.Prelude.{◌≡◌, ◌≤◌, true, vec_len};
 
 use conform_job::Job;
-use frame_range::FrameRange;
 use reel_disk::{Disk, MemoryDisk};
 use run_crew::{Crew, Report, RunEnd, Task, run_crew};
 use scan_source::Scans;
@@ -33,14 +32,7 @@ pub(crate) fn crew_on<S: Scans + Send, D: Disk + Send, R: Threads + Wait + Sync>
     requires faults { (D.state disk).faults ≡ 0 }
 {
     job.recall();
-    let task = Task {
-        job,
-        range: FrameRange {
-            low: 0,
-            high: job.count(),
-        },
-        share: share_cap,
-    };
+    let task = Task::whole(job, share_cap);
     run_crew::<Brand, S, D, R>(rt, alloc, &task, scans, workers, disk)
 }
 

@@ -14,6 +14,7 @@ use Rattle.reel_disk.specs.State.{DiskState}
 use Rattle.dpx_header.specs.Writing.{header_of}
 use Rattle.resume_ledger.specs.Look.{ViewState}
 use Rattle.reel_qc.specs.Sheet.{ReadsPictures, box_colour, box_pixels, cell_frames, cell_height, cell_picture, cell_width, pictures_file, pictures_peak, rounded_mean, sheet_colours, sheet_head, sheet_width, toned_bytes}
+use Rattle.reel_qc.specs.declared.words.TheConstants.{PIXELS}
 use Rattle.reel_qc.specs.declared.sheet.boxes.Boxes.{Boxes}
 use Rattle.reel_qc.specs.declared.sheet.drawing.Drawing.{Drawing}
 
@@ -60,7 +61,7 @@ pub record IsBoxAt (boxes : Boxes) (at : ℕ) : Type 0 where
   pub in_blue : at < length boxes.blue.items
   pub in_pixels : at < length boxes.pixels.items
   pub some : 0 < slice_index boxes.pixels.items at
-  pub few : slice_index boxes.pixels.items at ≤ 16777216
+  pub few : slice_index boxes.pixels.items at ≤ PIXELS
   pub red : slice_index boxes.red.items at ≤ 1023 * slice_index boxes.pixels.items at
   pub green : slice_index boxes.green.items at ≤ 1023 * slice_index boxes.pixels.items at
   pub blue : slice_index boxes.blue.items at ≤ 1023 * slice_index boxes.pixels.items at

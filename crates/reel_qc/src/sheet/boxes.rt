@@ -6,6 +6,7 @@ ghost use Rattle.reel_qc.specs.inside.Boxes.{HasPicture, HasRoomAt, HasSums, IsB
 ghost use Rattle.reel_qc.specs.Counts.{blue_of, green_of, red_of};
 ghost use Rattle.reel_qc.specs.Sheet.{boxes_of, box_colour, cell_height, cell_width, rounded_mean};
 
+use crate::words::PIXELS;
 use cf_base::{LARGEST, Rgb};
 use conform_job::Job;
 use std::alloc::{AllocError, Global};
@@ -222,7 +223,7 @@ fn add(sums: &mut Vec<u64>, at: usize, more: u32)
 /// The mean of so many codes with this sum, rounded, and a half up.
 fn mean_of(sum: u64, pixels: u64) -> u16
     requires some { 0 < pixels }
-    requires few { pixels ≤ 16777216 }
+    requires few { pixels ≤ PIXELS }
     requires sum { sum ≤ 1023 * pixels }
     ensures mean { result ≡ rounded_mean sum pixels }
     ensures code { result ≤ 1023 }

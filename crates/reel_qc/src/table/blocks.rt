@@ -4,6 +4,7 @@ ghost use Rattle.reel_qc.specs.inside.Counts.{block_of, cell_of};
 ghost use Rattle.std.specs.Prelude.{◌≡◌, ℕ, ◌+◌, ◌*◌, ◌/◌, ◌%◌, ◌<◌, ◌≤◌, OnOk, drop, length, map, slice_index, take};
 
 use crate::table::probe::Probe;
+use crate::words::PIXELS;
 use rayon::prelude::*;
 use std::alloc::{AllocError, Global};
 use std::thread::Threads;
@@ -13,7 +14,7 @@ pub(crate) const BLOCK: usize = 16384;
 
 /// Adds the count of each probe over at most 16,777,216 words to its own, modulo 2^64.
 pub(crate) fn add_each(probes: &[Probe], words: &[u32], counts: &mut [u64])
-    requires words { length words.now ≤ 16777216 }
+    requires words { length words.now ≤ PIXELS }
     requires size { length counts.old ≡ length probes.now }
     ensures { HasAdded (counts_of (map (λ p. p.kind) probes.now) words.now) counts.old counts.new }
 {
@@ -30,7 +31,7 @@ pub(crate) fn add_forked<R: Threads + Sync>(
     words: &[u32],
     counts: &mut [u64],
 ) -> Result<(), AllocError>
-    requires words { length words.now ≤ 16777216 }
+    requires words { length words.now ≤ PIXELS }
     requires size { length counts.old ≡ length probes.now }
     ensures { OnOk result (HasAdded (counts_of (map (λ p. p.kind) probes.now) words.now) counts.old counts.new) }
 {
@@ -50,7 +51,7 @@ pub(crate) fn add_forked<R: Threads + Sync>(
 /// Counts block by block, each by all probes, before the next.
 fn count_cells<R: Threads + Sync>(rt: &R, probes: &[Probe], words: &[u32], cells: &mut [u64])
     requires some { 0 < length cells.old → 0 < length probes.now }
-    requires words { length words.now ≤ 16777216 }
+    requires words { length words.now ≤ PIXELS }
     ensures size { length cells.new ≡ length cells.old }
     ensures cells { (i : ℕ) → i < length cells.old
         → slice_index cells.new i ≡ cell_of (map (λ p. p.kind) probes.now) words.now i }
@@ -59,7 +60,7 @@ fn count_cells<R: Threads + Sync>(rt: &R, probes: &[Probe], words: &[u32], cells
         rt,
         cells,
         |i: usize, cell: &mut u64|
-            requires { (0 < length probes.now) × (length words.now ≤ 16777216) }
+            requires { (0 < length probes.now) × (length words.now ≤ PIXELS) }
             ensures { cell.new ≡ cell_of (map (λ p. p.kind) probes.entry.now) words.entry.now i }
         {
             *cell = count_cell(probes, words, i);
@@ -70,7 +71,7 @@ fn count_cells<R: Threads + Sync>(rt: &R, probes: &[Probe], words: &[u32], cells
 /// The count of a probe over a block: the first block by each probe, then the next.
 fn count_cell(probes: &[Probe], words: &[u32], i: usize) -> u64
     requires some { 0 < length probes.now }
-    requires words { length words.now ≤ 16777216 }
+    requires words { length words.now ≤ PIXELS }
     ensures { result ≡ cell_of (map (λ p. p.kind) probes.now) words.now i }
 {
     probes[i % probes.len()].run(block_of(words, i / probes.len()))
@@ -78,9 +79,9 @@ fn count_cell(probes: &[Probe], words: &[u32], i: usize) -> u64
 
 /// The words of a block, of which the last may be shorter.
 fn block_of(words: &[u32], n: usize) -> &[u32]
-    requires { length words.now ≤ 16777216 }
+    requires { length words.now ≤ PIXELS }
     ensures block { result.now ≡ block_of words.now n }
-    ensures few { length result.now ≤ 16777216 }
+    ensures few { length result.now ≤ PIXELS }
 {
     let start = n.saturating_mul(BLOCK).min(words.len());
     let end = (start + BLOCK).min(words.len());

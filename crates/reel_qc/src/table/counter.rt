@@ -4,6 +4,7 @@ ghost use Rattle.std.specs.Prelude.{◌≡◌, ◌<◌, ◌≤◌, OnOk, length,
 
 use crate::table::blocks::{BLOCK, add_each, add_forked};
 use crate::table::probe::Probe;
+use crate::words::PIXELS;
 use rayon::current_num_threads;
 use std::alloc::{AllocError, Global};
 use std::thread::Threads;
@@ -16,7 +17,7 @@ pub trait Counter {
     /// How many words it counts best at once: 1 to 16,777,216. Takes no memory.
     fn most_words(&self) -> usize
         ensures some { 0 < result }
-        ensures most { result ≤ 16777216 };
+        ensures most { result ≤ PIXELS };
 
     /// Adds the count of each probe over at most 16,777,216 words to its own, modulo 2^64.
     fn add_counts(
@@ -27,7 +28,7 @@ pub trait Counter {
         counts: &mut [u64],
     ) -> Result<(), AllocError>
         requires ready { ready }
-        requires words { length words.now ≤ 16777216 }
+        requires words { length words.now ≤ PIXELS }
         requires size { length counts.old ≡ length probes.now }
         ensures size { length counts.new ≡ length counts.old }
         ensures added { OnOk result (HasAdded (counts_of (map (λ p. p.kind) probes.now) words.now) counts.old counts.new) };
@@ -80,7 +81,7 @@ impl<R: Threads + Sync> Counter for Forked<'_, R> {
         if current_num_threads(self.rt) == 1 {
             BLOCK
         } else {
-            16_777_216
+            PIXELS
         }
     }
 

@@ -10,7 +10,7 @@ ghost use Rattle.reel_qc.specs.Words.{frame_words, words_in};
 
 use crate::table::counter::Counter;
 use crate::table::probe::Probe;
-use crate::words::{Buffers, pixels_of, read_words};
+use crate::words::{Buffers, PIXELS, pixels_of, read_words};
 use cf_base::{FileId, PIECE};
 use conform_job::Job;
 use reel_disk::{Disk, DiskFail};
@@ -36,7 +36,7 @@ pub(crate) fn count_frame<D: Disk, C: Counter>(
     requires within { i < frames_of job.now }
     requires piece { length buffers.old.piece.items ≡ PIECE }
     requires room { 0 < length buffers.old.words.items }
-    requires few { length buffers.old.words.items ≤ 16777216 }
+    requires few { length buffers.old.words.items ≤ PIXELS }
     ensures counted { IfOk result (λ counts. HasCounted (map (λ p. p.kind) counting.now.probes.now) (D.tells ≡ true)
         (frame_words job.now (view_of (D.state disk.old).history (file_of job.now i)))
         (λ words. ReadsFrame job.now i words (D.state disk.old).calls (D.state disk.new).calls) counts.items) }
@@ -70,10 +70,10 @@ fn count_file<D: Disk, C: Counter>(
     counts: &mut [u64],
 ) -> Result<(), DiskFail>
     requires ready { C.ready }
-    requires most { most ≤ 16777216 }
+    requires most { most ≤ PIXELS }
     requires piece { length piece.old ≡ PIECE }
     requires room { 0 < length words.old }
-    requires few { length words.old ≤ 16777216 }
+    requires few { length words.old ≤ PIXELS }
     requires counts { length counts.old ≡ length counting.now.probes.now }
     ensures added { OnOk result (AddsCounts (map (λ p. p.kind) counting.now.probes.now) (D.tells ≡ true)
         (words_in 0 most (view_of (D.state disk.old).history id))
@@ -101,9 +101,9 @@ fn count_part<D: Disk, C: Counter>(
     counts: &mut [u64],
 ) -> Result<(), DiskFail>
     requires ready { C.ready }
-    requires first { first ≤ 16777216 }
+    requires first { first ≤ PIXELS }
     requires piece { length piece.old ≡ PIECE }
-    requires few { length words.old ≤ 16777216 }
+    requires few { length words.old ≤ PIXELS }
     requires counts { length counts.old ≡ length counting.now.probes.now }
     ensures added { OnOk result (AddsCounts (map (λ p. p.kind) counting.now.probes.now) (D.tells ≡ true)
         (words_in first (length words.old) (view_of (D.state disk.old).history id))

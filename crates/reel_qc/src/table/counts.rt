@@ -3,9 +3,11 @@ ghost use Rattle.reel_qc.specs.Counts.{count_of, code_sum, reaches_high, reaches
 ghost use Rattle.reel_qc.specs.declared.table.probe.ProbeKind.TheVariants.{High, Low, Sum};
 ghost use Rattle.std.specs.Prelude.{◌≡◌, ◌≤◌, length};
 
+use crate::words::PIXELS;
+
 /// How many words have a code of 1020 or more.
 pub fn high(words: &[u32]) -> u64
-    requires { length words.now ≤ 16777216 }
+    requires { length words.now ≤ PIXELS }
     ensures { result ≡ count_of High words.now }
 {
     let mut count = 0u64;
@@ -19,7 +21,7 @@ pub fn high(words: &[u32]) -> u64
 
 /// How many words have a code of 3 or less.
 pub fn low(words: &[u32]) -> u64
-    requires { length words.now ≤ 16777216 }
+    requires { length words.now ≤ PIXELS }
     ensures { result ≡ count_of Low words.now }
 {
     let mut count = 0u64;
@@ -33,7 +35,7 @@ pub fn low(words: &[u32]) -> u64
 
 /// All three codes of all words, added up.
 pub fn sum(words: &[u32]) -> u64
-    requires { length words.now ≤ 16777216 }
+    requires { length words.now ≤ PIXELS }
     ensures { result ≡ count_of Sum words.now }
 {
     let mut total = 0u64;

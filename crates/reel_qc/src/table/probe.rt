@@ -2,6 +2,8 @@
 ghost use Rattle.reel_qc.specs.Counts.{AreFrameWords, count_of};
 ghost use Rattle.std.specs.Prelude.{◌≡◌, ℕ, ◌≤◌, length};
 
+use crate::words::PIXELS;
+
 /// What a probe counts over the words of a frame.
 #[derive(Clone, Copy, Debug, PartialEq, Eq)]
 pub enum ProbeKind {
@@ -47,7 +49,7 @@ impl Probe {
 
     /// The count of at most 16,777,216 words, by the function that was handed in.
     pub fn run(&self, words: &[u32]) -> u64
-        requires { length words.now ≤ 16777216 }
+        requires { length words.now ≤ PIXELS }
         ensures { result ≡ count_of self.now.kind words.now }
     {
         (self.count)(words)
