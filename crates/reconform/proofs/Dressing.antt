@@ -19,14 +19,14 @@ use Rattle.reel_disk.specs.State.{DiskState, OnlyReads}
 use Rattle.resume_ledger.specs.Look.{ViewState, hash_at}
 use Rattle.reel_writer.specs.Reads.{MakesOnly, ReadsWhole, WasReadWhole}
 use Rattle.reel_writer.specs.Reel.{frames_of}
-use Rattle.reel_writer.proofs.ReadCalls.{made_wider, was_now, was_still}
+use Rattle.reel_writer.proofs.ReadCalls.{was_now, was_still}
 use Rattle.reconform.specs.inside.Ahead.{IsKept, HoldsDonor, CanFinish}
 use Rattle.reconform.specs.Donor.{HasIntactDonor, IsOfHash}
 use Rattle.reconform.specs.inside.Donor.{IsLeast, donor_in}
 use Rattle.reconform.specs.inside.Parts.{HasDonors, WasLookedAt}
 use Rattle.reconform.specs.Plan.{AreAlike, plan_at}
 use Rattle.reconform.specs.declared.plan.FramePlan.{FramePlan}
-use Rattle.reconform.specs.Taken.{IsDonorFile, IsTakenOver, WasDonorRead}
+use Rattle.reconform.specs.Taken.{IsTakenOver, WasDonorRead}
 use Rattle.reconform.proofs.Serving.{has_donor, least_here, served_pixels}
 use Rattle.reconform.proofs.Taking.{taken_later}
 
@@ -35,14 +35,7 @@ module _ (new old : JobData) (view : ViewState) (by_plan : BTreeMap FramePlan �
   pub least_of : IsLeast old view.gates (frames_of old) (plan_at new i) (Some j)
   least_of = least_here old view.gates (frames_of old) by_plan (plan_at new i) (plan_at new i) (Some j) donors.least refl (sym is)
 
--- a call on its file is on a donor's
-pub on_donor : (new old : JobData) (view : ViewState) (by_plan : BTreeMap FramePlan ℕ) (i j : ℕ) → HasDonors new old view.gates by_plan → i < frames_of new → donor_in by_plan (plan_at new i) ≡ Some j
-    → (q : FileId) → q ≡ file_of old j → (before after : List Call) → MakesOnly (λ p. p ≡ q) before after → MakesOnly (IsDonorFile new old view) before after
-on_donor new old view by_plan i j donors within is q named before after on =
-    made_wider (λ p. p ≡ q) (IsDonorFile new old view)
-    (λ p same. (i, j, within, has_donor new old view (λ any. None) i (frames_of old) refl j donors.alike (least_of new old view by_plan i j donors is), same ∙ named)) before after on
-
--- and what it gives was read of it
+-- what a read of its file gives
 pub donor_read : (id q : FileId) → q ≡ id → (file bytes : List ℕ) → bytes ≡ file → (before after : List Call) → ReadsWhole q file before after → WasReadWhole id bytes after
 donor_read id q named file bytes same before after made = was_now (ReadsWhole id bytes) before after (subst (λ (read : FileId × List ℕ). ReadsWhole read.0 read.1 before after) (λ t. (named t, sym same t)) made)
 
@@ -167,7 +160,7 @@ module _ (new old : JobData) (told : Option World) (tells : Bool) (view : ViewSt
   freed rooms n room free all = All-set (CanFinish new old told tells view held) rooms n room (free_can_finish new old told tells view held room free) all
 
 -- a folder that is only read serves as it did
-same_view : {tells : Bool} {held later : DiskState} → OnlyReads tells held later → tells ≡ true → view_of held.history ≡ view_of later.history
+pub same_view : {tells : Bool} {held later : DiskState} → OnlyReads tells held later → tells ≡ true → view_of held.history ≡ view_of later.history
 same_view reads is = sym (ap (λ (m : Moment). m.view) (reads.still is).same)
 
 module _ {new old : JobData} {tells : Bool} {held later : DiskState} (reads : OnlyReads tells held later) {On : FileId → Type 0} (on : MakesOnly On held.calls later.calls) where

@@ -13,11 +13,12 @@ use Rattle.reel_writer.specs.Reel.{frames_of}
 use Rattle.reel_writer.specs.View.{ReelView}
 use Rattle.reconform.specs.declared.adopting.AdoptFault.TheVariants as fault
 use Rattle.reconform.specs.inside.Adopt.{AreServed}
-use Rattle.reconform.specs.Taken.{IsDonorFile}
+use Rattle.reconform.specs.Taken.{AsksForDonors}
+use Rattle.reconform.specs.inside.Asking.{AnyFile}
 use Rattle.reconform.specs.inside.Parts.{HasAdopted, HasServed, HasServedTo}
 use Rattle.reconform.proofs.Going.{both_behind, both_itself, old_asked, part_along, part_itself}
 use Rattle.reconform.proofs.Serving.{on_any, on_ok, same_along, same_itself, served_first, served_more}
-use Rattle.reconform.proofs.Taking.{taken_along, taken_none, taken_reads}
+use Rattle.reconform.proofs.Taking.{some_along, some_none, some_reads}
 
 module _ {D E : Type 0} (new old : JobData) (told : Option World) (tells : Bool) (state : D → DiskState) (reel_tells : Bool) (reel_state : E → DiskState) (view : ViewState) where
   abbrev pub ServedTo : {T : Type 0} → ℕ → ℕ → Result T DiskFault → D → D → ReelView E → ReelView E → Type 0
@@ -30,7 +31,7 @@ module _ {D E : Type 0} (new old : JobData) (told : Option World) (tells : Bool)
     stays = same_itself reel;
     stays_open = is_open;
     part = part_itself;
-    taken = taken_none;
+    taken = some_none;
     reads = reads_none;
     disks = both_itself (λ is. cc);
   }
@@ -58,21 +59,21 @@ module _ {D E : Type 0} (new old : JobData) (told : Option World) (tells : Bool)
     stays = same_along _ _ _ first.stays second.stays;
     stays_open = second.stays_open;
     part = part_along first.stays.grows first.part second.part;
-    taken = taken_along first.taken second.taken;
+    taken = some_along first.taken second.taken;
     reads = reads_along first.reads second.reads;
     disks = both_behind (λ is. is) (λ is. is) (first.disks.old_steady (λ is. cc)) (first.disks.steady (λ is. cc)) first.disks.old_lent first.disks.lent second.disks;
   }
 
   -- donors' files are read then
   pub served_then_read : {T U : Type 0} (from to : ℕ) (x : T) (result : Result U DiskFault) (disk mid after : D) (reel reel_after : ReelView E) → ServedTo from to (Ok x) disk mid reel reel_after
-      → OnlyReads tells (state mid) (state after) → MakesOnly (IsDonorFile new old view) (state mid).calls (state after).calls → LeavesDisk (IsErr result) (state mid) (state after)
+      → OnlyReads tells (state mid) (state after) → MakesOnly AnyFile (state mid).calls (state after).calls → LeavesDisk (IsErr result) (state mid) (state after)
       → ServedTo from to result disk after reel reel_after
   served_then_read from to x result disk mid after reel reel_after done reads on leaves = record {
     served = on_any result _ done.served;
     stays = done.stays;
     stays_open = on_any result _ done.stays_open;
     part = done.part;
-    taken = taken_along done.taken (taken_reads on);
+    taken = some_along done.taken (some_reads on);
     reads = reads_along done.reads reads;
     disks = both_behind (λ is. is) (λ is. is) (done.disks.old_steady (λ is. cc)) (done.disks.steady (λ is. cc)) done.disks.old_lent done.disks.lent (old_asked leaves);
   }
@@ -104,27 +105,29 @@ module _ {D E : Type 0} (new old : JobData) (told : Option World) (tells : Bool)
   }
 
   -- all of them
-  pub all_served : (disk disk_after : D) (reel reel_after : ReelView E) → ServedTo 0 (frames_of new) (Ok (tt {0})) disk disk_after reel reel_after
+  pub all_served : (disk disk_after : D) (reel reel_after : ReelView E) → AsksForDonors new old view 0 (frames_of new) (state disk).calls (state disk_after).calls
+      → ServedTo 0 (frames_of new) (Ok (tt {0})) disk disk_after reel reel_after
       → HasAdopted new old told tells state reel_tells reel_state view (Ok (tt {0})) disk disk_after reel reel_after
-  all_served disk disk_after reel reel_after done = record {
+  all_served disk disk_after reel reel_after asks done = record {
     served = λ is. done.served is reel.ledger.gates (served_first new old view (view_of (state disk).history) reel.ledger.gates);
     stays = done.stays;
     stays_open = done.stays_open;
     end = tt;
     part = done.part;
-    taken = done.taken;
+    taken = record { asks = asks; made = done.taken.made };
     reads = done.reads;
   }
 
   -- a disk failed
-  pub served_until : (to : ℕ) (e : DiskFault) (disk disk_after : D) (reel reel_after : ReelView E) → ServedTo {T = Unit {0}} 0 to (Err e) disk disk_after reel reel_after
+  pub served_until : (to : ℕ) (e : DiskFault) (disk disk_after : D) (reel reel_after : ReelView E) → AsksForDonors new old view 0 (frames_of new) (state disk).calls (state disk_after).calls
+      → ServedTo {T = Unit {0}} 0 to (Err e) disk disk_after reel reel_after
       → HasAdopted new old told tells state reel_tells reel_state view (Err fault.DiskFault) disk disk_after reel reel_after
-  served_until to e disk disk_after reel reel_after done = record {
+  served_until to e disk disk_after reel reel_after asks done = record {
     served = tt;
     stays = done.stays;
     stays_open = tt;
     end = inl refl;
     part = done.part;
-    taken = done.taken;
+    taken = record { asks = asks; made = done.taken.made };
     reads = done.reads;
   }

@@ -24,7 +24,7 @@ use Rattle.reconform.specs.inside.Parts.{HasAdopted, HasServed}
 use Rattle.reconform.specs.Plan.{AreAlike, plan_at}
 use Rattle.reconform.proofs.Going.{both_itself, part_itself}
 use Rattle.reconform.proofs.Painting.{equal_plans}
-use Rattle.reconform.proofs.Taking.{taken_none}
+use Rattle.reconform.proofs.Taking.{some_none, taken_none}
 
 -- where the old folder is sound, the pixels of a donor are those of the frame
 pub served_pixels : (new old : JobData) (told : Option World) (tells : Bool) (files : Files) (view : ViewState) (i j : ℕ) (bytes : List ℕ)
@@ -46,10 +46,10 @@ module _ (new old : JobData) (view : ViewState) (files : Files) (i : ℕ) (count
   pub has_donor : (j : ℕ) → AreAlike new old → IsLeast old view.gates count (plan_at new i) (Some j) → IsDonor new old view.gates i j
   has_donor j alike least = let lt = least.0 in record { alike = alike; within = omega (arith, lt, all); done = least.1; plan = least.2; least = least.3 }
 
-  no_donor : IsLeast old view.gates count (plan_at new i) None → HasIntactDonor new old view files i → ⊥
+  pub no_donor : IsLeast old view.gates count (plan_at new i) None → HasIntactDonor new old view files i → ⊥
   no_donor least has = let lt = has.is.within in least has.donor (omega (arith, lt, all)) has.is.done has.is.plan
 
-  one_donor : (j : ℕ) → IsLeast old view.gates count (plan_at new i) (Some j) → (d : ℕ) → IsDonor new old view.gates i d → d ≡ j
+  pub one_donor : (j : ℕ) → IsLeast old view.gates count (plan_at new i) (Some j) → (d : ℕ) → IsDonor new old view.gates i d → d ≡ j
   one_donor j least d is = elim (cases_lt d j) [
     | inl before ↦ absurd (least.3 d before is.done is.plan)
     | inr late ↦ elim (cases_lt j d) [
@@ -203,7 +203,7 @@ nothing_done new old told tells state reel_tells reel_state view i disk reel is_
   stays = same_itself reel;
   stays_open = is_open;
   part = part_itself;
-  taken = taken_none;
+  taken = some_none;
   reads = reads_none;
   disks = both_itself (λ is. cc);
 }

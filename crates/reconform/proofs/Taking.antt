@@ -2,7 +2,8 @@
 --     making_none, making_then, making_wider      which bytes calls write
 --     finish_makes      those of a finish
 --     read_later, taken_later      what a read gave, when more calls were made
---     taken_none, taken_along      frames that are taken over, one behind another
+--     some_none, some_reads, some_finish, some_along      frames that are taken over, one behind another
+--     taken_none, taken_opening, taken_opened      all of them
 use Rattle.std.proofs.Common.{◌≡◌, inl, inr, ℕ, ◌+◌, ◌*◌, List, [], ◌∷◌, ◌++◌, refl, sym, ◌∙◌, ap, subst, append_assoc}
 use Rattle.std.specs.Prelude.{◌⊎◌, Result, Ok, Err}
 use Rattle.std.proofs.lemmas.List.Elements.{All-nil, All-cons, All-append, All-weaker}
@@ -22,7 +23,10 @@ use Rattle.conform_job.specs.Job.{JobData}
 use Rattle.reel_writer.specs.Calls.{Acknowledging, Finishes}
 use Rattle.reel_writer.specs.Reads.{MakesOnly}
 use Rattle.reel_writer.proofs.ReadCalls.{made_along, made_none, was_still}
-use Rattle.reconform.specs.Taken.{IsDonorFile, IsMaking, IsTakenOver, OnlyMakes, TakesOnly, WasDonorRead}
+use Rattle.reconform.specs.Taken.{IsMaking, IsTakenOver, OnlyMakes, TakesOnly, WasDonorRead}
+use Rattle.reconform.specs.inside.Asking.{AnyFile}
+use Rattle.reconform.specs.inside.Parts.{TakesSome}
+use Rattle.reconform.proofs.Asking.{asks_none}
 
 -- what a read gave stays when more calls are made
 pub read_later : {new old : JobData} {view : ViewState} {frame : ℕ} {file : List ℕ} {On : FileId → Type 0} {calls later : List Call} → MakesOnly On calls later
@@ -123,27 +127,34 @@ finish_makes {A = A} {B = B} i file bytes (Err fault) (inr acks) = making_acks {
 
 module _ {new old : JobData} {view : ViewState} where
   -- nothing was done
-  pub taken_none : {a c : List Call} → TakesOnly new old view a a c c
-  taken_none = record { read = made_none _ _; made = making_none }
+  pub some_none : {a c : List Call} → TakesSome new old view a a c c
+  some_none = record { read = made_none _ _; made = making_none }
 
-  -- donors' files were read, or the ledger's files were written
-  pub taken_reads : {a b c : List Call} → MakesOnly (IsDonorFile new old view) a b → TakesOnly new old view a b c c
-  taken_reads on = record { read = on; made = making_none }
-
-  pub taken_opening : {a c d : List Call} (result : Result LedgerState OpenFault) → OnlyWrites (OpeningMayWrite result) c d → TakesOnly new old view a a c d
-  taken_opening result writing = record { read = made_none _ _; made = making_ledger (opening_ledger result) writing }
+  -- donors' files were asked for
+  pub some_reads : {a b c : List Call} → MakesOnly AnyFile a b → TakesSome new old view a b c c
+  some_reads on = record { read = on; made = making_none }
 
   -- a frame was finished
-  pub taken_finish : {a b c d : List Call} (file : FileId) (bytes : List ℕ) → MakesOnly (IsDonorFile new old view) a b → IsTakenOver new old view b file bytes
-      → OnlyMakes (λ q written. (q ≡ file) × (written ≡ bytes)) c d → TakesOnly new old view a b c d
-  taken_finish {b = b} file bytes on taken making = record {
-    read = on;
-    made = making_wider (λ q written is. subst (λ (made : FileId × List ℕ). IsTakenOver new old view b made.0 made.1) (λ t. (sym is.0 t, sym is.1 t)) taken) making;
+  pub some_finish : {a c d : List Call} (file : FileId) (bytes : List ℕ) → IsTakenOver new old view a file bytes
+      → OnlyMakes (λ q written. (q ≡ file) × (written ≡ bytes)) c d → TakesSome new old view a a c d
+  some_finish {a = a} file bytes taken making = record {
+    read = made_none _ _;
+    made = making_wider (λ q written is. subst (λ (made : FileId × List ℕ). IsTakenOver new old view a made.0 made.1) (λ t. (sym is.0 t, sym is.1 t)) taken) making;
   }
 
   -- some behind others
-  pub taken_along : {a b b2 c d d2 : List Call} → TakesOnly new old view a b c d → TakesOnly new old view b b2 d d2 → TakesOnly new old view a b2 c d2
-  taken_along first second = record {
+  pub some_along : {a b b2 c d d2 : List Call} → TakesSome new old view a b c d → TakesSome new old view b b2 d d2 → TakesSome new old view a b2 c d2
+  some_along first second = record {
     read = made_along _ _ _ _ first.read second.read;
     made = making_then (making_wider (λ q bytes taken. taken_later second.read taken) first.made) second.made;
   }
+
+  -- all of them: nothing was done, or the new folder was opened before
+  pub taken_none : {a c : List Call} → TakesOnly new old view a a c c
+  taken_none = record { asks = asks_none; made = making_none }
+
+  pub taken_opening : {a c d : List Call} (result : Result LedgerState OpenFault) → OnlyWrites (OpeningMayWrite result) c d → TakesOnly new old view a a c d
+  taken_opening result writing = record { asks = asks_none; made = making_ledger (opening_ledger result) writing }
+
+  pub taken_opened : {a b c d e : List Call} (result : Result LedgerState OpenFault) → OnlyWrites (OpeningMayWrite result) c d → TakesOnly new old view a b d e → TakesOnly new old view a b c e
+  taken_opened result writing taken = record { asks = taken.asks; made = making_then (making_ledger (opening_ledger result) writing) taken.made }

@@ -6,7 +6,6 @@ mod adopting;
 mod ahead;
 mod donors;
 mod frames;
-mod intact;
 mod plan;
 mod takeover;
 mod whole;

@@ -1,13 +1,15 @@
 //! All frames of an adoption: while the files of some are made of their donors, those before them are finished, and the donors of
 //! those behind them are read.
-ghost use Rattle.std.specs.Prelude.{◌≡◌, ◌<◌, ◌≤◌, true, false, length, All, IfOk, OnOk, IsErr, IsErrOf};
+ghost use Rattle.std.specs.Prelude.{◌≡◌, ℕ, ◌<◌, ◌≤◌, true, false, length, All, IfOk, OnOk, IsErrOf};
 ghost use Rattle.frame_hash.specs.Rooms.{IsFree};
 ghost use Rattle.frame_render.specs.Frame.{frame_size};
 ghost use Rattle.reel_disk.specs.Disk.{view_of};
 ghost use Rattle.reel_writer.specs.Reel.{frames_of};
 ghost use Rattle.reconform.specs.Adopt.{LeavesBoth};
-ghost use Rattle.reconform.specs.inside.Ahead.{AreReady, HoldsDonor};
-ghost use Rattle.reconform.specs.inside.Parts.{CanTake, HasAdopted, HasServedTo, IsInOrder, WasLookedAt, middle_of};
+ghost use Rattle.reconform.specs.inside.Ahead.{AreHeld, AreReady, HasRoom, HoldsDonor};
+ghost use Rattle.reconform.specs.inside.Asking.{AsksFrom};
+ghost use Rattle.reconform.specs.inside.Parts.{CanTake, HasAdopted, HasGoneOn, HasServedTo, IsFurther, IsInOrder, IsUnderWay, WasLookedAt, half_of};
+ghost use Rattle.reconform.specs.Taken.{AsksForDonors};
 
 use crate::adopting::AdoptFault;
 use crate::donors::Donors;
@@ -35,7 +37,7 @@ impl Takeover<'_, '_, '_, '_> {
     /// made of those that are intact.
     fn adopt_half<N: Work, O: Work, D: Disk, E: Disk, H: Hasher>(
         &self,
-        old: &mut D,
+        _old: &D,
         reel: &mut Reel<E, N>,
         hasher: &H,
         at: Reached,
@@ -43,38 +45,40 @@ impl Takeover<'_, '_, '_, '_> {
         read: &mut [Room],
     ) -> Result<Reached, DiskFault>
         requires can_hash { H.can_hash }
-        requires can { CanTake N.job O.job N.files D.tells (view_of (D.state old.old).history)
+        requires can { CanTake N.job O.job N.files D.tells (view_of (D.state _old.now).history)
             self.now.new_job.now self.now.old_job.now self.now.view.now self.now.donors.now.by_plan }
-        requires at { IsInOrder (frames_of N.job) at }
-        requires made { AreReady N.job O.job N.files D.tells self.now.view.now (D.state old.old) made.old }
-        requires some { 0 < length made.old }
-        requires read { All (HoldsDonor N.job O.job D.tells (D.state old.old) self.now.donors.now.by_plan) read.old }
+        requires under_way { IsUnderWay N.job O.job D.tells self.now.view.now (view_of (D.state _old.now).history)
+            reel.old.ledger.gates at made.old read.old }
+        requires made { AreReady N.job O.job N.files D.tells self.now.view.now (D.state _old.now) made.old }
+        requires read { All (HoldsDonor N.job O.job D.tells (D.state _old.now) self.now.donors.now.by_plan) read.old }
         requires is_open { reel.old.ledger.closed ≡ false }
         requires size { length reel.old.ledger.gates ≡ frames_of N.job }
 
-        ensures at { IfOk result (λ to. to ≡ record { adopted = middle_of at; made = at.made; read = at.read }) }
-        ensures made { OnOk result (AreReady N.job O.job N.files D.tells self.now.view.now (D.state old.new) made.new) }
-        ensures read { OnOk result (AreReady N.job O.job N.files D.tells self.now.view.now (D.state old.new) read.new) }
+        ensures to { IfOk result (λ to. to ≡ half_of at × IsUnderWay N.job O.job D.tells self.now.view.now
+            (view_of (D.state _old.now).history) reel.new.ledger.gates to made.new read.new) }
+        ensures made { OnOk result (AreReady N.job O.job N.files D.tells self.now.view.now (D.state _old.now) made.new) }
+        ensures read { OnOk result (AreReady N.job O.job N.files D.tells self.now.view.now (D.state _old.now) read.new) }
         ensures done { HasServedTo N.job O.job N.files D.tells D.state E.tells E.state
-            self.now.view.now at.adopted (middle_of at) result old.old old.new reel.old reel.new }
+            self.now.view.now at.adopted (half_of at).adopted result _old.now _old.now reel.old reel.new }
     {
         let mut work = || -> Result<Reached, DiskFault>
-            requires { CanTake N.job O.job N.files D.tells (view_of (D.state old.now).history)
-                self.now.new_job.now self.now.old_job.now self.now.view.now self.now.donors.now.by_plan
+            requires { (self.now.new_job.now ≡ N.job)
                 × IsInOrder (frames_of N.job) at
-                × AreReady N.job O.job N.files D.tells self.now.view.now (D.state old.now) made.now
-                × (0 < length made.now)
+                × AreReady N.job O.job N.files D.tells self.now.view.now (D.state _old.now) made.now
+                × (D.tells ≡ true → AreHeld N.job O.job self.now.view.now (view_of (D.state _old.now).history)
+                at.adopted at.made reel.now.ledger.gates (λ i. HasRoom i made.now))
                 × (reel.now.ledger.closed ≡ false)
                 × (length reel.now.ledger.gates ≡ frames_of N.job) }
+            ensures to { IfOk result (λ to. to ≡ half_of at) }
             ensures rooms { OnOk result (AreReady N.job O.job N.files D.tells self.entry.now.view.now
-                (D.state old.exit.now) made.exit.now) }
-            ensures at { IfOk result (λ to. to ≡ record { adopted = middle_of at; made = at.made; read = at.read }) }
-            ensures done { HasServedTo N.job O.job N.files D.tells D.state E.tells E.state
-                self.entry.now.view.now at.adopted (middle_of at) result old.entry.now old.exit.now reel.entry.now reel.exit.now }
-        { self.adopt_first::<N, O, D, E>(old, reel, at, made) };
+                (D.state _old.entry.now) made.exit.now) }
+            ensures left { OnOk result ((k : ℕ) → (half_of at).adopted ≤ k → HasRoom k made.entry.now → HasRoom k made.exit.now) }
+            ensures done { HasServedTo N.job O.job N.files D.tells D.state E.tells E.state self.entry.now.view.now
+                at.adopted (half_of at).adopted result _old.entry.now _old.entry.now reel.entry.now reel.exit.now }
+        { self.adopt_first::<N, O, D, E>(_old, reel, at, made) };
         match hasher.hash_beside(read, usize::MAX, &mut work) {
             Ok(to) => {
-                self.dress_all::<N, O, D>(&*old, read);
+                self.dress_all::<N, O, D>(_old, read);
                 Ok(to)
             }
             Err(DiskFault) => Err(DiskFault),
@@ -84,26 +88,27 @@ impl Takeover<'_, '_, '_, '_> {
     /// Adopts half of the frames whose files are made in some rooms.
     fn adopt_first<N: Work, O: Work, D: Disk, E: Disk>(
         &self,
-        old: &mut D,
+        _old: &D,
         reel: &mut Reel<E, N>,
         at: Reached,
         rooms: &mut [Room],
     ) -> Result<Reached, DiskFault>
-        requires can { CanTake N.job O.job N.files D.tells (view_of (D.state old.old).history)
-            self.now.new_job.now self.now.old_job.now self.now.view.now self.now.donors.now.by_plan }
-        requires at { IsInOrder (frames_of N.job) at }
-        requires rooms { AreReady N.job O.job N.files D.tells self.now.view.now (D.state old.old) rooms.old }
-        requires some { 0 < length rooms.old }
+        requires job { self.now.new_job.now ≡ N.job }
+        requires order { IsInOrder (frames_of N.job) at }
+        requires rooms { AreReady N.job O.job N.files D.tells self.now.view.now (D.state _old.now) rooms.old }
+        requires held { D.tells ≡ true → AreHeld N.job O.job self.now.view.now (view_of (D.state _old.now).history)
+            at.adopted at.made reel.old.ledger.gates (λ i. HasRoom i rooms.old) }
         requires is_open { reel.old.ledger.closed ≡ false }
         requires size { length reel.old.ledger.gates ≡ frames_of N.job }
 
-        ensures at { IfOk result (λ to. to ≡ record { adopted = middle_of at; made = at.made; read = at.read }) }
-        ensures rooms { OnOk result (AreReady N.job O.job N.files D.tells self.now.view.now (D.state old.new) rooms.new) }
+        ensures to { IfOk result (λ to. to ≡ half_of at) }
+        ensures rooms { OnOk result (AreReady N.job O.job N.files D.tells self.now.view.now (D.state _old.now) rooms.new) }
+        ensures left { OnOk result ((k : ℕ) → (half_of at).adopted ≤ k → HasRoom k rooms.old → HasRoom k rooms.new) }
         ensures done { HasServedTo N.job O.job N.files D.tells D.state E.tells E.state
-            self.now.view.now at.adopted (middle_of at) result old.old old.new reel.old reel.new }
+            self.now.view.now at.adopted (half_of at).adopted result _old.now _old.now reel.old reel.new }
     {
         let middle = at.adopted + (at.made - at.adopted) / 2;
-        match self.adopt_frames::<N, O, D, E>(old, reel, at.adopted, middle, rooms) {
+        match self.adopt_frames::<N, O, D, E>(_old, reel, at.adopted, middle, rooms) {
             Ok(()) => Ok(Reached {
                 adopted: middle,
                 ..at
@@ -125,17 +130,20 @@ impl Takeover<'_, '_, '_, '_> {
         requires can_hash { H.can_hash }
         requires can { CanTake N.job O.job N.files D.tells (view_of (D.state old.old).history)
             self.now.new_job.now self.now.old_job.now self.now.view.now self.now.donors.now.by_plan }
-        requires at { IsInOrder (frames_of N.job) at }
-        requires made { AreReady N.job O.job N.files D.tells self.now.view.now (D.state old.old) made.old }
-        requires some { 0 < length made.old }
+        requires under_way { IsUnderWay N.job O.job D.tells self.now.view.now (view_of (D.state old.old).history)
+            reel.old.ledger.gates at made.old read.old }
+        requires made { (0 < length made.old) × AreReady N.job O.job N.files D.tells self.now.view.now (D.state old.old) made.old }
         requires read { AreReady N.job O.job N.files D.tells self.now.view.now (D.state old.old) read.old }
         requires is_open { reel.old.ledger.closed ≡ false }
         requires size { length reel.old.ledger.gates ≡ frames_of N.job }
 
-        ensures at { IfOk result (λ to. IsInOrder (frames_of N.job) to × (to.adopted ≡ at.made) × (to.made ≡ at.read)) }
+        ensures to { IfOk result (λ to. HasGoneOn (frames_of N.job) at to × IsUnderWay N.job O.job D.tells self.now.view.now
+            (view_of (D.state old.old).history) reel.new.ledger.gates to read.new made.new) }
         ensures made { OnOk result (All (HoldsDonor N.job O.job D.tells (D.state old.new) self.now.donors.now.by_plan)
             made.new) }
         ensures read { OnOk result (AreReady N.job O.job N.files D.tells self.now.view.now (D.state old.new) read.new) }
+        ensures asks { AsksFrom (λ to. to.read) N.job O.job self.now.view.now at.read result (D.state old.old).calls
+            (D.state old.new).calls }
         ensures done { HasServedTo N.job O.job N.files D.tells D.state E.tells E.state
             self.now.view.now at.adopted at.made result old.old old.new reel.old reel.new }
     {
@@ -143,13 +151,19 @@ impl Takeover<'_, '_, '_, '_> {
             requires { CanTake N.job O.job N.files D.tells (view_of (D.state old.now).history)
                 self.now.new_job.now self.now.old_job.now self.now.view.now self.now.donors.now.by_plan
                 × IsInOrder (frames_of N.job) at
-                × AreReady N.job O.job N.files D.tells self.now.view.now (D.state old.now) made.now
                 × (0 < length made.now)
+                × AreReady N.job O.job N.files D.tells self.now.view.now (D.state old.now) made.now
+                × (D.tells ≡ true → AreHeld N.job O.job self.now.view.now (view_of (D.state old.now).history)
+                at.adopted at.made reel.now.ledger.gates (λ i. HasRoom i made.now))
                 × (reel.now.ledger.closed ≡ false)
                 × (length reel.now.ledger.gates ≡ frames_of N.job) }
+            ensures next { IfOk result (IsFurther (frames_of N.job) at.read) }
             ensures rooms { OnOk result (All (HoldsDonor N.job O.job D.tells (D.state old.exit.now)
                 self.entry.now.donors.now.by_plan) made.exit.now) }
-            ensures next { IfOk result (λ next. (at.read ≤ next) × (next ≤ frames_of N.job)) }
+            ensures held { IfOk result (λ next. D.tells ≡ true → AreHeld N.job O.job self.entry.now.view.now
+                (view_of (D.state old.entry.now).history) at.read next reel.exit.now.ledger.gates (λ i. HasRoom i made.exit.now)) }
+            ensures asks { AsksFrom (λ next. next) N.job O.job self.entry.now.view.now at.read result (D.state old.entry.now).calls
+                (D.state old.exit.now).calls }
             ensures done { HasServedTo N.job O.job N.files D.tells D.state E.tells E.state
                 self.entry.now.view.now at.adopted at.made result old.entry.now old.exit.now reel.entry.now reel.exit.now }
         { self.adopt_and_read::<N, O, D, E>(old, reel, at, made) };
@@ -174,19 +188,25 @@ impl Takeover<'_, '_, '_, '_> {
     ) -> Result<u32, DiskFault>
         requires can { CanTake N.job O.job N.files D.tells (view_of (D.state old.old).history)
             self.now.new_job.now self.now.old_job.now self.now.view.now self.now.donors.now.by_plan }
-        requires at { IsInOrder (frames_of N.job) at }
-        requires rooms { AreReady N.job O.job N.files D.tells self.now.view.now (D.state old.old) rooms.old }
-        requires some { 0 < length rooms.old }
+        requires order { IsInOrder (frames_of N.job) at }
+        requires rooms { (0 < length rooms.old)
+            × AreReady N.job O.job N.files D.tells self.now.view.now (D.state old.old) rooms.old }
+        requires held { D.tells ≡ true → AreHeld N.job O.job self.now.view.now (view_of (D.state old.old).history)
+            at.adopted at.made reel.old.ledger.gates (λ i. HasRoom i rooms.old) }
         requires is_open { reel.old.ledger.closed ≡ false }
         requires size { length reel.old.ledger.gates ≡ frames_of N.job }
 
+        ensures next { IfOk result (IsFurther (frames_of N.job) at.read) }
         ensures rooms { OnOk result (All (HoldsDonor N.job O.job D.tells (D.state old.new) self.now.donors.now.by_plan)
             rooms.new) }
-        ensures next { IfOk result (λ next. (at.read ≤ next) × (next ≤ frames_of N.job)) }
+        ensures held { IfOk result (λ next. D.tells ≡ true → AreHeld N.job O.job self.now.view.now
+            (view_of (D.state old.old).history) at.read next reel.new.ledger.gates (λ i. HasRoom i rooms.new)) }
+        ensures asks { AsksFrom (λ next. next) N.job O.job self.now.view.now at.read result (D.state old.old).calls
+            (D.state old.new).calls }
         ensures done { HasServedTo N.job O.job N.files D.tells D.state E.tells E.state
             self.now.view.now at.adopted at.made result old.old old.new reel.old reel.new }
     {
-        match self.adopt_frames::<N, O, D, E>(old, reel, at.adopted, at.made, rooms) {
+        match self.adopt_frames::<N, O, D, E>(&*old, reel, at.adopted, at.made, rooms) {
             Ok(()) => self.read_ahead::<N, O, D, E>(old, reel, at.read, rooms),
             Err(DiskFault) => Err(DiskFault),
         }
@@ -206,21 +226,24 @@ impl Takeover<'_, '_, '_, '_> {
         requires can_hash { H.can_hash }
         requires can { CanTake N.job O.job N.files D.tells (view_of (D.state old.old).history)
             self.now.new_job.now self.now.old_job.now self.now.view.now self.now.donors.now.by_plan }
-        requires at { IsInOrder (frames_of N.job) at }
-        requires made { AreReady N.job O.job N.files D.tells self.now.view.now (D.state old.old) made.old }
-        requires some { 0 < length made.old }
+        requires under_way { IsUnderWay N.job O.job D.tells self.now.view.now (view_of (D.state old.old).history)
+            reel.old.ledger.gates at made.old read.old }
+        requires made { (0 < length made.old) × AreReady N.job O.job N.files D.tells self.now.view.now (D.state old.old) made.old }
         requires read { All (HoldsDonor N.job O.job D.tells (D.state old.old) self.now.donors.now.by_plan) read.old }
         requires is_open { reel.old.ledger.closed ≡ false }
         requires size { length reel.old.ledger.gates ≡ frames_of N.job }
 
-        ensures at { IfOk result (λ to. IsInOrder (frames_of N.job) to × (to.adopted ≡ at.made) × (to.made ≡ at.read)) }
+        ensures to { IfOk result (λ to. HasGoneOn (frames_of N.job) at to × IsUnderWay N.job O.job D.tells self.now.view.now
+            (view_of (D.state old.old).history) reel.new.ledger.gates to read.new made.new) }
         ensures read { OnOk result (All (HoldsDonor N.job O.job D.tells (D.state old.new) self.now.donors.now.by_plan)
             made.new) }
         ensures made { OnOk result (AreReady N.job O.job N.files D.tells self.now.view.now (D.state old.new) read.new) }
+        ensures asks { AsksFrom (λ to. to.read) N.job O.job self.now.view.now at.read result (D.state old.old).calls
+            (D.state old.new).calls }
         ensures done { HasServedTo N.job O.job N.files D.tells D.state E.tells E.state
             self.now.view.now at.adopted at.made result old.old old.new reel.old reel.new }
     {
-        match self.adopt_half::<N, O, D, E, H>(old, reel, hasher, at, made, read) {
+        match self.adopt_half::<N, O, D, E, H>(&*old, reel, hasher, at, made, read) {
             Ok(to) => self.adopt_rest::<N, O, D, E, H>(old, reel, hasher, to, made, read),
             Err(DiskFault) => Err(DiskFault),
         }
@@ -239,17 +262,22 @@ impl Takeover<'_, '_, '_, '_> {
         requires can_hash { H.can_hash }
         requires can { CanTake N.job O.job N.files D.tells (view_of (D.state old.old).history)
             self.now.new_job.now self.now.old_job.now self.now.view.now self.now.donors.now.by_plan }
-        requires at { IsInOrder (frames_of N.job) at }
-        requires made { AreReady N.job O.job N.files D.tells self.now.view.now (D.state old.old) made.old }
-        requires read { All (HoldsDonor N.job O.job D.tells (D.state old.old) self.now.donors.now.by_plan) read.old }
-        requires some { (0 < length made.old) × (0 < length read.old) }
+        requires under_way { IsUnderWay N.job O.job D.tells self.now.view.now (view_of (D.state old.old).history)
+            reel.old.ledger.gates at made.old read.old }
+        requires made { (0 < length made.old) × AreReady N.job O.job N.files D.tells self.now.view.now (D.state old.old) made.old }
+        requires read { (0 < length read.old)
+            × All (HoldsDonor N.job O.job D.tells (D.state old.old) self.now.donors.now.by_plan) read.old }
         requires is_open { reel.old.ledger.closed ≡ false }
         requires size { length reel.old.ledger.gates ≡ frames_of N.job }
 
-        ensures at { IfOk result (λ to. IsInOrder (frames_of N.job) to × (to.adopted ≡ at.read)) }
+        ensures to { IfOk result (λ to. (to.adopted ≡ at.read) × (at.read < frames_of N.job → at.read < to.read)
+            × IsUnderWay N.job O.job D.tells self.now.view.now (view_of (D.state old.old).history) reel.new.ledger.gates
+            to made.new read.new) }
         ensures made { OnOk result (AreReady N.job O.job N.files D.tells self.now.view.now (D.state old.new) made.new) }
         ensures read { OnOk result (All (HoldsDonor N.job O.job D.tells (D.state old.new) self.now.donors.now.by_plan)
             read.new) }
+        ensures asks { AsksFrom (λ to. to.read) N.job O.job self.now.view.now at.read result (D.state old.old).calls
+            (D.state old.new).calls }
         ensures done { HasServedTo N.job O.job N.files D.tells D.state E.tells E.state
             self.now.view.now at.adopted at.read result old.old old.new reel.old reel.new }
     {
@@ -307,6 +335,7 @@ impl Takeover<'_, '_, '_, '_> {
         requires is_open { reel.old.ledger.closed ≡ false }
         requires size { length reel.old.ledger.gates ≡ frames_of N.job }
 
+        ensures asks { AsksForDonors N.job O.job self.now.view.now 0 (frames_of N.job) (D.state old.old).calls (D.state old.new).calls }
         ensures done { HasServedTo N.job O.job N.files D.tells D.state E.tells E.state
             self.now.view.now 0 (frames_of N.job) result old.old old.new reel.old reel.new }
     {
@@ -316,17 +345,13 @@ impl Takeover<'_, '_, '_, '_> {
             made: 0,
             read: 0,
         };
-        // Each time but the first a frame is adopted, if one is left.
-        for _ in 0..end {
-            if at.adopted == end {
-                return Ok(());
-            }
+        while at.adopted < end {
             match self.go_on_twice::<N, O, D, E, H>(old, reel, hasher, at, some, others) {
                 Ok(to) => at = to,
                 Err(DiskFault) => return Err(DiskFault),
             }
         }
-        self.adopt_frames::<N, O, D, E>(old, reel, at.adopted, end, some)
+        Ok(())
     }
 }
 

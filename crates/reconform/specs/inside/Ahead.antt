@@ -4,14 +4,14 @@
 --     HoldsFrame     if it isn't free, the frame's own file lies there, made of an intact donor's
 --     CanFinish      the same, and its first bytes are hashed
 --     AreReady       all of some rooms can be finished
-use Rattle.std.specs.Prelude.{◌≡◌, ℕ, ◌<◌, Bool, true, List, length, All, Option, Some, IfSome}
+use Rattle.std.specs.Prelude.{◌≡◌, ◌⊎◌, ℕ, ◌<◌, ◌≤◌, Bool, true, false, List, length, slice_index_or, All, Option, Some, IfSome}
 use Rattle.std.specs.BTreeMap.{BTreeMap}
 use Rattle.frame_hash.specs.Rooms.{IsBegun}
 use Rattle.frame_hash.specs.declared.Room.{Room}
 use Rattle.scan_source.specs.World.{World}
 use Rattle.conform_job.specs.Job.{JobData, file_of}
 use Rattle.frame_render.specs.Frame.{IsFileOf, frame_size}
-use Rattle.reel_disk.specs.Disk.{view_of}
+use Rattle.reel_disk.specs.Disk.{Files, view_of}
 use Rattle.reel_disk.specs.State.{DiskState}
 use Rattle.resume_ledger.specs.Look.{ViewState, hash_at}
 use Rattle.reel_writer.specs.Reads.{WasReadWhole}
@@ -52,3 +52,11 @@ pub record CanFinish (new old : JobData) (told : Option World) (tells : Bool) (v
 
 abbrev pub AreReady : JobData → JobData → Option World → Bool → ViewState → DiskState → List Room → Type 0
 AreReady new old told tells view held rooms = All (CanFinish new old told tells view held) rooms
+
+abbrev pub HasRoom : ℕ → List Room → Type 0
+HasRoom i rooms = (n : ℕ) × (n < length rooms) × ((d : Room) → (slice_index_or rooms n d).frame ≡ Some i)
+
+-- Of the frames from one to another each that has an intact donor is acknowledged, or is held.
+abbrev pub AreHeld : JobData → JobData → ViewState → Files → (low high : ℕ) → (gates : List Bool) → (IsHeld : ℕ → Type 0) → Type 0
+AreHeld new old view files low high gates IsHeld = (i : ℕ) → low ≤ i → i < high → HasIntactDonor new old view files i
+    → (slice_index_or gates i false ≡ true) ⊎ IsHeld i

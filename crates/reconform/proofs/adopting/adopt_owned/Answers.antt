@@ -18,7 +18,7 @@ use Rattle.reconform.specs.Adopt.{AdoptionMayWrite, IsOfOld, IsWhyUnadopted}
 use Rattle.reconform.specs.inside.Adopt.{by_new}
 use Rattle.reconform.proofs.Answering.{err_is, may_adopt, may_refuse, never_old, never_opened, new_disk, new_refused, opened_answer}
 use Rattle.reconform.proofs.Going.{both_behind, new_asked}
-use Rattle.reconform.proofs.Taking.{taken_along, taken_opening}
+use Rattle.reconform.proofs.Taking.{taken_opened, taken_opening}
 use Rattle.reconform.proofs.adopting.adopt_owned.Goals as goal
 
 pub returns-in-Ok-clause-answer : goal.returns-in-Ok-clause-answer
@@ -87,7 +87,7 @@ returns-in-Err-clause-safe g c =
 
 -- the opening writes no file but the ledger's
 pub returns-in-Ok-clause-taken : goal.returns-in-Ok-clause-taken
-returns-in-Ok-clause-taken g c = taken_along (taken_opening (Ok c.in-Ok.reel.ledger) c.in-Ok.ensures.own) c.adopt_opened.ensures.taken
+returns-in-Ok-clause-taken g c = taken_opened (Ok c.in-Ok.reel.ledger) c.in-Ok.ensures.own c.adopt_opened.ensures.taken
 
 pub returns-in-Err-clause-taken : goal.returns-in-Err-clause-taken
 returns-in-Err-clause-taken g c = taken_opening (Err c.in-Err.fault) c.in-Err.ensures.own
