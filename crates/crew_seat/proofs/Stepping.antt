@@ -3,7 +3,8 @@ use Rattle.std.proofs.Common.{◌≡◌, inl, inr, ℕ, ◌+◌, ◌-◌, ◌<�
 use Rattle.std.specs.Prelude.{◌↔◌, Option, Result, Ok, Err, IfErr, OnErr, OnOk}
 use Rattle.std.proofs.lemmas.Bool.{true≢false, cases_lt}
 use Rattle.cf_base.specs.Count.{HasRisen}
-use Rattle.scan_source.specs.State.{ScanState}
+use Rattle.scan_source.specs.State.{HasFailedLast, ScanState}
+use Rattle.scan_source.proofs.Leaving.{failed_behind}
 use Rattle.scan_source.specs.World.{World}
 use Rattle.render_board.specs.declared.step.Why.{Why}
 use Rattle.render_board.specs.declared.step.Why.TheVariants.{Source, Disk, Memory, Changed}
@@ -20,12 +21,12 @@ use Rattle.station.specs.declared.leaving.Leave.{Leave}
 use Rattle.station.specs.declared.leaving.Leave.TheVariants as leaves
 use Rattle.station.specs.StationSteps.{why_by}
 use Rattle.conform_job.specs.Answers.{count_after}
-use Rattle.frame_fetch.specs.Scanned.{HasFetched, IsScanned}
+use Rattle.frame_fetch.specs.Scanned.{HasFetched, IsScanned, IsScannedAlone}
 use Rattle.crew_seat.specs.Stepped.{HasStepped, HasWorked}
 use Rattle.crew_seat.specs.Worked.{HasCauses}
 use Rattle.crew_seat.specs.inside.Worked.{HasMarked}
 use Rattle.crew_seat.specs.declared.seat.Seat.{Seat}
-use Rattle.frame_fetch.proofs.Scanning.{loads_along, scanned_as, scanned_itself}
+use Rattle.frame_fetch.proofs.Scanning.{alone_itself, loads_along, scanned_as}
 use Rattle.crew_seat.proofs.Working.{parts_along, causes_none}
 
 or_left : (a b : Bool) → a ≡ true → (a || b) ≡ true
@@ -45,7 +46,7 @@ or_none true = refl
 or_none false = refl
 
 -- a failure, where there was none before
-pub failed_alone : (had failed : Bool) → had ≡ false → failed ≡ (had || failed)
+failed_alone : (had failed : Bool) → had ≡ false → failed ≡ (had || failed)
 failed_alone true failed none = absurd (true≢false none)
 failed_alone false failed none = refl
 
@@ -64,6 +65,14 @@ module _ {S : Type 0} (told : Option World) (state : S → ScanState) where
       rose : (a b : Bool) → IsScanned n (a ≡ true) (state old) (state mid) → IsScanned m (b ≡ true) (state mid) (state new) → (a || b) ≡ true → HasRisen (state old).faults (state new).faults
       rose true b first second is = let up = first.failed refl in let on = second.later in omega (arith, up, on)
       rose false b first second is = let still = first.steady (λ e. true≢false (sym e)) in subst (λ (k : ℕ). HasRisen k (state new).faults) still (second.failed is)
+
+  -- behind a failed load nothing is asked
+  both_alone : (old mid new : S) (n m : ℕ) (a b : Bool) → (a ≡ true → new ≡ mid) → IsScannedAlone n (a ≡ true) (state old) (state mid) → IsScannedAlone m (b ≡ true) (state mid) (state new) → IsScannedAlone (n + m) ((a || b) ≡ true) (state old) (state new)
+  both_alone old mid new n m a b still first second = record { scanned = both_scanned old mid new n m a b first.scanned second.scanned; ends = last a b still first second }
+    where
+      last : (a b : Bool) → (a ≡ true → new ≡ mid) → IsScannedAlone n (a ≡ true) (state old) (state mid) → IsScannedAlone m (b ≡ true) (state mid) (state new) → (a || b) ≡ true → HasFailedLast (state old) (state new)
+      last true b still first second is = subst (λ (s : S). HasFailedLast (state old) (state s)) (sym (still refl)) (first.ends refl)
+      last false b still first second is = failed_behind (first.scanned.steady (λ e. true≢false (sym e))) (second.ends is)
 
   both_cause : (a b c : Tallies) (n m : ℕ) (f g : Bool) → HasCauses told n f a b → HasCauses told m g b c → HasCauses told (n + m) (f || g) a c
   both_cause a b c n m f g first second = record {
@@ -162,7 +171,8 @@ module _ {S N C A B D E F G : Type 0} (told : Option World) (state : S → ScanS
     counts = omega (arith, count);
     fails = has ∙ or_none old.has_failed;
     units = record { parts = ap (λ (u : Asked). u.parts) units; amount = let amount = ap (λ (u : Asked). u.amount) units in omega (arith, amount) };
-    scanned = subst (λ (s : S). IsScanned 0 (false ≡ true) (state old.loader.scan) (state s)) (sym scan) (scanned_itself (false ≡ true) (λ e. true≢false (sym e)) (state old.loader.scan));
+    scanned = subst (λ (s : S). IsScannedAlone 0 (false ≡ true) (state old.loader.scan) (state s)) (sym scan) (alone_itself (false ≡ true) (λ e. true≢false (sym e)) (state old.loader.scan));
+    still = λ had. scan;
     causes = causes;
     needed = omega (arith, claims);
   }
@@ -198,28 +208,34 @@ module _ {S N C A B D E F G : Type 0} (told : Option World) (state : S → ScanS
     counts = let p = first.counts in let q = second.counts in omega (arith, p, q);
     fails = second.fails ∙ ap (λ (o : Bool). o || second.failed) first.fails ∙ or_same old.has_failed first.failed second.failed;
     units = record { parts = second.units.parts ∙ first.units.parts; amount = let p = first.units.amount in let q = second.units.amount in omega (arith, p, q) };
-    scanned = both_scanned told state old.loader.scan mid.loader.scan new.loader.scan first.more second.more first.failed second.failed first.scanned second.scanned;
+    scanned = both_alone told state old.loader.scan mid.loader.scan new.loader.scan first.more second.more first.failed second.failed
+        (λ failed. second.still (first.fails ∙ or_right old.has_failed first.failed failed)) first.scanned second.scanned;
+    still = λ had. second.still (first.fails ∙ or_left old.has_failed first.failed had) ∙ first.still had;
     causes = both_cause told state old.marks mid.marks new.marks first.more second.more first.failed second.failed first.causes second.causes;
     needed = let one = first.needed in let other = second.needed in omega (arith, one, other, due);
   }
 
   pub stepped_within : (most more owed : ℕ) (old new : Seat S N C A B D E F G) → most ≤ more → Stepped most owed old new → Stepped more owed old new
-  stepped_within most more owed old new le step = record { more = step.more; failed = step.failed; few = let few = step.few in omega (arith, few, le); counts = step.counts; fails = step.fails; units = step.units; scanned = step.scanned; causes = step.causes; needed = step.needed }
+  stepped_within most more owed old new le step = record { more = step.more; failed = step.failed; few = let few = step.few in omega (arith, few, le); counts = step.counts; fails = step.fails; units = step.units; scanned = step.scanned; still = step.still; causes = step.causes; needed = step.needed }
 
-  -- a frame was made or could not be, and its stop was counted
-  pub stepped_made : {T : Type 0} (most owed : ℕ) (old new : Seat S N C A B D E F G) (made : Result T RunEnd) (fault : Bool) → (fault ≡ true) ↔ (made ≡ Err SourceFault) → new.has_failed ≡ (old.has_failed || fault)
+  -- a frame was made or could not be, while no load had failed, and its stop was counted
+  pub stepped_made : {T : Type 0} (most owed : ℕ) (old new : Seat S N C A B D E F G) (made : Result T RunEnd) (fault : Bool) → (fault ≡ true) ↔ (made ≡ Err SourceFault) → old.has_failed ≡ false → new.has_failed ≡ fault
       → HasFetched most made old.loader.loads new.loader.loads old.loader.units new.loader.units (state old.loader.scan) (state new.loader.scan) → HasMarked told made old.marks new.marks
       → new.loader.loads + old.marks.claims.amount ≤ old.loader.loads + new.marks.claims.amount + owed → Stepped most owed old new
-  stepped_made {T = T} most owed old new made fault is has fetched marked needed =
+  stepped_made {T = T} most owed old new made fault is none has fetched marked needed =
       let counted = fetched.loaded in
       record {
         more = new.loader.loads - old.loader.loads;
         failed = fault;
         few = omega (arith, counted.few, counted.later);
         counts = omega (arith, counted.later);
-        fails = has;
+        fails = has ∙ failed_alone old.has_failed fault none;
         units = record { parts = counted.parts; amount = omega (arith, counted.misses, counted.later) };
-        scanned = scanned_as (state old.loader.scan) (state new.loader.scan) _ _ _ (fault ≡ true) refl is.0 is.1 fetched.scan;
+        scanned = record {
+          scanned = scanned_as (state old.loader.scan) (state new.loader.scan) _ _ _ (fault ≡ true) refl is.0 is.1 fetched.scan;
+          ends = λ failed. fetched.ends (is.0 failed);
+        };
+        still = λ had. absurd (true≢false (sym had ∙ none));
         causes = marked (new.loader.loads - old.loader.loads) fault is.1 (loaded made fetched.changed);
         needed = omega (arith, needed, counted.later);
       }
@@ -236,7 +252,7 @@ module _ {S N C A B D E F G : Type 0} (told : Option World) (state : S → ScanS
       record {
         few = omega (arith, step.few, count, le);
         units = record { parts = step.units.parts; amount = omega (arith, step.units.amount, count) };
-        scanned = subst (λ (n : ℕ). IsScanned n (new.has_failed ≡ true) (state old.loader.scan) (state new.loader.scan)) (sym count) (subst (λ (b : Bool). IsScanned step.more (b ≡ true) (state old.loader.scan) (state new.loader.scan)) (sym has) step.scanned);
+        scanned = subst (λ (n : ℕ). IsScannedAlone n (new.has_failed ≡ true) (state old.loader.scan) (state new.loader.scan)) (sym count) (subst (λ (b : Bool). IsScannedAlone step.more (b ≡ true) (state old.loader.scan) (state new.loader.scan)) (sym has) step.scanned);
         causes = subst (λ (n : ℕ). HasCauses told n new.has_failed old.marks new.marks) (sym count) (subst (λ (b : Bool). HasCauses told step.more b old.marks new.marks) (sym has) step.causes);
         needed = let needed = step.needed in omega (arith, needed, count);
       }
@@ -247,9 +263,9 @@ module _ {S N C A B D E F G : Type 0} (told : Option World) (state : S → ScanS
       record {
         few = omega (arith, first.few, second.few, count, le);
         units = record { parts = second.units.parts ∙ first.units.parts; amount = let p = first.units.amount in let q = second.units.amount in omega (arith, p, q, count) };
-        scanned = subst (λ (n : ℕ). IsScanned n (new.has_failed ≡ true) (state old.loader.scan) (state new.loader.scan)) (sym count)
-            (subst (λ (b : Bool). IsScanned (mid.loader.loads + second.more) (b ≡ true) (state old.loader.scan) (state new.loader.scan)) (sym second.fails)
-            (both_scanned told state old.loader.scan mid.loader.scan new.loader.scan mid.loader.loads second.more mid.has_failed second.failed first.scanned second.scanned));
+        scanned = subst (λ (n : ℕ). IsScannedAlone n (new.has_failed ≡ true) (state old.loader.scan) (state new.loader.scan)) (sym count)
+            (subst (λ (b : Bool). IsScannedAlone (mid.loader.loads + second.more) (b ≡ true) (state old.loader.scan) (state new.loader.scan)) (sym second.fails)
+            (both_alone told state old.loader.scan mid.loader.scan new.loader.scan mid.loader.loads second.more mid.has_failed second.failed second.still first.scanned second.scanned));
         causes = subst (λ (n : ℕ). HasCauses told n new.has_failed old.marks new.marks) (sym count)
             (subst (λ (b : Bool). HasCauses told (mid.loader.loads + second.more) b old.marks new.marks) (sym second.fails)
             (both_cause told state old.marks mid.marks new.marks mid.loader.loads second.more mid.has_failed second.failed first.causes second.causes));
