@@ -3,7 +3,7 @@ use Rattle.std.proofs.lemmas.Result.{on_ok_weaker}
 use Rattle.frame_fetch.specs.Asks.{needs_of}
 use Rattle.station.specs.Marks.{Tallies, Tally}
 use Rattle.crew_seat.specs.inside.Worked.{HasMarked}
-use Rattle.crew_seat.proofs.Stepping.{failed_alone, marked_claimed, stepped_claimed, stepped_made}
+use Rattle.crew_seat.proofs.Stepping.{marked_claimed, stepped_claimed, stepped_made}
 use Rattle.crew_worker.proofs.Made.{claimed_since, claiming_on, left_since, none_failed, of_ok, still_since, unclaimed}
 use Rattle.crew_worker.proofs.rounds.Shared.round.Goals as goal
 
@@ -17,7 +17,7 @@ returns-in-Err-clause-left g c = still_since _ _ c.in-Err.ensures.uncounted
 -- its loads are no more than the frame needs that it took
 pub returns-clause-stepped : goal.returns-clause-stepped
 returns-clause-stepped g c =
-    stepped_made g.N.Work.files g.S.Scans.state 2 0 c.args.seat.now _ c.make_forked-made.result c.is_source_fault-seat.result c.is_source_fault-seat.ensures (failed_alone _ _ c.requires.unfailed)
+    stepped_made g.N.Work.files g.S.Scans.state 2 0 c.args.seat.now _ c.make_forked-made.result c.is_source_fault-seat.result c.is_source_fault-seat.ensures c.requires.unfailed refl
     c.make_forked-made.ensures.loaded
     (marked_claimed g.N.Work.files c.make_forked-made.result _ c.args.seat.now.marks _
     (subst (λ (t : Tallies). HasMarked g.N.Work.files c.make_forked-made.result t c.deliver.new.marks) c.in-Ok.ensures.counted c.deliver.ensures.marks))
