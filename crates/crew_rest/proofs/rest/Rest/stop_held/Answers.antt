@@ -1,4 +1,4 @@
-use Rattle.std.proofs.Common.{arith, sym}
+use Rattle.std.proofs.Common.{sym}
 use Rattle.render_board.proofs.Holding.{stopped_has_stop}
 use Rattle.crew_rest.proofs.rest.Rest.stop_held.Goals as goal
 
