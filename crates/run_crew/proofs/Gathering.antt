@@ -21,8 +21,8 @@ use Rattle.crew_seat.specs.inside.Stepped.{IsReady}
 use Rattle.crew_seat.specs.declared.seat.Seat.{Seat}
 use Rattle.frame_fetch.specs.Ends.{IsChange}
 use Rattle.station.specs.Marks.{Tallies}
-use Rattle.frame_fetch.specs.Scanned.{IsScanned}
-use Rattle.frame_fetch.proofs.Scanning.{scanned_itself}
+use Rattle.frame_fetch.specs.Scanned.{IsScannedAlone}
+use Rattle.frame_fetch.proofs.Scanning.{alone_itself}
 use Rattle.crew_seat.proofs.Stepping.{stepped_itself, worked_first, worked_on}
 
 module _ {X : Type 0} (f : X → ℕ) where
@@ -93,7 +93,7 @@ module _ {S N C A B D E F G : Type 0} (told : Option World) (state : S → ScanS
       omega (arith, loaded, item_within loads_of ys found.0 d found.1)
 
   abbrev IsScannedAt : ℕ → S → S → Type 0
-  IsScannedAt k a b = IsScanned (get_or (map loads_of ys) k 0) (get_or (map failed_of ys) k false ≡ true) (state a) (state b)
+  IsScannedAt k a b = IsScannedAlone (get_or (map loads_of ys) k 0) (get_or (map failed_of ys) k false ≡ true) (state a) (state b)
 
   pub gathered : (before after : List S) (all : ℕ) (Failed : Type 0) → map scan_of xs ≡ before → after ≡ map scan_of ys → all ≡ sum_by loads_of ys
       → ((k : ℕ) (d : Seat S N C A B D E F G) → threads ≤ k → get_or ys k d ≡ get_or xs k d)
@@ -118,8 +118,8 @@ module _ {S N C A B D E F G : Type 0} (told : Option World) (state : S → ScanS
     where
       at_seat : (k : ℕ) (d : Seat S N C A B D E F G) → k < length xs → IsScannedAt k ((get_or xs k d).loader.scan) ((get_or ys k d).loader.scan)
       at_seat k d within =
-          subst (λ (n : ℕ). IsScanned n (get_or (map failed_of ys) k false ≡ true) (state ((get_or xs k d).loader.scan)) (state ((get_or ys k d).loader.scan))) (sym (get_or-map loads_of ys k d 0 (omega (arith, within, size))))
-          (subst (λ (b : Bool). IsScanned ((get_or ys k d).loader.loads) (b ≡ true) (state ((get_or xs k d).loader.scan)) (state ((get_or ys k d).loader.scan))) (sym (get_or-map failed_of ys k d false (omega (arith, within, size))))
+          subst (λ (n : ℕ). IsScannedAlone n (get_or (map failed_of ys) k false ≡ true) (state ((get_or xs k d).loader.scan)) (state ((get_or ys k d).loader.scan))) (sym (get_or-map loads_of ys k d 0 (omega (arith, within, size))))
+          (subst (λ (b : Bool). IsScannedAlone ((get_or ys k d).loader.loads) (b ≡ true) (state ((get_or xs k d).loader.scan)) (state ((get_or ys k d).loader.scan))) (sym (get_or-map failed_of ys k d false (omega (arith, within, size))))
           (worked k d within).scanned)
 
       same_at : (k : ℕ) (s : S) → threads ≤ k → (k < length xs) ⊎ (length xs ≤ k) → get_or (map scan_of ys) k s ≡ get_or (map scan_of xs) k s
@@ -138,7 +138,7 @@ unworked state threads all Failed before after is none never =
       counts = [];
       flags = [];
       sum = sym none;
-      each = λ k s lt. scanned_itself (false ≡ true) (λ e. true≢false (sym e)) (state (get_or before k s));
+      each = λ k s lt. alone_itself (false ≡ true) (λ e. true≢false (sym e)) (state (get_or before k s));
       unused = λ k s late. refl;
       failed = λ is. absurd (never is);
     })

@@ -34,7 +34,7 @@ use Rattle.frame_fetch.specs.declared.run_end.RunEnd.{RunEnd}
 use Rattle.frame_fetch.specs.declared.run_end.RunEnd.TheVariants.{Done, Changed as IsNow, SourceFault, DiskFault, NoMemory}
 use Rattle.run_alone.specs.Ends.{IsEnd}
 use Rattle.run_alone.specs.Run.{WasUnopened, kept_in}
-use Rattle.frame_fetch.specs.Scanned.{IsScanned}
+use Rattle.frame_fetch.specs.Scanned.{IsScannedAlone}
 use Rattle.station.specs.Needed.{needed_by}
 use Rattle.station.specs.Station.{ShowsDone}
 use Rattle.run_crew.specs.declared.crew.Crew.{Crew}
@@ -121,7 +121,7 @@ abbrev pub HasDiskFailed : Option (List Step) → RunEnd → Type 0
 HasDiskFailed steps end = MatchOption steps (end ≡ DiskFault) (λ all. 1 ≤ stops_of is_disk all)
 
 -- Each scan is handed back in its place, with so many loads made of it, and all those past the workers unused. In some a load
--- failed: in one of them at least, where the run ended so.
+-- failed, which is the last of that scan: in one of them at least, where the run ended so.
 pub record AreWorked {S : Type 0} (state : S → ScanState)
     (workers all : ℕ) (Failed : Type 0) (old new : List S) : Type 0 where
   pub size : length new ≡ length old
@@ -129,7 +129,7 @@ pub record AreWorked {S : Type 0} (state : S → ScanState)
   pub counts : List ℕ
   pub flags : List Bool
   pub sum : sum_by (λ count. count) counts ≡ all
-  pub each : (k : ℕ) (scan : S) → k < length old → IsScanned (slice_index_or counts k 0)
+  pub each : (k : ℕ) (scan : S) → k < length old → IsScannedAlone (slice_index_or counts k 0)
       (slice_index_or flags k false ≡ true) (state (slice_index_or old k scan)) (state (slice_index_or new k scan))
   pub unused : (k : ℕ) (scan : S) → workers ≤ k → slice_index_or new k scan ≡ slice_index_or old k scan
   pub failed : Failed → (k : ℕ) × (k < length old) × (slice_index_or flags k false ≡ true)

@@ -12,7 +12,7 @@ pub finish_rest-requires-clause-files : goal.finish_rest-requires-clause-files
 finish_rest-requires-clause-files g c =
     let some = c.requires.some in
     let within = c.requires.within in
-    subst (Tells g.N.Work.files) (sym (c.work_on_first.ensures.has 0 c.index-seats-0.result c.requires.some).scanned.told) (c.requires.ready 0 c.index-seats-0.result (omega (arith, some, within))).tells
+    subst (Tells g.N.Work.files) (sym (c.work_on_first.ensures.has 0 c.index-seats-0.result c.requires.some).scanned.scanned.told) (c.requires.ready 0 c.index-seats-0.result (omega (arith, some, within))).tells
 
 pub finish_rest-requires-clause-few : goal.finish_rest-requires-clause-few
 finish_rest-requires-clause-few g c = (c.work_on_first.ensures.has 0 c.index-seats-0.result c.requires.some).few
