@@ -53,6 +53,7 @@ module _ {S : Type 0} (state : S → ScanState) (path : List ℕ) (extent : Exte
     texts = uncrewed.texts;
     refused = λ scan refusal same. absurd (cc);
     refused_heads = λ scan refusal same. absurd (cc);
+    last = λ same. absurd (cc);
     steady = λ other. uncrewed.steady (λ is. subst IsMade is made);
     later = uncrewed.later;
     told = uncrewed.told;

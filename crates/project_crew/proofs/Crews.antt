@@ -1,7 +1,7 @@
 -- From a crew to the reply of its command.
 use Rattle.std.proofs.Common.{◌≡◌, ℕ, zero, suc, ◌+◌, ◌<◌, ◌≤◌, min, List, [], ◌∷◌, All, AllPairs, ◌≢◌, set, length, get_or, Option, IfSome, Result, Ok, Err, MatchOption, refl, sym, ◌∙◌, ap, subst, arith, inl, inr}
 use Rattle.cf_base.specs.Count.{HasRisen}
-use Rattle.scan_source.specs.State.{ScanState}
+use Rattle.scan_source.specs.State.{HasFailedLast, ScanState}
 use Rattle.scan_source.specs.World.{World, file_at}
 use Rattle.conform_job.specs.Answers.{count_after}
 use Rattle.conform_job.specs.Job.{JobData}
@@ -37,7 +37,7 @@ module _ {S : Type 0} (state : S → ScanState) where
   pub has_failed : (workers all : ℕ) (Failed : Type 0) (old new : List S) → AreWorked state workers all Failed old new → Failed → HasFailed state old new
   has_failed workers all Failed old new worked is =
       let at = worked.failed is in
-      (at.0, at.1, λ scan. (worked.each at.0 scan at.1).failed at.2)
+      (at.0, at.1, λ scan. (worked.each at.0 scan at.1).scanned.failed at.2)
 
   pub crew_job_run : (log : List ShareStep) (job : JobData) (extent : Extent) (range : FrameRange) (told : Option World) (workers share given count : ℕ) (old new : List S) (disk disk_after : FolderState) (how : RunEnd) (report : Report) (steps : Option (List Step)) → count ≡ length old → given ≡ share
       → IsReported job how report
@@ -107,11 +107,11 @@ module _ {S : Type 0} (state : S → ScanState) where
 
     pub uncrewed : {extent : Extent} (path : List ℕ) (workers share : ℕ) (scans : List S) (first : S) (disk : FolderState) (reached : Outcome) (output : List ℕ) → 0 < length scans → get_or scans 0 first ≡ first
         → IfSome (state first).world (λ files. HasPlanned (file_at files) path (Err reached)) → ByFiles (state first).world (λ files. IsByTexts files path (Err reached)) → IsOfJob reached → AreLoaded 1 3 (state first).loads (state used).loads
-        → HasLoadedFor (state first).world path (state first).loads (state used).loads reached → HasInspectedFor (state first).world path (state first).heads (state used).heads reached → (reached ≢ outcomes.SourceFault → (state used).faults ≡ (state first).faults)
+        → HasLoadedFor (state first).world path (state first).loads (state used).loads reached → HasInspectedFor (state first).world path (state first).heads (state used).heads reached → (reached ≡ outcomes.SourceFault → HasFailedLast (state first) (state used)) → (reached ≢ outcomes.SourceFault → (state used).faults ≡ (state first).faults)
         → (state first).faults ≤ (state used).faults → (state used).world ≡ (state first).world → (state used).loans ≡ (state first).loans
         → IsCrewReply state path extent workers share scans (set scans 0 used) disk disk reached output
-    uncrewed path workers share [] first disk reached output some is why read kind texts refused asked steady later told lent = absurd (omega (arith, some))
-    uncrewed path workers share (scan ∷ scans) first disk reached output some is why read kind texts refused asked steady later told lent = inr (record {
+    uncrewed path workers share [] first disk reached output some is why read kind texts refused asked last steady later told lent = absurd (omega (arith, some))
+    uncrewed path workers share (scan ∷ scans) first disk reached output some is why read kind texts refused asked last steady later told lent = inr (record {
       why = subst (λ s. HasComeTo (state s).world path (Err reached)) (sym is) (record { told = why; read = read });
       kind = kind;
       untouched = refl;
@@ -119,6 +119,7 @@ module _ {S : Type 0} (state : S → ScanState) where
       texts = λ d. subst (λ s. AreLoaded 1 3 (state s).loads (state used).loads) (sym is) texts;
       refused = λ d. subst (λ s. HasLoadedFor (state s).world path (state s).loads (state used).loads reached) (sym is) refused;
       refused_heads = λ d. subst (λ s. HasInspectedFor (state s).world path (state s).heads (state used).heads reached) (sym is) asked;
+      last = λ failed d. subst (λ s. HasFailedLast (state s) (state used)) (sym is) (last failed);
       steady = λ other d. steady other ∙ ap (λ s. (state s).faults) (sym is);
       later = λ d. subst (λ s. (state s).faults ≤ (state used).faults) (sym is) later;
       told = λ d. told ∙ ap (λ s. (state s).world) (sym is);

@@ -7,7 +7,7 @@
 --     IsUnplannedByCrew      it came to none, and the folder is as it was
 use Rattle.std.specs.Prelude.{◌≡◌, ◌≢◌, ◌⊎◌, ℕ, ◌+◌, ◌<◌, ◌≤◌, min, List, [], ◌∷◌, drop, length, slice_index_or, Option, None, MatchOption, Ok, Err}
 use Rattle.cf_base.specs.Count.{HasRisen}
-use Rattle.scan_source.specs.State.{ScanState}
+use Rattle.scan_source.specs.State.{HasFailedLast, ScanState}
 use Rattle.scan_source.specs.World.{World}
 use Rattle.frame_share.specs.declared.step.ShareStep.{ShareStep}
 use Rattle.reel_writer.specs.Reel.{frames_of}
@@ -97,6 +97,9 @@ module _ {S : Type 0} (state : S → ScanState) where
     -- and no head, but those of a job's frames up to the refused one
     pub refused_heads : (scan : S) → HasInspectedFor (told_by state old) path (state (slice_index_or old 0 scan)).heads
         (state (slice_index_or new 0 scan)).heads reached
+    -- a call of it that failed is the last that was made
+    pub last : reached ≡ outcome.SourceFault
+        → (scan : S) → HasFailedLast (state (slice_index_or old 0 scan)) (state (slice_index_or new 0 scan))
     pub steady : reached ≢ outcome.SourceFault
         → (scan : S) → (state (slice_index_or new 0 scan)).faults ≡ (state (slice_index_or old 0 scan)).faults
     pub later : (scan : S) → (state (slice_index_or old 0 scan)).faults ≤ (state (slice_index_or new 0 scan)).faults

@@ -1,5 +1,5 @@
 -- The project comes to its job, which a crew runs in the folder.
-use Rattle.std.proofs.Common.{◌≡◌, ◌∙◌, ap, ◌<◌, ℕ, get_or, length, rules, set, subst}
+use Rattle.std.proofs.Common.{◌≡◌, ◌∙◌, Err, ap, ◌<◌, ℕ, get_or, length, rules, set, subst}
 use Rattle.project_crew.proofs.Crews.{all_tell, crewed, error_as, failed_before, failed_first, first_loaded, still_tell, uncrewed}
 use Rattle.frame_range.specs.Parts.{range_of}
 use Rattle.reel_disk.specs.State.{OnDisk}
@@ -16,7 +16,7 @@ returns-in-Err-clause-reply g c =
     let first : get_or c.args.scans.items 0 c.index_mut.result.now ≡ c.index_mut.result.now = search rules in
     let job = c.in-Err.ensures in
     uncrewed g.S.Scans.state c.planned.new.scan c.args.path.now c.args.size.workers c.args.size.share c.args.scans.items c.index_mut.result.now _ _ _ some first
-    job.told job.read job.kind job.loads job.refused job.refused_heads (λ other. job.scan.counts.steady (λ is. other cc)) job.scan.counts.cause.later job.scan.told job.scan.lent
+    job.told job.read job.kind job.loads job.refused job.refused_heads (λ is. job.scan.ends (ap Err is)) (λ other. job.scan.counts.steady (λ is. other cc)) job.scan.counts.cause.later job.scan.told job.scan.lent
 
 pub returns-in-Err-clause-failed : goal.returns-in-Err-clause-failed
 returns-in-Err-clause-failed g c is =
