@@ -1,6 +1,6 @@
 -- What a worker does to its marks and its scan. All of it is this project's own rule.
--- * worker [Stepped]: what it does to its seat: how many loads it made, each a miss of its units; whether one of them failed; a
---   stop for a source file has its cause in its own loads; what a seat has before, and what it hands in
+-- * worker [Stepped]: what it does to its seat: how many loads it made, each a miss of its units; whether one of them failed, which
+--   ends them; a stop for a source file has its cause in its own loads; what a seat has before, and what it hands in
 use Rattle.std.specs.Prelude.{◌≡◌, ℕ, ◌+◌, ◌*◌, ◌<◌, ◌≤◌, Bool, true, Option, None}
 use Rattle.cf_base.specs.declared.limits.TheConstants.{FRAMES}
 use Rattle.scan_source.specs.World.{World}
