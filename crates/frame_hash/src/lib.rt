@@ -129,7 +129,8 @@ pub fn hash_behind<F: FnMut() -> A, A>(rooms: &mut [Room], size: usize, work: &m
     done
 }
 
-/// Hashes so many bytes more of each file, side by side, on a thread for each processor, and does the work on this one.
+/// Hashes so many bytes more of each file, side by side, on a thread for each processor, and does the work on this one. It begins up
+/// to four threads by itself, since one that a new thread begins runs beside that, on the same processor, for some milliseconds.
 pub fn hash_forked<R: Threads + Sync, F: FnMut() -> A, A>(
     rt: &R,
     rooms: &mut [Room],
@@ -140,6 +141,49 @@ pub fn hash_forked<R: Threads + Sync, F: FnMut() -> A, A>(
     ensures hashed { AreHashedOn size rooms.old rooms.new }
     ensures worked { F.step work.old result work.new }
 {
+    let (some, others) = rooms.split_at_mut(rooms.len() / 2);
+    let mut rest = || -> A
+        requires { F.pre work.now × IsSync R.row }
+        ensures hashed { AreHashedOn size others.entry.now others.exit.now }
+        ensures worked { F.step work.entry.now result work.exit.now }
+    { hash_halves(rt, others, size, work) };
+    hash_halves(rt, some, size, &mut rest)
+}
+
+/// The same, where this thread begins up to two.
+fn hash_halves<R: Threads + Sync, F: FnMut() -> A, A>(
+    rt: &R,
+    rooms: &mut [Room],
+    size: usize,
+    work: &mut F,
+) -> A
+    requires work { F.pre work.old }
+    ensures hashed { AreHashedOn size rooms.old rooms.new }
+    ensures worked { F.step work.old result work.new }
+{
+    let (some, others) = rooms.split_at_mut(rooms.len() / 2);
+    let mut rest = || -> A
+        requires { F.pre work.now × IsSync R.row }
+        ensures hashed { AreHashedOn size others.entry.now others.exit.now }
+        ensures worked { F.step work.entry.now result work.exit.now }
+    { hash_apart(rt, others, size, work) };
+    hash_apart(rt, some, size, &mut rest)
+}
+
+/// The same, where this thread begins one if there is a file, and that one begins others if there are several.
+fn hash_apart<R: Threads + Sync, F: FnMut() -> A, A>(
+    rt: &R,
+    rooms: &mut [Room],
+    size: usize,
+    work: &mut F,
+) -> A
+    requires work { F.pre work.old }
+    ensures hashed { AreHashedOn size rooms.old rooms.new }
+    ensures worked { F.step work.old result work.new }
+{
+    if rooms.is_empty() {
+        return work();
+    }
     let mut hash = ||
         requires { IsSync R.row }
         ensures { AreHashedOn size rooms.entry.now rooms.exit.now }
